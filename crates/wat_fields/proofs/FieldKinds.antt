@@ -7,7 +7,7 @@ use Rattle.wat_instructions.specs.declared.pieces.Instruction.{Instruction}
 use Rattle.wat_instructions.specs.Grammar.{Context, Body, index, label_of}
 use Rattle.wat_instructions.specs.Law.{InstructionsAreBalanced, InstructionsTakeTokens, MachineIsGrammar, past}
 use Rattle.wat_instructions.specs.Machine as machine
-use Rattle.wat_instructions.specs.Terminals.{Terminal, Open, Close, Word, Id, Integer, Text, Other, Label}
+use Rattle.wat_instructions.specs.Terminals.{Terminal, Open, Close, Word, Id, Integer, Text, Float, Other, Label}
 use Rattle.wat_fields.specs.declared.fields.IndexSpace.{IndexSpace}
 use Rattle.wat_fields.specs.declared.fields.IndexSpace.TheVariants as space
 use Rattle.wat_fields.specs.Fields.{Many, Group, InlineExport, IndexIs, by_number, by_identifier, LimitsAre, Variable, Field, Func, Memory, Global, Export, Start, FieldIs, by_func, by_table, by_memory, by_global, by_export, by_start, are_distinct, name_of, names_of, with_locals, space_of}
@@ -101,6 +101,7 @@ external_word_sound context w n (Close ∷ ts) fs r e u g = absurd g
 external_word_sound context w n (Id x ∷ ts) fs r e u g = absurd g
 external_word_sound context w n (Integer s m ∷ ts) fs r e u g = absurd g
 external_word_sound context w n (Text v ∷ ts) fs r e u g = absurd g
+external_word_sound context w n (Float narrow wide ∷ ts) fs r e u g = absurd g
 external_word_sound context w n (Other ∷ ts) fs r e u g = absurd g
 
 external_sound : (context : Context) (w n : List ℕ) (ts : List Terminal) (fs : List Field) (r : List Terminal) → w ≡ codes "export" → is_utf8 n ≡ true → Gives (external_at context n ts) fs r → FieldIs context (Open ∷ Word w ∷ Text n ∷ ts) fs r
@@ -112,6 +113,7 @@ external_sound context w n (Word v ∷ ts) fs r e u g = absurd g
 external_sound context w n (Id x ∷ ts) fs r e u g = absurd g
 external_sound context w n (Integer s m ∷ ts) fs r e u g = absurd g
 external_sound context w n (Text v ∷ ts) fs r e u g = absurd g
+external_sound context w n (Float narrow wide ∷ ts) fs r e u g = absurd g
 external_sound context w n (Other ∷ ts) fs r e u g = absurd g
 
 export_sound : (context : Context) (w : List ℕ) (ts : List Terminal) (fs : List Field) (r : List Terminal) → w ≡ codes "export" → Gives (export_at context ts) fs r → FieldIs context (Open ∷ Word w ∷ ts) fs r
@@ -164,6 +166,7 @@ open_sound laws context (Close ∷ ts) fs r h = absurd h
 open_sound laws context (Id x ∷ ts) fs r h = absurd h
 open_sound laws context (Integer s n ∷ ts) fs r h = absurd h
 open_sound laws context (Text v ∷ ts) fs r h = absurd h
+open_sound laws context (Float narrow wide ∷ ts) fs r h = absurd h
 open_sound laws context (Other ∷ ts) fs r h = absurd h
 
 field_sound : Laws → (context : Context) (ts : List Terminal) (fs : List Field) (r : List Terminal) → Brings (field_item context ts) fs r → FieldIs context ts fs r
@@ -175,6 +178,7 @@ field_sound laws context (Word w ∷ ts) fs r h = absurd h
 field_sound laws context (Id x ∷ ts) fs r h = absurd h
 field_sound laws context (Integer s n ∷ ts) fs r h = absurd h
 field_sound laws context (Text v ∷ ts) fs r h = absurd h
+field_sound laws context (Float narrow wide ∷ ts) fs r h = absurd h
 field_sound laws context (Other ∷ ts) fs r h = absurd h
 
 -- What is spelled is read.
@@ -239,6 +243,7 @@ label_short (Close ∷ ts) = omega arith
 label_short (Word w ∷ ts) = omega arith
 label_short (Integer s n ∷ ts) = omega arith
 label_short (Text v ∷ ts) = omega arith
+label_short (Float narrow wide ∷ ts) = omega arith
 label_short (Other ∷ ts) = omega arith
 
 -- these tokens are the rest of a field, and then come those

@@ -6,7 +6,7 @@ use Rattle.std.proofs.lemmas.Grind.{flat_map-append}
 use Rattle.wat_instructions.specs.declared.pieces.FaultKind.TheVariants.{UnknownWord, Duplicate, SecondStart}
 use Rattle.wat_instructions.specs.Grammar.{Context, Fault, label_of}
 use Rattle.wat_instructions.specs.Law.{past}
-use Rattle.wat_instructions.specs.Terminals.{Terminal, Open, Close, Word, Id, Integer, Text, Other}
+use Rattle.wat_instructions.specs.Terminals.{Terminal, Open, Close, Word, Id, Integer, Text, Float, Other}
 use Rattle.wat_fields.specs.declared.fields.IndexSpace.{IndexSpace}
 use Rattle.wat_fields.specs.declared.fields.IndexSpace.TheVariants as space
 use Rattle.wat_fields.specs.Fields.{Many, by_none, by_more, Field, FieldIs, by_func, by_table, by_memory, by_global, by_export, by_start, Binding, Module, by_module, all_distinct, context_of, binding_of, bindings_of, space_of, starts_of}
@@ -32,7 +32,9 @@ inside_past zero hs (Integer s n ∷ ts) = inside_past zero hs ts
 inside_past (suc d) hs (Integer s n ∷ ts) = inside_past (suc d) hs ts
 inside_past zero hs (Text v ∷ ts) = inside_past zero hs ts
 inside_past (suc d) hs (Text v ∷ ts) = inside_past (suc d) hs ts
+inside_past zero hs (Float narrow wide ∷ ts) = inside_past zero hs ts
 inside_past zero hs (Other ∷ ts) = inside_past zero hs ts
+inside_past (suc d) hs (Float narrow wide ∷ ts) = inside_past (suc d) hs ts
 inside_past (suc d) hs (Other ∷ ts) = inside_past (suc d) hs ts
 
 headed_inside : (s : Option IndexSpace) (hs : List Binding) (ts : List Terminal) → 0 < length (label_of ts).1 → bindings (Headed s) hs ts ≡ bindings (Inside 0) (hs ++ binding_by s (label_of ts).0) (label_of ts).1
@@ -44,6 +46,7 @@ headed_inside s hs (Close ∷ ts) h = refl
 headed_inside s hs (Word w ∷ ts) h = refl
 headed_inside s hs (Integer n m ∷ ts) h = refl
 headed_inside s hs (Text v ∷ ts) h = refl
+headed_inside s hs (Float narrow wide ∷ ts) h = refl
 headed_inside s hs (Other ∷ ts) h = refl
 
 after_word : (s : Option IndexSpace) (hs : List Binding) (w : List ℕ) (ts r : List Terminal) → space_of w ≡ s → Closes (label_of ts).1 r → bindings Before hs (Open ∷ Word w ∷ ts) ≡ bindings Before (hs ++ binding_by s (label_of ts).0) r
@@ -90,6 +93,7 @@ ended_sound (Ok (gs, Word w ∷ ts)) fs e = cc
 ended_sound (Ok (gs, Id x ∷ ts)) fs e = cc
 ended_sound (Ok (gs, Integer s n ∷ ts)) fs e = cc
 ended_sound (Ok (gs, Text v ∷ ts)) fs e = cc
+ended_sound (Ok (gs, Float narrow wide ∷ ts)) fs e = cc
 ended_sound (Ok (gs, Other ∷ ts)) fs e = cc
 ended_sound (Err f) fs e = cc
 
@@ -124,6 +128,7 @@ open_module laws (Close ∷ ts) fs h = cc
 open_module laws (Id x ∷ ts) fs h = cc
 open_module laws (Integer s n ∷ ts) fs h = cc
 open_module laws (Text v ∷ ts) fs h = cc
+open_module laws (Float narrow wide ∷ ts) fs h = cc
 open_module laws (Other ∷ ts) fs h = cc
 
 module_sound : Laws → (ts : List Terminal) (fs : List Field) → whole ts ≡ Ok fs → Module ts fs
@@ -135,6 +140,7 @@ module_sound laws (Word w ∷ ts) fs h = cc
 module_sound laws (Id x ∷ ts) fs h = cc
 module_sound laws (Integer s n ∷ ts) fs h = cc
 module_sound laws (Text v ∷ ts) fs h = cc
+module_sound laws (Float narrow wide ∷ ts) fs h = cc
 module_sound laws (Other ∷ ts) fs h = cc
 
 no_field : (context : Context) → field_item context (Close ∷ []) ≡ None

@@ -116,6 +116,7 @@ fn after<'p, 'a>(word: &str, pieces: &'p [Piece<'a>]) -> Option<&'p [Piece<'a>]>
             | Piece::Id(_)
             | Piece::Integer(_, _)
             | Piece::Text(_)
+            | Piece::Float(_, _)
             | Piece::Other,
             ..
         ] => None,
@@ -135,6 +136,7 @@ fn after_word<'p, 'a>(word: &str, pieces: &'p [Piece<'a>]) -> Option<&'p [Piece<
             | Piece::Id(_)
             | Piece::Integer(_, _)
             | Piece::Text(_)
+            | Piece::Float(_, _)
             | Piece::Other,
             ..
         ] => None,
@@ -156,6 +158,7 @@ pub(crate) fn closed<'p, 'a>(pieces: &'p [Piece<'a>]) -> Result<&'p [Piece<'a>],
             | Piece::Id(_)
             | Piece::Integer(_, _)
             | Piece::Text(_)
+            | Piece::Float(_, _)
             | Piece::Other,
             ..
         ] => Err(Fault {
@@ -204,6 +207,7 @@ pub(crate) fn utf8_text<'p, 'a>(
             | Piece::Word(_)
             | Piece::Id(_)
             | Piece::Integer(_, _)
+            | Piece::Float(_, _)
             | Piece::Other,
             ..
         ] => Err(Fault {
@@ -307,6 +311,7 @@ fn next_value<'p, 'a>(
             | Piece::Id(_)
             | Piece::Integer(_, _)
             | Piece::Text(_)
+            | Piece::Float(_, _)
             | Piece::Other,
             ..
         ] => Ok(None),
@@ -342,6 +347,7 @@ fn group<'p, 'a>(
             | Piece::Word(_)
             | Piece::Integer(_, _)
             | Piece::Text(_)
+            | Piece::Float(_, _)
             | Piece::Other,
             ..
         ] => listed(alloc, pieces),
@@ -373,6 +379,7 @@ fn named_one<'p, 'a>(
             | Piece::Id(_)
             | Piece::Integer(_, _)
             | Piece::Text(_)
+            | Piece::Float(_, _)
             | Piece::Other,
             ..
         ] => Err(Refusal::Text(Fault {

@@ -112,6 +112,7 @@ fn bindings<'p>(alloc: Global, pieces: &'p [Piece<'_>]) -> Result<Vec<Binding<'p
                 | Piece::Id(_)
                 | Piece::Integer(_, _)
                 | Piece::Text(_)
+                | Piece::Float(_, _)
                 | Piece::Other => return Ok(bindings),
             },
             Depth::Opened => match *piece {
@@ -121,6 +122,7 @@ fn bindings<'p>(alloc: Global, pieces: &'p [Piece<'_>]) -> Result<Vec<Binding<'p
                 | Piece::Id(_)
                 | Piece::Integer(_, _)
                 | Piece::Text(_)
+                | Piece::Float(_, _)
                 | Piece::Other => return Ok(bindings),
             },
             Depth::Headed(space) => {
@@ -134,6 +136,7 @@ fn bindings<'p>(alloc: Global, pieces: &'p [Piece<'_>]) -> Result<Vec<Binding<'p
                 | Piece::Id(_)
                 | Piece::Integer(_, _)
                 | Piece::Text(_)
+                | Piece::Float(_, _)
                 | Piece::Other => {}
             },
         }
@@ -169,6 +172,7 @@ fn name_of<'p>(piece: Piece<'p>) -> Name<'p>
         | Piece::Word(_)
         | Piece::Integer(_, _)
         | Piece::Text(_)
+        | Piece::Float(_, _)
         | Piece::Other => Name::Absent,
     }
 }
@@ -180,8 +184,12 @@ fn after_head(piece: Piece<'_>) -> Depth
     match piece {
         Piece::Open => Depth::Inside(1),
         Piece::Close => Depth::Before,
-        Piece::Word(_) | Piece::Id(_) | Piece::Integer(_, _) | Piece::Text(_) | Piece::Other =>
-            Depth::Inside(0),
+        Piece::Word(_)
+        | Piece::Id(_)
+        | Piece::Integer(_, _)
+        | Piece::Text(_)
+        | Piece::Float(_, _)
+        | Piece::Other => Depth::Inside(0),
     }
 }
 

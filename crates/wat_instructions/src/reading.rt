@@ -5,9 +5,9 @@ ghost use Rattle.wat_instructions.specs.Machine.{bound, labels_in};
 ghost use Rattle.wat_instructions.specs.Parts.{fault_of, part, scope_of, stack};
 ghost use Rattle.wat_instructions.specs.Terminals.{Open, Word, label, terminal};
 
-use crate::memory;
 use crate::pieces::{Argument, Fault, FaultKind, Frame, Instruction, Name, Piece, Sign, ValueType};
 use crate::table::{self, Immediate};
+use crate::{floats, memory};
 
 /// The names of the items of five index spaces, each in the order of their indices.
 #[derive(Clone, Copy)]
@@ -93,7 +93,12 @@ pub fn index<'p, 'a>(
             }),
         },
         [
-            Piece::Open | Piece::Close | Piece::Word(_) | Piece::Text(_) | Piece::Other,
+            Piece::Open
+            | Piece::Close
+            | Piece::Word(_)
+            | Piece::Text(_)
+            | Piece::Float(_, _)
+            | Piece::Other,
             ..
         ] => Err(Fault {
             kind: FaultKind::Unexpected,
@@ -138,7 +143,12 @@ fn label_number<'p, 'a>(
             }),
         },
         [
-            Piece::Open | Piece::Close | Piece::Word(_) | Piece::Text(_) | Piece::Other,
+            Piece::Open
+            | Piece::Close
+            | Piece::Word(_)
+            | Piece::Text(_)
+            | Piece::Float(_, _)
+            | Piece::Other,
             ..
         ] => Err(Fault {
             kind: FaultKind::Unexpected,
@@ -228,6 +238,7 @@ fn number_32<'p, 'a>(pieces: &'p [Piece<'a>]) -> Result<(Argument, &'p [Piece<'a
             | Piece::Word(_)
             | Piece::Id(_)
             | Piece::Text(_)
+            | Piece::Float(_, _)
             | Piece::Other,
             ..
         ] => Err(Fault {
@@ -290,6 +301,7 @@ fn number_64<'p, 'a>(pieces: &'p [Piece<'a>]) -> Result<(Argument, &'p [Piece<'a
             | Piece::Word(_)
             | Piece::Id(_)
             | Piece::Text(_)
+            | Piece::Float(_, _)
             | Piece::Other,
             ..
         ] => Err(Fault {
@@ -322,6 +334,8 @@ fn immediate<'p, 'a>(
         Immediate::Global => name_argument(scope.globals, pieces),
         Immediate::I32 => number_32(pieces),
         Immediate::I64 => number_64(pieces),
+        Immediate::F32 => floats::float_32(pieces),
+        Immediate::F64 => floats::float_64(pieces),
         Immediate::Memory(natural) => Ok(memory::argument(natural, pieces)),
         Immediate::Zero => Ok((Argument::Zero, pieces)),
     }
@@ -356,6 +370,7 @@ pub fn plain<'p, 'a>(
             | Piece::Id(_)
             | Piece::Integer(_, _)
             | Piece::Text(_)
+            | Piece::Float(_, _)
             | Piece::Other,
             ..
         ] => Err(Fault {
@@ -382,6 +397,7 @@ pub fn label<'p, 'a>(pieces: &'p [Piece<'a>]) -> (Name<'p>, &'p [Piece<'a>])
             | Piece::Word(_)
             | Piece::Integer(_, _)
             | Piece::Text(_)
+            | Piece::Float(_, _)
             | Piece::Other,
             ..
         ] => (Name::Absent, pieces),
@@ -415,6 +431,7 @@ pub fn end_label<'p, 'a>(
             | Piece::Word(_)
             | Piece::Integer(_, _)
             | Piece::Text(_)
+            | Piece::Float(_, _)
             | Piece::Other,
             ..
         ] => Ok(pieces),
@@ -526,6 +543,7 @@ fn empty_group<'p, 'a>(word: &str, pieces: &'p [Piece<'a>]) -> Option<&'p [Piece
             | Piece::Id(_)
             | Piece::Integer(_, _)
             | Piece::Text(_)
+            | Piece::Float(_, _)
             | Piece::Other,
             ..
         ] => None,
@@ -549,6 +567,7 @@ fn empty_word<'p, 'a>(word: &str, pieces: &'p [Piece<'a>]) -> Option<&'p [Piece<
             | Piece::Id(_)
             | Piece::Integer(_, _)
             | Piece::Text(_)
+            | Piece::Float(_, _)
             | Piece::Other,
             ..
         ] => None,
@@ -583,6 +602,7 @@ fn after_close<'p, 'a>(pieces: &'p [Piece<'a>]) -> Option<&'p [Piece<'a>]>
             | Piece::Id(_)
             | Piece::Integer(_, _)
             | Piece::Text(_)
+            | Piece::Float(_, _)
             | Piece::Other,
             ..
         ] => None,
@@ -618,6 +638,7 @@ fn result_type<'p, 'a>(
             | Piece::Id(_)
             | Piece::Integer(_, _)
             | Piece::Text(_)
+            | Piece::Float(_, _)
             | Piece::Other,
             ..
         ] => Ok((Argument::Block(None), pieces)),
@@ -648,6 +669,7 @@ fn type_after<'p, 'a>(
             | Piece::Id(_)
             | Piece::Integer(_, _)
             | Piece::Text(_)
+            | Piece::Float(_, _)
             | Piece::Other,
             ..
         ] => Ok((Argument::Block(None), all)),
@@ -675,6 +697,7 @@ fn one_type<'p, 'a>(pieces: &'p [Piece<'a>]) -> Result<(Argument, &'p [Piece<'a>
             | Piece::Id(_)
             | Piece::Integer(_, _)
             | Piece::Text(_)
+            | Piece::Float(_, _)
             | Piece::Other,
             ..
         ] => Err(Fault {
@@ -705,6 +728,7 @@ fn close_type<'p, 'a>(
             | Piece::Id(_)
             | Piece::Integer(_, _)
             | Piece::Text(_)
+            | Piece::Float(_, _)
             | Piece::Other,
             ..
         ] => Err(Fault {

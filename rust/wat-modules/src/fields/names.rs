@@ -129,6 +129,7 @@ fn bindings<'p>(alloc: Global, pieces: &'p [Piece<'_>]) -> Result<Vec<Binding<'p
                 | Piece::Id(_)
                 | Piece::Integer(_, _)
                 | Piece::Text(_)
+                | Piece::Float(_, _)
                 | Piece::Other => return Ok(bindings),
             },
             Depth::Opened => match *piece {
@@ -138,6 +139,7 @@ fn bindings<'p>(alloc: Global, pieces: &'p [Piece<'_>]) -> Result<Vec<Binding<'p
                 | Piece::Id(_)
                 | Piece::Integer(_, _)
                 | Piece::Text(_)
+                | Piece::Float(_, _)
                 | Piece::Other => return Ok(bindings),
             },
             Depth::Headed(space) => {
@@ -151,6 +153,7 @@ fn bindings<'p>(alloc: Global, pieces: &'p [Piece<'_>]) -> Result<Vec<Binding<'p
                 | Piece::Id(_)
                 | Piece::Integer(_, _)
                 | Piece::Text(_)
+                | Piece::Float(_, _)
                 | Piece::Other => {}
             },
         }
@@ -194,6 +197,7 @@ fn name_of<'p>(piece: Piece<'p>) -> Name<'p> {
         | Piece::Word(_)
         | Piece::Integer(_, _)
         | Piece::Text(_)
+        | Piece::Float(_, _)
         | Piece::Other => Name::Absent,
     }
 }
@@ -209,9 +213,12 @@ fn after_head(piece: Piece<'_>) -> Depth {
     match piece {
         Piece::Open => Depth::Inside(1),
         Piece::Close => Depth::Before,
-        Piece::Word(_) | Piece::Id(_) | Piece::Integer(_, _) | Piece::Text(_) | Piece::Other => {
-            Depth::Inside(0)
-        }
+        Piece::Word(_)
+        | Piece::Id(_)
+        | Piece::Integer(_, _)
+        | Piece::Text(_)
+        | Piece::Float(_, _)
+        | Piece::Other => Depth::Inside(0),
     }
 }
 

@@ -2,11 +2,11 @@
 //! Plain instructions and their immediates, names and labels.
 
 use wat_lex::shim::prelude::*;
-use crate::instructions::memory;
 use crate::instructions::pieces::{
     Argument, Fault, FaultKind, Frame, Instruction, Name, Piece, Sign, ValueType,
 };
 use crate::instructions::table::{self, Immediate};
+use crate::instructions::{floats, memory};
 
 /// The names of the items of five index spaces, each in the order of their indices.
 #[derive(Clone, Copy)]
@@ -109,7 +109,12 @@ pub fn index<'p, 'a>(
             }),
         },
         [
-            Piece::Open | Piece::Close | Piece::Word(_) | Piece::Text(_) | Piece::Other,
+            Piece::Open
+            | Piece::Close
+            | Piece::Word(_)
+            | Piece::Text(_)
+            | Piece::Float(_, _)
+            | Piece::Other,
             ..,
         ] => Err(Fault {
             kind: FaultKind::Unexpected,
@@ -158,7 +163,12 @@ fn label_number<'p, 'a>(
             }),
         },
         [
-            Piece::Open | Piece::Close | Piece::Word(_) | Piece::Text(_) | Piece::Other,
+            Piece::Open
+            | Piece::Close
+            | Piece::Word(_)
+            | Piece::Text(_)
+            | Piece::Float(_, _)
+            | Piece::Other,
             ..,
         ] => Err(Fault {
             kind: FaultKind::Unexpected,
@@ -266,6 +276,7 @@ fn number_32<'p, 'a>(
             | Piece::Word(_)
             | Piece::Id(_)
             | Piece::Text(_)
+            | Piece::Float(_, _)
             | Piece::Other,
             ..,
         ] => Err(Fault {
@@ -338,6 +349,7 @@ fn number_64<'p, 'a>(
             | Piece::Word(_)
             | Piece::Id(_)
             | Piece::Text(_)
+            | Piece::Float(_, _)
             | Piece::Other,
             ..,
         ] => Err(Fault {
@@ -374,6 +386,8 @@ fn immediate<'p, 'a>(
         Immediate::Global => name_argument(scope.globals, pieces),
         Immediate::I32 => number_32(pieces),
         Immediate::I64 => number_64(pieces),
+        Immediate::F32 => floats::float_32(pieces),
+        Immediate::F64 => floats::float_64(pieces),
         Immediate::Memory(natural) => Ok(memory::argument(natural, pieces)),
         Immediate::Zero => Ok((Argument::Zero, pieces)),
     }
@@ -411,6 +425,7 @@ pub fn plain<'p, 'a>(
             | Piece::Id(_)
             | Piece::Integer(_, _)
             | Piece::Text(_)
+            | Piece::Float(_, _)
             | Piece::Other,
             ..,
         ] => Err(Fault {
@@ -441,6 +456,7 @@ pub fn label<'p, 'a>(pieces: &'p [Piece<'a>]) -> (Name<'p>, &'p [Piece<'a>]) {
             | Piece::Word(_)
             | Piece::Integer(_, _)
             | Piece::Text(_)
+            | Piece::Float(_, _)
             | Piece::Other,
             ..,
         ] => (Name::Absent, pieces),
@@ -478,6 +494,7 @@ pub fn end_label<'p, 'a>(
             | Piece::Word(_)
             | Piece::Integer(_, _)
             | Piece::Text(_)
+            | Piece::Float(_, _)
             | Piece::Other,
             ..,
         ] => Ok(pieces),
@@ -619,6 +636,7 @@ fn empty_group<'p, 'a>(word: &str, pieces: &'p [Piece<'a>]) -> Option<&'p [Piece
             | Piece::Id(_)
             | Piece::Integer(_, _)
             | Piece::Text(_)
+            | Piece::Float(_, _)
             | Piece::Other,
             ..,
         ] => None,
@@ -645,6 +663,7 @@ fn empty_word<'p, 'a>(word: &str, pieces: &'p [Piece<'a>]) -> Option<&'p [Piece<
             | Piece::Id(_)
             | Piece::Integer(_, _)
             | Piece::Text(_)
+            | Piece::Float(_, _)
             | Piece::Other,
             ..,
         ] => None,
@@ -692,6 +711,7 @@ fn after_close<'p, 'a>(pieces: &'p [Piece<'a>]) -> Option<&'p [Piece<'a>]> {
             | Piece::Id(_)
             | Piece::Integer(_, _)
             | Piece::Text(_)
+            | Piece::Float(_, _)
             | Piece::Other,
             ..,
         ] => None,
@@ -734,6 +754,7 @@ fn result_type<'p, 'a>(
             | Piece::Id(_)
             | Piece::Integer(_, _)
             | Piece::Text(_)
+            | Piece::Float(_, _)
             | Piece::Other,
             ..,
         ] => Ok((Argument::Block(None), pieces)),
@@ -768,6 +789,7 @@ fn type_after<'p, 'a>(
             | Piece::Id(_)
             | Piece::Integer(_, _)
             | Piece::Text(_)
+            | Piece::Float(_, _)
             | Piece::Other,
             ..,
         ] => Ok((Argument::Block(None), all)),
@@ -799,6 +821,7 @@ fn one_type<'p, 'a>(pieces: &'p [Piece<'a>]) -> Result<(Argument, &'p [Piece<'a>
             | Piece::Id(_)
             | Piece::Integer(_, _)
             | Piece::Text(_)
+            | Piece::Float(_, _)
             | Piece::Other,
             ..,
         ] => Err(Fault {
@@ -833,6 +856,7 @@ fn close_type<'p, 'a>(
             | Piece::Id(_)
             | Piece::Integer(_, _)
             | Piece::Text(_)
+            | Piece::Float(_, _)
             | Piece::Other,
             ..,
         ] => Err(Fault {
