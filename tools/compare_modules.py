@@ -4,7 +4,8 @@ types; imports and exports, inline and not; functions with type uses, local vari
 tables, globals; a start function; fields in any order that has imports first; and on texts made from them by one change of a token.
 
 PROGRAM reads a module from standard input and writes its bytes to standard output; where it refuses the text its status is 1. It is
-rust/wat-modules/examples/module.rs. An `else` with nothing after it is written by PROGRAM and left out by `wat2wasm`: such texts are not made.
+rust/wat-modules/examples/module.rs. An `else` with nothing after it is written by PROGRAM and left out by `wat2wasm`, and
+`wat2wasm` 1.0.32 does not round hexadecimal numbers below the least normal one to the nearest: such texts are not made.
 
 usage: compare_modules.py [--modules N] [--mutants N] [--seed N] [--show] PROGRAM [ARGUMENT..]
        compare_modules.py --write FUNCTIONS [--named] [--seed N] > TEXT
@@ -56,6 +57,27 @@ class Body:
             return f"{str(size)[0]}_{str(size)[1:]}"
         return str(size)
 
+    def float(self, digits, greatest):
+        """A number of a format with so many digits, whose greatest numbers have that exponent."""
+        rng = self.rng
+        sign = rng.choice(["", "", "-", "+"])
+        kind = rng.randrange(8)
+        if kind == 0:
+            payload = rng.choice([1, 2 ** (digits - 2), 2 ** (digits - 1) - 1, rng.randrange(1, 2 ** (digits - 1))])
+            return sign + rng.choice(["inf", "nan", f"nan:0x{payload:x}"])
+        if kind == 1:
+            return sign + str(rng.choice([0, 2**digits + 1, 2**64, 10**rng.randrange(39), rng.randrange(2**rng.randrange(1, 90))]))
+        if kind < 5:
+            size = str(rng.randrange(10 ** rng.randrange(1, 25)))
+            exponent = rng.choice(["", f"e{rng.randrange(-20, 14)}", f"E-{rng.randrange(greatest // 3)}", f"e+{rng.randrange(greatest // 4 - 24)}"])
+            point = rng.choice(["", ".", f".{rng.randrange(10 ** 9):0{rng.randrange(1, 20)}}"])
+            return sign + (f"{size[0]}_{size[1:]}" if len(size) > 5 else size) + point + exponent
+        # Ties, and what is a little beside one.
+        twice = 2 ** digits + rng.choice([0, 1, rng.randrange(2 ** digits)])
+        more = rng.choice(["", ".", ".8", ".000000000000000000001", ".fffffffffffffffff"])
+        exponent = rng.choice([0, -digits, 1 - greatest - digits, rng.randrange(1 - greatest - digits, greatest - digits)])
+        return f"{sign}0x{twice:x}{more}" + (f"p{exponent}" if exponent or rng.random() < 0.5 else "")
+
     def memory(self):
         """A memory argument, of which each part may be left out."""
         rng = self.rng
@@ -73,7 +95,7 @@ class Body:
             return [word] + self.memory()
         if kind == "Global" and not self.globals:
             return [word, str(self.rng.randrange(200))]
-        given = {"Global": lambda: self.index(self.globals), "Local": lambda: self.index(self.variables), "Func": lambda: self.index(self.functions), "Label": lambda: self.index(self.labels[::-1]), "I32": lambda: self.number(32), "I64": lambda: self.number(64)}
+        given = {"Global": lambda: self.index(self.globals), "Local": lambda: self.index(self.variables), "Func": lambda: self.index(self.functions), "Label": lambda: self.index(self.labels[::-1]), "I32": lambda: self.number(32), "I64": lambda: self.number(64), "F32": lambda: self.float(24, 127), "F64": lambda: self.float(53, 1023)}
         return [word, given[kind]()] if kind in given else [word]
 
     def label(self):

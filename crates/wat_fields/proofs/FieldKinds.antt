@@ -7,7 +7,7 @@ use Rattle.wat_instructions.specs.declared.pieces.Instruction.{Instruction}
 use Rattle.wat_instructions.specs.Grammar.{Context, Body, index, label_of}
 use Rattle.wat_instructions.specs.Law.{InstructionsAreBalanced, InstructionsTakeTokens, MachineIsGrammar, past}
 use Rattle.wat_instructions.specs.Machine as machine
-use Rattle.wat_instructions.specs.Terminals.{Terminal, Open, Close, Word, Id, Integer, Text, Other, Label}
+use Rattle.wat_instructions.specs.Terminals.{Terminal, Open, Close, Word, Id, Integer, Text, Float, Other, Label}
 use Rattle.wat_fields.specs.declared.fields.IndexSpace.{IndexSpace}
 use Rattle.wat_fields.specs.declared.fields.IndexSpace.TheVariants as space
 use Rattle.wat_fields.specs.declared.fields.TableType.{TableType}
@@ -275,6 +275,7 @@ external_word_sound types context w n (Close ∷ ts) fs r e u g = absurd g
 external_word_sound types context w n (Id x ∷ ts) fs r e u g = absurd g
 external_word_sound types context w n (Integer s m ∷ ts) fs r e u g = absurd g
 external_word_sound types context w n (Text v ∷ ts) fs r e u g = absurd g
+external_word_sound types context w n (Float narrow wide ∷ ts) fs r e u g = absurd g
 external_word_sound types context w n (Other ∷ ts) fs r e u g = absurd g
 
 external_sound : (types : Types) (context : Context) (w n : List ℕ) (ts : List Terminal) (fs : List Field) (r : List Terminal) → w ≡ codes "export" → is_utf8 n ≡ true → Gives (external_at context n ts) fs r → FieldIs types context (Open ∷ Word w ∷ Text n ∷ ts) fs r
@@ -286,6 +287,7 @@ external_sound types context w n (Word v ∷ ts) fs r e u g = absurd g
 external_sound types context w n (Id x ∷ ts) fs r e u g = absurd g
 external_sound types context w n (Integer s m ∷ ts) fs r e u g = absurd g
 external_sound types context w n (Text v ∷ ts) fs r e u g = absurd g
+external_sound types context w n (Float narrow wide ∷ ts) fs r e u g = absurd g
 external_sound types context w n (Other ∷ ts) fs r e u g = absurd g
 
 export_sound : (types : Types) (context : Context) (w : List ℕ) (ts : List Terminal) (fs : List Field) (r : List Terminal) → w ≡ codes "export" → Gives (export_at context ts) fs r → FieldIs types context (Open ∷ Word w ∷ ts) fs r
@@ -353,6 +355,7 @@ import_word_sound types context w m n (Close ∷ ts) fs r e a b g = absurd g
 import_word_sound types context w m n (Id x ∷ ts) fs r e a b g = absurd g
 import_word_sound types context w m n (Integer s k ∷ ts) fs r e a b g = absurd g
 import_word_sound types context w m n (Text v ∷ ts) fs r e a b g = absurd g
+import_word_sound types context w m n (Float narrow wide ∷ ts) fs r e a b g = absurd g
 import_word_sound types context w m n (Other ∷ ts) fs r e a b g = absurd g
 
 import_open_sound : (types : Types) (context : Context) (w m n : List ℕ) (ts : List Terminal) (fs : List Field) (r : List Terminal) → w ≡ codes "import" → is_utf8 m ≡ true → is_utf8 n ≡ true → Gives (import_open types (m, n) ts) fs r → FieldIs types context (Open ∷ Word w ∷ Text m ∷ Text n ∷ ts) fs r
@@ -364,6 +367,7 @@ import_open_sound types context w m n (Word v ∷ ts) fs r e a b g = absurd g
 import_open_sound types context w m n (Id x ∷ ts) fs r e a b g = absurd g
 import_open_sound types context w m n (Integer s k ∷ ts) fs r e a b g = absurd g
 import_open_sound types context w m n (Text v ∷ ts) fs r e a b g = absurd g
+import_open_sound types context w m n (Float narrow wide ∷ ts) fs r e a b g = absurd g
 import_open_sound types context w m n (Other ∷ ts) fs r e a b g = absurd g
 
 import_sound : (types : Types) (context : Context) (w : List ℕ) (ts : List Terminal) (fs : List Field) (r : List Terminal) → w ≡ codes "import" → Gives (import_at types ts) fs r → FieldIs types context (Open ∷ Word w ∷ ts) fs r
@@ -441,6 +445,7 @@ open_sound laws types context (Close ∷ ts) fs r h = absurd h
 open_sound laws types context (Id x ∷ ts) fs r h = absurd h
 open_sound laws types context (Integer s n ∷ ts) fs r h = absurd h
 open_sound laws types context (Text v ∷ ts) fs r h = absurd h
+open_sound laws types context (Float narrow wide ∷ ts) fs r h = absurd h
 open_sound laws types context (Other ∷ ts) fs r h = absurd h
 
 field_sound : Laws → (types : Types) (context : Context) (ts : List Terminal) (fs : List Field) (r : List Terminal) → Brings (field_item types context ts) fs r → FieldIs types context ts fs r
@@ -452,6 +457,7 @@ field_sound laws types context (Word w ∷ ts) fs r h = absurd h
 field_sound laws types context (Id x ∷ ts) fs r h = absurd h
 field_sound laws types context (Integer s n ∷ ts) fs r h = absurd h
 field_sound laws types context (Text v ∷ ts) fs r h = absurd h
+field_sound laws types context (Float narrow wide ∷ ts) fs r h = absurd h
 field_sound laws types context (Other ∷ ts) fs r h = absurd h
 
 -- What is spelled is read.
@@ -571,6 +577,7 @@ label_short (Close ∷ ts) = omega arith
 label_short (Word w ∷ ts) = omega arith
 label_short (Integer s n ∷ ts) = omega arith
 label_short (Text v ∷ ts) = omega arith
+label_short (Float narrow wide ∷ ts) = omega arith
 label_short (Other ∷ ts) = omega arith
 
 -- these tokens are the rest of a field, and then come those
@@ -619,6 +626,7 @@ label_past d (Close ∷ ts) = refl
 label_past d (Word w ∷ ts) = refl
 label_past d (Integer s n ∷ ts) = refl
 label_past d (Text v ∷ ts) = refl
+label_past d (Float narrow wide ∷ ts) = refl
 label_past d (Other ∷ ts) = refl
 
 type_closes : (v : List ℕ) (hs bs r : List Terminal) (ps rs : List Variable) → Many (Group (codes "param") true) hs ps bs → Many (Group (codes "result") false) bs rs (Close ∷ Close ∷ r) → Closes (Open ∷ Word v ∷ hs) r

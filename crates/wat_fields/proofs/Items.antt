@@ -7,7 +7,7 @@ use Rattle.wat_instructions.specs.declared.pieces.FaultKind.TheVariants.{Unexpec
 use Rattle.wat_instructions.specs.declared.pieces.ValueType.{ValueType}
 use Rattle.wat_instructions.specs.Grammar.{Fault, value_type}
 use Rattle.wat_instructions.specs.Law.{past}
-use Rattle.wat_instructions.specs.Terminals.{Terminal, Open, Close, Word, Id, Integer, Text, Other}
+use Rattle.wat_instructions.specs.Terminals.{Terminal, Open, Close, Word, Id, Integer, Text, Float, Other}
 use Rattle.wat_fields.specs.Fields.{Many, by_none, by_more, ValueTypeIs, by_word, Group, by_named, by_listed, InlineExport, by_inline_export, Variable, variable, unnamed}
 use Rattle.wat_fields.specs.Reading.{Read, and_then, all, closed, closing, after, after_word, begun, utf8_text, export, export_item, typed, value_item, listed, named_type, named_one, group, group_item}
 use Rattle.wat_fields.proofs.Manies.{Gives, gives_of, and_then_inv, Brings, Reads, all_sound, all_complete, many_takes, many_past}
@@ -34,6 +34,7 @@ value_sound (Close ∷ ts) vs us h = absurd h
 value_sound (Id x ∷ ts) vs us h = absurd h
 value_sound (Integer s n ∷ ts) vs us h = absurd h
 value_sound (Text v ∷ ts) vs us h = absurd h
+value_sound (Float narrow wide ∷ ts) vs us h = absurd h
 value_sound (Other ∷ ts) vs us h = absurd h
 
 value_complete : (ts : List Terminal) (vs : List ValueType) (us : List Terminal) → ValueTypeIs ts vs us → Brings (value_item ts) vs us
@@ -67,6 +68,7 @@ closed_is (Word w ∷ ts) r h = absurd h
 closed_is (Id x ∷ ts) r h = absurd h
 closed_is (Integer s n ∷ ts) r h = absurd h
 closed_is (Text v ∷ ts) r h = absurd h
+closed_is (Float narrow wide ∷ ts) r h = absurd h
 closed_is (Other ∷ ts) r h = absurd h
 
 -- `(` and a word
@@ -92,6 +94,7 @@ begins_word word (Close ∷ ts) us h = absurd h
 begins_word word (Id x ∷ ts) us h = absurd h
 begins_word word (Integer s n ∷ ts) us h = absurd h
 begins_word word (Text v ∷ ts) us h = absurd h
+begins_word word (Float narrow wide ∷ ts) us h = absurd h
 begins_word word (Other ∷ ts) us h = absurd h
 
 pub begins : (word : List ℕ) (ts us : List Terminal) → Finds (after word ts) us → Begins word ts us
@@ -102,6 +105,7 @@ begins word (Word w ∷ ts) us h = absurd h
 begins word (Id x ∷ ts) us h = absurd h
 begins word (Integer s n ∷ ts) us h = absurd h
 begins word (Text v ∷ ts) us h = absurd h
+begins word (Float narrow wide ∷ ts) us h = absurd h
 begins word (Other ∷ ts) us h = absurd h
 
 pub begun_inv : {V : Type 0} (rest : List Terminal → Read (List V)) (o : Option (List Terminal)) (vs : List V) (r : List Terminal) → Brings (begun rest o) vs r → (us : List Terminal) × Finds o us × Gives (rest us) vs r
@@ -128,6 +132,7 @@ utf8_inv (Close ∷ ts) n us h = absurd h
 utf8_inv (Word w ∷ ts) n us h = absurd h
 utf8_inv (Id x ∷ ts) n us h = absurd h
 utf8_inv (Integer s m ∷ ts) n us h = absurd h
+utf8_inv (Float narrow wide ∷ ts) n us h = absurd h
 utf8_inv (Other ∷ ts) n us h = absurd h
 
 export_sound : (ts : List Terminal) (vs : List (List ℕ)) (us : List Terminal) → Brings (export_item ts) vs us → InlineExport ts vs us
@@ -185,6 +190,7 @@ named_one_sound word may x (Close ∷ ts) vs us m h v e = absurd h
 named_one_sound word may x (Id y ∷ ts) vs us m h v e = absurd h
 named_one_sound word may x (Integer s n ∷ ts) vs us m h v e = absurd h
 named_one_sound word may x (Text y ∷ ts) vs us m h v e = absurd h
+named_one_sound word may x (Float narrow wide ∷ ts) vs us m h v e = absurd h
 named_one_sound word may x (Other ∷ ts) vs us m h v e = absurd h
 
 group_listed : (word : List ℕ) (may : Bool) (ts : List Terminal) (vs : List Variable) (us : List Terminal) → Gives (listed ts) vs us → Spells word may ts vs us
@@ -203,6 +209,7 @@ group_sound word may (Close ∷ ts) vs us h = group_listed word may (Close ∷ t
 group_sound word may (Word w ∷ ts) vs us h = group_listed word may (Word w ∷ ts) vs us h
 group_sound word may (Integer s n ∷ ts) vs us h = group_listed word may (Integer s n ∷ ts) vs us h
 group_sound word may (Text v ∷ ts) vs us h = group_listed word may (Text v ∷ ts) vs us h
+group_sound word may (Float narrow wide ∷ ts) vs us h = group_listed word may (Float narrow wide ∷ ts) vs us h
 group_sound word may (Other ∷ ts) vs us h = group_listed word may (Other ∷ ts) vs us h
 
 group_item_sound : (word : List ℕ) (may : Bool) (ts : List Terminal) (vs : List Variable) (us : List Terminal) → Brings (group_item word may ts) vs us → Group word may ts vs us

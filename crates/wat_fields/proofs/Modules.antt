@@ -7,7 +7,7 @@ use Rattle.std.proofs.lemmas.Grind.{flat_map-append}
 use Rattle.wat_instructions.specs.declared.pieces.FaultKind.TheVariants.{UnknownWord, Duplicate, SecondStart, LateImport}
 use Rattle.wat_instructions.specs.Grammar.{Context, Fault, label_of}
 use Rattle.wat_instructions.specs.Law.{past}
-use Rattle.wat_instructions.specs.Terminals.{Terminal, Open, Close, Word, Id, Integer, Text, Other}
+use Rattle.wat_instructions.specs.Terminals.{Terminal, Open, Close, Word, Id, Integer, Text, Float, Other}
 use Rattle.wat_fields.specs.declared.fields.IndexSpace.{IndexSpace}
 use Rattle.wat_fields.specs.declared.fields.IndexSpace.TheVariants as space
 use Rattle.wat_fields.specs.Fields.{Many, by_none, by_more, Types, Field, FieldIs, by_type, by_import, by_inline_import, by_func, by_table, by_memory, by_global, by_export, by_start, Binding, binding, Definition, Module, by_module, all_distinct, context_of, types_in, binding_of, bindings_of, definition_of, definitions_of, imports_first, space_of, starts_of}
@@ -33,7 +33,9 @@ inside_past zero ss (Integer s n ∷ ts) = inside_past zero ss ts
 inside_past (suc d) ss (Integer s n ∷ ts) = inside_past (suc d) ss ts
 inside_past zero ss (Text v ∷ ts) = inside_past zero ss ts
 inside_past (suc d) ss (Text v ∷ ts) = inside_past (suc d) ss ts
+inside_past zero ss (Float narrow wide ∷ ts) = inside_past zero ss ts
 inside_past zero ss (Other ∷ ts) = inside_past zero ss ts
+inside_past (suc d) ss (Float narrow wide ∷ ts) = inside_past (suc d) ss ts
 inside_past (suc d) ss (Other ∷ ts) = inside_past (suc d) ss ts
 
 field_start : (w : List ℕ) (us r : List Terminal) → Closes (label_of us).1 r → (ss : List (List Terminal)) → starts Before ss (Open ∷ Word w ∷ us) ≡ starts Before (ss ++ (Word w ∷ us) ∷ []) r
@@ -153,6 +155,7 @@ ended_sound (Ok (gs, Word w ∷ ts)) fs e = cc
 ended_sound (Ok (gs, Id x ∷ ts)) fs e = cc
 ended_sound (Ok (gs, Integer s n ∷ ts)) fs e = cc
 ended_sound (Ok (gs, Text v ∷ ts)) fs e = cc
+ended_sound (Ok (gs, Float narrow wide ∷ ts)) fs e = cc
 ended_sound (Ok (gs, Other ∷ ts)) fs e = cc
 ended_sound (Err f) fs e = cc
 
@@ -197,6 +200,7 @@ open_module laws (Close ∷ ts) fs h = cc
 open_module laws (Id x ∷ ts) fs h = cc
 open_module laws (Integer s n ∷ ts) fs h = cc
 open_module laws (Text v ∷ ts) fs h = cc
+open_module laws (Float narrow wide ∷ ts) fs h = cc
 open_module laws (Other ∷ ts) fs h = cc
 
 module_sound : Laws → (ts : List Terminal) (fs : List Field) → whole ts ≡ Ok fs → Module ts fs
@@ -208,6 +212,7 @@ module_sound laws (Word w ∷ ts) fs h = cc
 module_sound laws (Id x ∷ ts) fs h = cc
 module_sound laws (Integer s n ∷ ts) fs h = cc
 module_sound laws (Text v ∷ ts) fs h = cc
+module_sound laws (Float narrow wide ∷ ts) fs h = cc
 module_sound laws (Other ∷ ts) fs h = cc
 
 no_field : (types : Types) (context : Context) → field_item types context (Close ∷ []) ≡ None

@@ -7,7 +7,7 @@ use Rattle.wat_instructions.specs.declared.pieces.Sign.TheVariants as sign
 use Rattle.wat_instructions.specs.declared.pieces.ValueType.{ValueType}
 use Rattle.wat_instructions.specs.Grammar.{index, named, position, small, value_type}
 use Rattle.wat_instructions.specs.Law.{past}
-use Rattle.wat_instructions.specs.Terminals.{Terminal, Open, Close, Word, Id, Integer, Text, Other, Label}
+use Rattle.wat_instructions.specs.Terminals.{Terminal, Open, Close, Word, Id, Integer, Text, Float, Other, Label}
 use Rattle.wat_fields.specs.declared.fields.GlobalType.{GlobalType}
 use Rattle.wat_fields.specs.declared.fields.Limits.{Limits}
 use Rattle.wat_fields.specs.declared.fields.ReferenceType.{ReferenceType}
@@ -47,6 +47,7 @@ max_sound n (Close ∷ ts) l us e h = subst (λ x. LimitsAre (Integer sign.Absen
 max_sound n (Word w ∷ ts) l us e h = subst (λ x. LimitsAre (Integer sign.Absent n ∷ Word w ∷ ts) x us) h.0 (subst (λ x. LimitsAre (Integer sign.Absent n ∷ Word w ∷ ts) (limits n None) x) h.1 (by_min e))
 max_sound n (Id y ∷ ts) l us e h = subst (λ x. LimitsAre (Integer sign.Absent n ∷ Id y ∷ ts) x us) h.0 (subst (λ x. LimitsAre (Integer sign.Absent n ∷ Id y ∷ ts) (limits n None) x) h.1 (by_min e))
 max_sound n (Text v ∷ ts) l us e h = subst (λ x. LimitsAre (Integer sign.Absent n ∷ Text v ∷ ts) x us) h.0 (subst (λ x. LimitsAre (Integer sign.Absent n ∷ Text v ∷ ts) (limits n None) x) h.1 (by_min e))
+max_sound n (Float narrow wide ∷ ts) l us e h = subst (λ x. LimitsAre (Integer sign.Absent n ∷ Float narrow wide ∷ ts) x us) h.0 (subst (λ x. LimitsAre (Integer sign.Absent n ∷ Float narrow wide ∷ ts) (limits n None) x) h.1 (by_min e))
 max_sound n (Other ∷ ts) l us e h = subst (λ x. LimitsAre (Integer sign.Absent n ∷ Other ∷ ts) x us) h.0 (subst (λ x. LimitsAre (Integer sign.Absent n ∷ Other ∷ ts) (limits n None) x) h.1 (by_min e))
 
 pub limits_sound : (ts : List Terminal) (l : Limits) (us : List Terminal) → limits_at ts ≡ Ok (l, us) → LimitsAre ts l us
@@ -61,6 +62,7 @@ limits_sound (Close ∷ ts) l us e = cc
 limits_sound (Word w ∷ ts) l us e = cc
 limits_sound (Id x ∷ ts) l us e = cc
 limits_sound (Text v ∷ ts) l us e = cc
+limits_sound (Float narrow wide ∷ ts) l us e = cc
 limits_sound (Other ∷ ts) l us e = cc
 
 -- no number comes next
@@ -107,6 +109,7 @@ reference_sound (Close ∷ ts) t us h = absurd h
 reference_sound (Id x ∷ ts) t us h = absurd h
 reference_sound (Integer s n ∷ ts) t us h = absurd h
 reference_sound (Text v ∷ ts) t us h = absurd h
+reference_sound (Float narrow wide ∷ ts) t us h = absurd h
 reference_sound (Other ∷ ts) t us h = absurd h
 
 reference_complete : (v : List ℕ) (t : ReferenceType) (us : List Terminal) → reference_type v ≡ Some t → reference_at (Word v ∷ us) ≡ Ok (t, us)
@@ -157,6 +160,7 @@ mutable_type_sound v (Close ∷ ts) g us m h = absurd h
 mutable_type_sound v (Id x ∷ ts) g us m h = absurd h
 mutable_type_sound v (Integer s n ∷ ts) g us m h = absurd h
 mutable_type_sound v (Text x ∷ ts) g us m h = absurd h
+mutable_type_sound v (Float narrow wide ∷ ts) g us m h = absurd h
 mutable_type_sound v (Other ∷ ts) g us m h = absurd h
 
 mutable_word_sound : (v : List ℕ) (ts : List Terminal) (g : GlobalType) (us : List Terminal) (b : Bool) → bytes_eq v (codes "mut") ≡ b → Gives (if b then mutable_type ts else Err (UnknownWord, Word v ∷ ts)) g us → GlobalTypeIs (Open ∷ Word v ∷ ts) g us
@@ -171,6 +175,7 @@ mutable_sound (Close ∷ ts) g us h = absurd h
 mutable_sound (Id x ∷ ts) g us h = absurd h
 mutable_sound (Integer s n ∷ ts) g us h = absurd h
 mutable_sound (Text v ∷ ts) g us h = absurd h
+mutable_sound (Float narrow wide ∷ ts) g us h = absurd h
 mutable_sound (Other ∷ ts) g us h = absurd h
 
 pub global_type_sound : (ts : List Terminal) (g : GlobalType) (us : List Terminal) → Gives (global_type_at ts) g us → GlobalTypeIs ts g us
@@ -182,6 +187,7 @@ global_type_sound (Close ∷ ts) g us h = absurd h
 global_type_sound (Id x ∷ ts) g us h = absurd h
 global_type_sound (Integer s n ∷ ts) g us h = absurd h
 global_type_sound (Text v ∷ ts) g us h = absurd h
+global_type_sound (Float narrow wide ∷ ts) g us h = absurd h
 global_type_sound (Other ∷ ts) g us h = absurd h
 
 pub global_type_complete : (ts : List Terminal) (g : GlobalType) (us : List Terminal) → GlobalTypeIs ts g us → global_type_at ts ≡ Ok (g, us)
@@ -220,6 +226,7 @@ index_sound ls (Open ∷ ts) i us h = absurd h
 index_sound ls (Close ∷ ts) i us h = absurd h
 index_sound ls (Word w ∷ ts) i us h = absurd h
 index_sound ls (Text v ∷ ts) i us h = absurd h
+index_sound ls (Float narrow wide ∷ ts) i us h = absurd h
 index_sound ls (Other ∷ ts) i us h = absurd h
 
 pub index_complete : (ls : List Label) (ts : List Terminal) (i : ℕ) (us : List Terminal) → IndexIs ls ts i us → index ls ts ≡ Ok (i, us)
@@ -240,4 +247,5 @@ twice_closed_is (Word w ∷ ts) r h = absurd h
 twice_closed_is (Id x ∷ ts) r h = absurd h
 twice_closed_is (Integer s n ∷ ts) r h = absurd h
 twice_closed_is (Text v ∷ ts) r h = absurd h
+twice_closed_is (Float narrow wide ∷ ts) r h = absurd h
 twice_closed_is (Other ∷ ts) r h = absurd h

@@ -4,6 +4,7 @@
 -- shortest form, runs of local variables of one type counted together, no section without content, no custom section, an `else` where the text has one.
 -- The order of exports is that of the text: an inline one is where its field is (6.6.5 to 6.6.8).
 use Rattle.std.specs.Prelude.{ℕ, suc, Bool, true, false, ◌&&◌, List, [], ◌∷◌, ◌++◌, length, map, Option, Some, None, ◌==◌, if◌then◌else◌}
+use Rattle.std.specs.Int.{w32, w64, to_le_bytes}
 use Rattle.std.specs.List.{flat_map}
 use Rattle.wat_lex.specs.binary.Encoding.{list_encoding, text_encoding}
 use Rattle.wat_lex.specs.binary.Leb128.{signed_leb128, unsigned_leb128}
@@ -34,12 +35,15 @@ abbrev pub block_byte : Option ValueType → ℕ
 block_byte None = 0x40
 block_byte (Some t) = type_byte t
 
--- 5.4: what follows the first byte of an instruction; 5.4.6 memory arguments: the exponent of the alignment, and the offset
+-- 5.4: what follows the first byte of an instruction; 5.2.3 floats: their bits, the lowest byte first; 5.4.6 memory arguments: the exponent of the alignment,
+-- and the offset
 abbrev pub argument_bytes : Argument → List ℕ
 argument_bytes argument.Nothing = []
 argument_bytes (argument.Index n) = unsigned_leb128 n
 argument_bytes (argument.I32 n) = signed_leb128 n
 argument_bytes (argument.I64 n) = signed_leb128 n
+argument_bytes (argument.F32 bits) = to_le_bytes w32 bits
+argument_bytes (argument.F64 bits) = to_le_bytes w64 bits
 argument_bytes (argument.Block t) = block_byte t ∷ []
 argument_bytes (argument.Memory align offset) = unsigned_leb128 align ++ unsigned_leb128 offset
 argument_bytes argument.Zero = 0 ∷ []

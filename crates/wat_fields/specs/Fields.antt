@@ -3,7 +3,7 @@
 -- place on, and leaves the rest. Left out of the standard: the fields `elem` and `data`, inline elements and data, v128, funcref and externref as value
 -- types, a module without its parentheses, and a type use by the index of a type that no field `type` defines (one that a type use brings, 6.6.3); and what
 -- Table and Grammar of `wat_instructions` leave out: types of blocks by their index, and those that bring parameters or more than one result, br_table,
--- call_indirect, select with types, floating-point constants, references, tables, bulk memory, saturating conversions, vectors.
+-- call_indirect, select with types, references, tables, bulk memory, saturating conversions, vectors.
 use Rattle.std.specs.Prelude.{◌≡◌, ◌&&◌, ◌^◌, ◌≤◌, ℕ, Bool, true, false, List, [], ◌∷◌, ◌++◌, length, map, codes, bytes_eq, nat_lt, slice_get, Option, Some, None, if◌then◌else◌}
 use Rattle.std.specs.List.{flat_map}
 use Rattle.std.specs.Str.{is_utf8}

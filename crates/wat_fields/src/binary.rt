@@ -69,6 +69,14 @@ fn put_instruction(out: &mut Vec<u8>, instruction: Instruction) -> Result<(), Al
             Ok(()) => Ok(()),
             Err(error) => Err(refused(error)),
         },
+        Argument::F32(bits) => {
+            out.extend_from_slice(&bits.to_le_bytes())?;
+            Ok(())
+        }
+        Argument::F64(bits) => {
+            out.extend_from_slice(&bits.to_le_bytes())?;
+            Ok(())
+        }
         Argument::Block(of) => {
             out.push(block_byte(of))?;
             Ok(())

@@ -198,6 +198,7 @@ fn module<'p, 'a>(alloc: Global, pieces: &'p [Piece<'a>]) -> Result<Vec<Field<'p
             | Piece::Id(_)
             | Piece::Integer(_, _)
             | Piece::Text(_)
+            | Piece::Float(_, _)
             | Piece::Other,
             ..
         ] => Err(Refusal::Text(Fault {
@@ -238,6 +239,7 @@ fn module_word<'p, 'a>(
             | Piece::Id(_)
             | Piece::Integer(_, _)
             | Piece::Text(_)
+            | Piece::Float(_, _)
             | Piece::Other,
             ..
         ] => Err(Refusal::Text(Fault {
@@ -301,6 +303,7 @@ fn ended<'p, 'a>(pieces: &'p [Piece<'a>]) -> Result<(), Fault<'p, 'a>>
             | Piece::Id(_)
             | Piece::Integer(_, _)
             | Piece::Text(_)
+            | Piece::Float(_, _)
             | Piece::Other,
             ..
         ] => Err(Fault {
@@ -414,6 +417,7 @@ fn next_field<'p, 'a>(
             | Piece::Id(_)
             | Piece::Integer(_, _)
             | Piece::Text(_)
+            | Piece::Float(_, _)
             | Piece::Other,
             ..
         ] => Ok(None),
@@ -439,6 +443,7 @@ fn field_at<'p, 'a>(
             | Piece::Id(_)
             | Piece::Integer(_, _)
             | Piece::Text(_)
+            | Piece::Float(_, _)
             | Piece::Other,
             ..
         ] => Err(Refusal::Text(Fault {
@@ -775,6 +780,7 @@ fn import_open<'p, 'a>(
             | Piece::Id(_)
             | Piece::Integer(_, _)
             | Piece::Text(_)
+            | Piece::Float(_, _)
             | Piece::Other,
             ..
         ] => Err(Refusal::Text(Fault {
@@ -814,6 +820,7 @@ fn import_word<'p, 'a>(
             | Piece::Id(_)
             | Piece::Integer(_, _)
             | Piece::Text(_)
+            | Piece::Float(_, _)
             | Piece::Other,
             ..
         ] => Err(Refusal::Text(Fault {
@@ -888,6 +895,7 @@ fn external<'p, 'a>(
             | Piece::Id(_)
             | Piece::Integer(_, _)
             | Piece::Text(_)
+            | Piece::Float(_, _)
             | Piece::Other,
             ..
         ] => Err(Fault {
@@ -925,6 +933,7 @@ fn external_word<'p, 'a>(
             | Piece::Id(_)
             | Piece::Integer(_, _)
             | Piece::Text(_)
+            | Piece::Float(_, _)
             | Piece::Other,
             ..
         ] => Err(Fault {

@@ -144,6 +144,7 @@ fn starts<'p, 'a>(alloc: Global, pieces: &'p [Piece<'a>]) -> Result<Vec<Left<'p,
                 | Piece::Id(_)
                 | Piece::Integer(_, _)
                 | Piece::Text(_)
+                | Piece::Float(_, _)
                 | Piece::Other => return Ok(starts),
             },
             Depth::Inside(open) => match *piece {
@@ -153,6 +154,7 @@ fn starts<'p, 'a>(alloc: Global, pieces: &'p [Piece<'a>]) -> Result<Vec<Left<'p,
                 | Piece::Id(_)
                 | Piece::Integer(_, _)
                 | Piece::Text(_)
+                | Piece::Float(_, _)
                 | Piece::Other => {}
             },
         }
@@ -192,6 +194,7 @@ fn binding_at<'p>(pieces: &'p [Piece<'_>]) -> Option<Binding<'p>>
             | Piece::Id(_)
             | Piece::Integer(_, _)
             | Piece::Text(_)
+            | Piece::Float(_, _)
             | Piece::Other,
             ..
         ] => None,
@@ -224,6 +227,7 @@ fn import_binding<'p>(pieces: &'p [Piece<'_>]) -> Option<Binding<'p>>
             | Piece::Word(_)
             | Piece::Id(_)
             | Piece::Integer(_, _)
+            | Piece::Float(_, _)
             | Piece::Other,
             ..
         ] => None,
@@ -243,6 +247,7 @@ fn text_binding<'p>(pieces: &'p [Piece<'_>]) -> Option<Binding<'p>>
             | Piece::Word(_)
             | Piece::Id(_)
             | Piece::Integer(_, _)
+            | Piece::Float(_, _)
             | Piece::Other,
             ..
         ] => None,
@@ -262,6 +267,7 @@ fn open_binding<'p>(pieces: &'p [Piece<'_>]) -> Option<Binding<'p>>
             | Piece::Id(_)
             | Piece::Integer(_, _)
             | Piece::Text(_)
+            | Piece::Float(_, _)
             | Piece::Other,
             ..
         ] => None,
@@ -281,6 +287,7 @@ fn word_binding<'p>(pieces: &'p [Piece<'_>]) -> Option<Binding<'p>>
             | Piece::Id(_)
             | Piece::Integer(_, _)
             | Piece::Text(_)
+            | Piece::Float(_, _)
             | Piece::Other,
             ..
         ] => None,
@@ -329,6 +336,7 @@ fn definition_at<'p, 'a>(
             | Piece::Id(_)
             | Piece::Integer(_, _)
             | Piece::Text(_)
+            | Piece::Float(_, _)
             | Piece::Other,
             ..
         ] => Ok(None),

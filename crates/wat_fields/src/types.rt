@@ -90,6 +90,7 @@ pub(crate) fn limits<'p, 'a>(
             | Piece::Word(_)
             | Piece::Id(_)
             | Piece::Text(_)
+            | Piece::Float(_, _)
             | Piece::Other,
             ..
         ] => Err(Fault {
@@ -124,6 +125,7 @@ fn maximum<'p, 'a>(
             | Piece::Word(_)
             | Piece::Id(_)
             | Piece::Text(_)
+            | Piece::Float(_, _)
             | Piece::Other,
             ..
         ] => Ok((Limits { min, max: None }, pieces)),
@@ -168,6 +170,7 @@ fn reference_type<'p, 'a>(
             | Piece::Id(_)
             | Piece::Integer(_, _)
             | Piece::Text(_)
+            | Piece::Float(_, _)
             | Piece::Other,
             ..
         ] => Err(Fault {
@@ -203,7 +206,12 @@ pub(crate) fn global_type<'p, 'a>(
         },
         [Piece::Open, rest @ ..] => mutable(rest),
         [
-            Piece::Close | Piece::Id(_) | Piece::Integer(_, _) | Piece::Text(_) | Piece::Other,
+            Piece::Close
+            | Piece::Id(_)
+            | Piece::Integer(_, _)
+            | Piece::Text(_)
+            | Piece::Float(_, _)
+            | Piece::Other,
             ..
         ] => Err(Fault {
             kind: FaultKind::Unexpected,
@@ -239,6 +247,7 @@ fn mutable<'p, 'a>(pieces: &'p [Piece<'a>]) -> Result<(GlobalType, &'p [Piece<'a
             | Piece::Id(_)
             | Piece::Integer(_, _)
             | Piece::Text(_)
+            | Piece::Float(_, _)
             | Piece::Other,
             ..
         ] => Err(Fault {
@@ -274,6 +283,7 @@ fn mutable_type<'p, 'a>(
             | Piece::Id(_)
             | Piece::Integer(_, _)
             | Piece::Text(_)
+            | Piece::Float(_, _)
             | Piece::Other,
             ..
         ] => Err(Fault {
@@ -323,6 +333,7 @@ pub(crate) fn twice_closed<'p, 'a>(
             | Piece::Id(_)
             | Piece::Integer(_, _)
             | Piece::Text(_)
+            | Piece::Float(_, _)
             | Piece::Other,
             ..
         ] => Err(Fault {

@@ -8,6 +8,7 @@ use lib.Dec.{lit<}
 use lib.Ieee.{Format, binary32, binary64, ones, hid, top, round, of_bits, nan_bits}
 use lib.Ieee.Bits.{to_bits-of_bits, nan_bits_is, nan_bits_above}
 use Rattle.core.specs.Dec2flt.Rounding.{IsNearestBits}
+use Rattle.core.proofs.dec2flt.Extremes.{nearest_of_zero}
 use Rattle.wat_floats.specs.Rounding.{IsLeading, IsScaled, IsCapped, AreCapped}
 
 -- the bits of the nearest float are those of the rounded number
@@ -111,3 +112,13 @@ moved_up c p h =
     let lo : 2 ^ t.0 * 2 ^ z ≤ c * 2 ^ z = mul-le-mul_right (2 ^ z) t.2 in
     let hi : c * 2 ^ z < 2 ^ suc t.0 * 2 ^ z = mul-lt-mul_of_pos_right t.3 (pow_pos z) in
     (rw (s2, e2) at hi, omega (arith, rw (s, e) at lo))
+
+-- a whole number
+pub whole_leading : (n : ℕ) → IsLeading n n 0 false
+whole_leading n = record { from = omega arith; below = omega arith; exact = λ _. omega arith; strict = λ m. absurd (true≢false (sym m)); full = λ z. absurd (omega arith) }
+
+pub whole_bits : (f : Format) (n b : ℕ) → IsNearestBits f (n * 2 ^ 0) (16 ^ 0 * 2 ^ 0) b → b ≡ to_bits f (round f false n 1)
+whole_bits f n b near = let e : n * 2 ^ 0 ≡ n = omega arith in bits_of f n 1 b (subst (λ x. IsNearestBits f x 1 b) e near)
+
+pub whole_zero : (f : Format) (n : ℕ) → n ≡ 0 → 0 ≡ to_bits f (round f false n 1)
+whole_zero f n z = bits_of f n 1 0 (nearest_of_zero f n 1 (lit< tt) z)

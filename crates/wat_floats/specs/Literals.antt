@@ -93,6 +93,13 @@ magnitude f w =
     else if bytes_eq w (codes "nan") then Some (infinity f + hid f / 2)
     else by_prefix f (after (codes "nan:0x") w) (after (codes "0x") w) w
 
+abbrev pub signed : Format → Bool → Option ℕ → Option ℕ
+signed f negative m = option_map (λ bits. if negative then sign_bit f + bits else bits) m
+
 -- the word of a number
 abbrev pub literal : Format → List ℕ → Option ℕ
-literal f w = option_map (λ bits. if is_negative w then sign_bit f + bits else bits) (magnitude f (joined (unsigned w)))
+literal f w = signed f (is_negative w) (magnitude f (joined (unsigned w)))
+
+-- an integer, by its sign and its size
+abbrev pub of_integer : Format → Bool → ℕ → Option ℕ
+of_integer f negative n = signed f negative (finite f (to_bits f (round f false n 1)))

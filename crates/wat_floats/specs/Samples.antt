@@ -1,7 +1,7 @@
 -- Literals whose bits are known from elsewhere, computed by the definition.
-use Rattle.std.specs.Prelude.{◌≡◌, ℕ, Option, Some, None, List, codes}
+use Rattle.std.specs.Prelude.{◌≡◌, ℕ, true, false, Option, Some, None, List, codes}
 use Rattle.std.specs.Float.{binary32, binary64}
-use Rattle.wat_floats.specs.Literals.{literal}
+use Rattle.wat_floats.specs.Literals.{literal, of_integer}
 
 abbrev single : List ℕ → Option ℕ
 single w = literal binary32 w
@@ -41,6 +41,9 @@ pub record Samples : Type 0 where
   pub carried_to_normal : single (codes "0x0.ffffffp-126") ≡ Some 0x00800000
   pub just_finite : single (codes "0x1.fffffefp+127") ≡ Some 0x7F7FFFFF
   pub just_beyond : single (codes "0x1.ffffffp+127") ≡ None
+  -- integers
+  pub tie_to_even : of_integer binary32 true 16777217 ≡ Some 0xCB800000
+  pub greatest_integer : of_integer binary64 false 0xFFFFFFFFFFFFFFFF ≡ Some 0x43F0000000000000
   -- infinities and NaNs
   pub minus_infinity : single (codes "-inf") ≡ Some 0xFF800000
   pub quiet : double (codes "nan") ≡ Some 0x7FF8000000000000

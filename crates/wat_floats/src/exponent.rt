@@ -64,6 +64,16 @@ fn size_of(text: &[u8]) -> u128
 }
 
 impl Power {
+    /// Neither.
+    pub(crate) fn none() -> Power
+        ensures { (result.raised ≡ 0) × (result.lowered ≡ 0) }
+    {
+        Power {
+            raised: 0,
+            lowered: 0,
+        }
+    }
+
     /// The power of two that an exponent writes.
     pub(crate) fn read(text: &[u8]) -> Power
         ensures raised { IsCapped (raised (exponent true text.now)) result.raised }

@@ -1,6 +1,7 @@
 //! Hexadecimal numbers.
 ghost use Rattle.std.specs.Prelude.{◌≡◌, ℕ, ◌+◌, ◌*◌, ◌^◌, ◌<◌, ◌≤◌, false, true};
-ghost use Rattle.std.specs.Prelude.{◌⊎◌, length, IfSome, IfNone};
+ghost use Rattle.std.specs.Float.Ieee.{round};
+ghost use Rattle.std.specs.Prelude.{◌⊎◌, to_bits, length, IfSome, IfNone};
 ghost use Rattle.std.specs.Char.{digit_value};
 ghost use Rattle.std.specs.Str.Parse.{digits_value_after};
 ghost use Rattle.core.specs.Dec2flt.Rounding.{IsNearestBits};
@@ -148,4 +149,19 @@ fn scaled(precision: Precision, leading: Leading, places: usize, power: Power) -
         power.raised,
         u128::from(shift) + places,
     )
+}
+
+/// The bits of the number nearest to a whole one.
+pub(crate) fn whole(precision: Precision, number: u64) -> u64
+    ensures { result ≡ to_bits (format precision) (round (format precision) false number 1) }
+{
+    if number == 0 {
+        return 0;
+    }
+    let leading = Leading {
+        count: number,
+        dropped: 0,
+        more: false,
+    };
+    scaled(precision, leading, 0, Power::none())
 }

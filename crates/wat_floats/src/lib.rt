@@ -5,7 +5,7 @@
 ghost use Rattle.std.specs.Prelude.{◌≡◌, false, IfOk, IsOk};
 ghost use Rattle.std.specs.Float.{binary32, binary64};
 ghost use Rattle.wat_lex.specs.grammar.Numbers.{has_underscores};
-ghost use Rattle.wat_floats.specs.Literals.{literal};
+ghost use Rattle.wat_floats.specs.Literals.{literal, of_integer};
 
 mod decimal;
 mod exponent;
@@ -33,7 +33,24 @@ pub fn f32_bits(alloc: Global, word: &str) -> Result<Option<u32>, AllocError>
     }
 }
 
+/// The bits of an integer as a number of 32 bits, by its sign and its size.
+pub fn f32_of_integer(negative: bool, size: u64) -> Option<u32>
+    ensures { result ≡ of_integer binary32 negative size }
+{
+    match literal::of_integer(Precision::Single, negative, size) {
+        Some(bits) => Some(bits as u32),
+        None => None,
+    }
+}
+
 /// The same of 64 bits.
+pub fn f64_of_integer(negative: bool, size: u64) -> Option<u64>
+    ensures { result ≡ of_integer binary64 negative size }
+{
+    literal::of_integer(Precision::Double, negative, size)
+}
+
+/// As [`f32_bits`], of a number of 64 bits.
 pub fn f64_bits(alloc: Global, word: &str) -> Result<Option<u64>, AllocError>
     ensures value { IfOk result (λ bits. bits ≡ literal binary64 word.now) }
     ensures free { has_underscores word.now ≡ false → IsOk result }

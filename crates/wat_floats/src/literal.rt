@@ -9,7 +9,7 @@ ghost use Rattle.wat_floats.specs.Rounding.{format};
 
 use crate::decimal::decimal;
 use crate::exponent::{is_negative, unsigned};
-use crate::hexadecimal::{Leading, hexadecimal, with_digits};
+use crate::hexadecimal::{Leading, hexadecimal, whole, with_digits};
 use crate::precision::Precision;
 use std::alloc::{AllocError, Global};
 
@@ -94,9 +94,31 @@ pub(crate) fn literal(
     ensures free { has_underscores word.now ≡ false → IsOk result }
     ensures small { IfOk result (λ bits. IfSome bits (λ b. b < sign_bit (format precision) * 2)) }
 {
-    match joined_magnitude(alloc, precision, unsigned(word))? {
-        Some(bits) if is_negative(word) => Ok(Some(precision.sign_bit() + bits)),
-        Some(bits) => Ok(Some(bits)),
-        None => Ok(None),
+    let magnitude = joined_magnitude(alloc, precision, unsigned(word))?;
+    Ok(signed(precision, is_negative(word), magnitude))
+}
+
+/// The bits with a sign.
+fn signed(precision: Precision, negative: bool, magnitude: Option<u64>) -> Option<u64>
+    requires { IfSome magnitude (λ b. b < sign_bit (format precision)) }
+    ensures value { result ≡ literals.signed (format precision) negative magnitude }
+    ensures small { IfSome result (λ b. b < sign_bit (format precision) * 2) }
+{
+    match magnitude {
+        Some(bits) if negative => Some(precision.sign_bit() + bits),
+        Some(bits) => Some(bits),
+        None => None,
     }
+}
+
+/// The bits that an integer denotes as a float.
+pub(crate) fn of_integer(precision: Precision, negative: bool, size: u64) -> Option<u64>
+    ensures value { result ≡ literals.of_integer (format precision) negative size }
+    ensures small { IfSome result (λ b. b < sign_bit (format precision) * 2) }
+{
+    signed(
+        precision,
+        negative,
+        finite(precision, whole(precision, size)),
+    )
 }

@@ -8,7 +8,7 @@ use Rattle.wat_instructions.specs.declared.pieces.Instruction.{Instruction}
 use Rattle.wat_instructions.specs.Grammar.{Context, after_empty, block_type, closed, instruction, is_if, plain, label_of, structured, position, is_name}
 use Rattle.wat_instructions.specs.Machine.{Part, Condition, at_condition, at_group, open_block, Operands, open_by, at_operands, bound, labels_in}
 use Rattle.wat_instructions.specs.Parts.{Stepped, part, stack}
-use Rattle.wat_instructions.specs.Terminals.{Terminal, Open, Close, Word, Id, Integer, Text, Other, Label}
+use Rattle.wat_instructions.specs.Terminals.{Terminal, Open, Close, Word, Id, Integer, Text, Float, Other, Label}
 use Rattle.wat_instructions.proofs.Stacks.{stack_top}
 
 pub at_operands_output : (context : Context) (all us left : List Terminal) (w : List ℕ) (i : Instruction) (ps qs : List Part) (out : List Instruction) → structured w ≡ None → plain context (labels_in ps) all ≡ Ok (i, left) → qs ≡ Operands i ∷ ps → Stepped (open_by context (structured w) all us ps) out out qs left
@@ -78,6 +78,7 @@ one_empty word w (Word v ∷ ts) us e k = absurd (none_is_not_some e)
 one_empty word w (Id x ∷ ts) us e k = absurd (none_is_not_some e)
 one_empty word w (Integer s n ∷ ts) us e k = absurd (none_is_not_some e)
 one_empty word w (Text v ∷ ts) us e k = absurd (none_is_not_some e)
+one_empty word w (Float narrow wide ∷ ts) us e k = absurd (none_is_not_some e)
 one_empty word w (Other ∷ ts) us e k = absurd (none_is_not_some e)
 
 -- one of another word, or that lists something, is not
@@ -90,6 +91,7 @@ other_word word w (Word v ∷ ts) k = refl
 other_word word w (Id x ∷ ts) k = refl
 other_word word w (Integer s n ∷ ts) k = refl
 other_word word w (Text v ∷ ts) k = refl
+other_word word w (Float narrow wide ∷ ts) k = refl
 other_word word w (Other ∷ ts) k = refl
 
 pub not_closed : (word w : List ℕ) (ts : List Terminal) → closed ts ≡ None → after_empty word (Open ∷ Word w ∷ ts) ≡ Open ∷ Word w ∷ ts
@@ -101,4 +103,5 @@ not_closed word w (Word v ∷ ts) e = refl
 not_closed word w (Id x ∷ ts) e = refl
 not_closed word w (Integer s n ∷ ts) e = refl
 not_closed word w (Text v ∷ ts) e = refl
+not_closed word w (Float narrow wide ∷ ts) e = refl
 not_closed word w (Other ∷ ts) e = refl

@@ -1,6 +1,8 @@
 -- What a rule leaves is no longer than what it takes from, and has the same groups open.
 use Rattle.std.proofs.Common.{◌≡◌, ◌<◌, ◌≤◌, ℕ, suc, Bool, true, false, List, [], ◌∷◌, length, Option, Some, None, Result, Ok, Err, refl, subst, ◌∙◌, arith}
 use Rattle.std.specs.Prelude.{if◌then◌else◌, bytes_eq, codes, nat_lt, ◌^◌, ℤ}
+use Rattle.std.specs.Float.{binary32, binary64}
+use Rattle.wat_floats.specs.Literals.{of_integer}
 use Rattle.wat_instructions.specs.declared.pieces.Argument.{Argument}
 use Rattle.wat_instructions.specs.declared.pieces.Argument.TheVariants as argument
 use Rattle.wat_instructions.specs.declared.pieces.Instruction.{Instruction}
@@ -11,7 +13,7 @@ use Rattle.wat_instructions.specs.declared.pieces.ValueType.{ValueType}
 use Rattle.wat_instructions.specs.declared.table.Immediate.{Immediate}
 use Rattle.wat_instructions.specs.declared.table.Immediate.TheVariants as immediate
 use Rattle.wat_instructions.specs.Table.{Mnemonic, found, mnemonics}
-use Rattle.wat_instructions.specs.Terminals.{Terminal, Open, Close, Word, Id, Integer, Text, Other, Label}
+use Rattle.wat_instructions.specs.Terminals.{Terminal, Open, Close, Word, Id, Integer, Text, Float, Other, Label}
 use Rattle.wat_instructions.specs.Grammar.{Context, Fault, Instructions, plain, label_of, end_label, after_empty, result_type, block_type}
 use Rattle.wat_instructions.specs.Grammar as grammar
 use Rattle.wat_instructions.specs.Memory as memory
@@ -64,6 +66,7 @@ index_keeps ls (Open ∷ ts) = tt
 index_keeps ls (Close ∷ ts) = tt
 index_keeps ls (Word w ∷ ts) = tt
 index_keeps ls (Text v ∷ ts) = tt
+index_keeps ls (Float narrow wide ∷ ts) = tt
 index_keeps ls (Other ∷ ts) = tt
 
 with_index_keeps : (q : Result (ℕ × List Terminal) Fault) (ts : List Terminal) → Keeps q ts → Keeps (grammar.with_index q) ts
@@ -86,6 +89,7 @@ i32_keeps (Open ∷ ts) = tt
 i32_keeps (Close ∷ ts) = tt
 i32_keeps (Word w ∷ ts) = tt
 i32_keeps (Text v ∷ ts) = tt
+i32_keeps (Float narrow wide ∷ ts) = tt
 i32_keeps (Other ∷ ts) = tt
 
 i64_keeps : (ts : List Terminal) → Keeps (grammar.i64 ts) ts
@@ -96,7 +100,43 @@ i64_keeps (Open ∷ ts) = tt
 i64_keeps (Close ∷ ts) = tt
 i64_keeps (Word w ∷ ts) = tt
 i64_keeps (Text v ∷ ts) = tt
+i64_keeps (Float narrow wide ∷ ts) = tt
 i64_keeps (Other ∷ ts) = tt
+
+f32_by_keeps : (o : Option ℕ) (all ts : List Terminal) → Passes all ts → Keeps (grammar.f32_by o all ts) all
+f32_by_keeps (Some n) all ts h = h
+f32_by_keeps None all ts h = tt
+
+f64_by_keeps : (o : Option ℕ) (all ts : List Terminal) → Passes all ts → Keeps (grammar.f64_by o all ts) all
+f64_by_keeps (Some n) all ts h = h
+f64_by_keeps None all ts h = tt
+
+after_float : (narrow wide : Option ℕ) (ts : List Terminal) → Passes (Float narrow wide ∷ ts) ts
+after_float narrow wide ts = record { short = omega arith; same = λ d. refl }
+
+f32_keeps : (ts : List Terminal) → Keeps (grammar.f32 ts) ts
+f32_keeps [] = tt
+f32_keeps (Integer s n ∷ ts) = f32_by_keeps (of_integer binary32 (grammar.is_minus s) n) (Integer s n ∷ ts) ts (after_integer s n ts)
+f32_keeps (Float narrow wide ∷ ts) = f32_by_keeps narrow (Float narrow wide ∷ ts) ts (after_float narrow wide ts)
+f32_keeps (Id x ∷ ts) = tt
+f32_keeps (Open ∷ ts) = tt
+f32_keeps (Close ∷ ts) = tt
+f32_keeps (Word w ∷ ts) = tt
+f32_keeps (Text v ∷ ts) = tt
+f32_keeps (Float narrow wide ∷ ts) = tt
+f32_keeps (Other ∷ ts) = tt
+
+f64_keeps : (ts : List Terminal) → Keeps (grammar.f64 ts) ts
+f64_keeps [] = tt
+f64_keeps (Integer s n ∷ ts) = f64_by_keeps (of_integer binary64 (grammar.is_minus s) n) (Integer s n ∷ ts) ts (after_integer s n ts)
+f64_keeps (Float narrow wide ∷ ts) = f64_by_keeps wide (Float narrow wide ∷ ts) ts (after_float narrow wide ts)
+f64_keeps (Id x ∷ ts) = tt
+f64_keeps (Open ∷ ts) = tt
+f64_keeps (Close ∷ ts) = tt
+f64_keeps (Word w ∷ ts) = tt
+f64_keeps (Text v ∷ ts) = tt
+f64_keeps (Float narrow wide ∷ ts) = tt
+f64_keeps (Other ∷ ts) = tt
 
 pub on : (ts us vs : List Terminal) → Passes ts us → Passes us vs → Passes ts vs
 on ts us vs h k = record { short = omega (arith, h.short, k.short); same = λ d. h.same d ∙ k.same d }
@@ -113,6 +153,7 @@ offset_passes (Close ∷ ts) = stay (Close ∷ ts)
 offset_passes (Id x ∷ ts) = stay (Id x ∷ ts)
 offset_passes (Integer s n ∷ ts) = stay (Integer s n ∷ ts)
 offset_passes (Text v ∷ ts) = stay (Text v ∷ ts)
+offset_passes (Float narrow wide ∷ ts) = stay (Float narrow wide ∷ ts)
 offset_passes (Other ∷ ts) = stay (Other ∷ ts)
 
 align_passes : (n : ℕ) (ts : List Terminal) → Passes ts (grammar.align_of n ts).1
@@ -123,6 +164,7 @@ align_passes n (Close ∷ ts) = stay (Close ∷ ts)
 align_passes n (Id x ∷ ts) = stay (Id x ∷ ts)
 align_passes n (Integer s m ∷ ts) = stay (Integer s m ∷ ts)
 align_passes n (Text v ∷ ts) = stay (Text v ∷ ts)
+align_passes n (Float narrow wide ∷ ts) = stay (Float narrow wide ∷ ts)
 align_passes n (Other ∷ ts) = stay (Other ∷ ts)
 
 memory_keeps : (n : ℕ) (ts : List Terminal) → Passes ts (grammar.memory_of n ts).1
@@ -136,6 +178,8 @@ immediate_keeps context ls immediate.Func ts = with_index_keeps (grammar.index c
 immediate_keeps context ls immediate.Global ts = with_index_keeps (grammar.index context.globals ts) ts (index_keeps context.globals ts)
 immediate_keeps context ls immediate.I32 ts = i32_keeps ts
 immediate_keeps context ls immediate.I64 ts = i64_keeps ts
+immediate_keeps context ls immediate.F32 ts = f32_keeps ts
+immediate_keeps context ls immediate.F64 ts = f64_keeps ts
 immediate_keeps context ls (immediate.Memory natural) ts = memory_keeps natural ts
 immediate_keeps context ls immediate.Zero ts = stay ts
 
@@ -184,6 +228,7 @@ label_passes (Close ∷ ts) = stay (Close ∷ ts)
 label_passes (Word w ∷ ts) = stay (Word w ∷ ts)
 label_passes (Integer s n ∷ ts) = stay (Integer s n ∷ ts)
 label_passes (Text v ∷ ts) = stay (Text v ∷ ts)
+label_passes (Float narrow wide ∷ ts) = stay (Float narrow wide ∷ ts)
 label_passes (Other ∷ ts) = stay (Other ∷ ts)
 
 abbrev pub KeepsAll : Result (List Terminal) Fault → List Terminal → Type 0
@@ -202,6 +247,7 @@ end_keeps l (Close ∷ ts) = stay (Close ∷ ts)
 end_keeps l (Word w ∷ ts) = stay (Word w ∷ ts)
 end_keeps l (Integer s n ∷ ts) = stay (Integer s n ∷ ts)
 end_keeps l (Text v ∷ ts) = stay (Text v ∷ ts)
+end_keeps l (Float narrow wide ∷ ts) = stay (Float narrow wide ∷ ts)
 end_keeps l (Other ∷ ts) = stay (Other ∷ ts)
 
 pub end_passes : (l : Label) (ts us : List Terminal) → end_label l ts ≡ Ok us → Passes ts us
@@ -221,6 +267,7 @@ empty_passes word (Open ∷ Word w ∷ Word v ∷ ts) = stay (Open ∷ Word w �
 empty_passes word (Open ∷ Word w ∷ Id x ∷ ts) = stay (Open ∷ Word w ∷ Id x ∷ ts)
 empty_passes word (Open ∷ Word w ∷ Integer s n ∷ ts) = stay (Open ∷ Word w ∷ Integer s n ∷ ts)
 empty_passes word (Open ∷ Word w ∷ Text v ∷ ts) = stay (Open ∷ Word w ∷ Text v ∷ ts)
+empty_passes word (Open ∷ Word w ∷ Float narrow wide ∷ ts) = stay (Open ∷ Word w ∷ Float narrow wide ∷ ts)
 empty_passes word (Open ∷ Word w ∷ Other ∷ ts) = stay (Open ∷ Word w ∷ Other ∷ ts)
 empty_passes word (Open ∷ []) = stay (Open ∷ [])
 empty_passes word (Open ∷ Open ∷ ts) = stay (Open ∷ Open ∷ ts)
@@ -228,12 +275,14 @@ empty_passes word (Open ∷ Close ∷ ts) = stay (Open ∷ Close ∷ ts)
 empty_passes word (Open ∷ Id x ∷ ts) = stay (Open ∷ Id x ∷ ts)
 empty_passes word (Open ∷ Integer s n ∷ ts) = stay (Open ∷ Integer s n ∷ ts)
 empty_passes word (Open ∷ Text v ∷ ts) = stay (Open ∷ Text v ∷ ts)
+empty_passes word (Open ∷ Float narrow wide ∷ ts) = stay (Open ∷ Float narrow wide ∷ ts)
 empty_passes word (Open ∷ Other ∷ ts) = stay (Open ∷ Other ∷ ts)
 empty_passes word (Close ∷ ts) = stay (Close ∷ ts)
 empty_passes word (Word v ∷ ts) = stay (Word v ∷ ts)
 empty_passes word (Id x ∷ ts) = stay (Id x ∷ ts)
 empty_passes word (Integer s n ∷ ts) = stay (Integer s n ∷ ts)
 empty_passes word (Text v ∷ ts) = stay (Text v ∷ ts)
+empty_passes word (Float narrow wide ∷ ts) = stay (Float narrow wide ∷ ts)
 empty_passes word (Other ∷ ts) = stay (Other ∷ ts)
 
 close_type_ends : (t : ValueType) (ts : List Terminal) → Closing (grammar.close_type t ts) ts
@@ -244,6 +293,7 @@ close_type_ends t (Word v ∷ ts) = tt
 close_type_ends t (Id x ∷ ts) = tt
 close_type_ends t (Integer s n ∷ ts) = tt
 close_type_ends t (Text v ∷ ts) = tt
+close_type_ends t (Float narrow wide ∷ ts) = tt
 close_type_ends t (Other ∷ ts) = tt
 
 word_ends : (w : List ℕ) (q : Result (Argument × List Terminal) Fault) (ts : List Terminal) → Closing q ts → Closing q (Word w ∷ ts)
@@ -262,6 +312,7 @@ one_type_ends (Close ∷ ts) = tt
 one_type_ends (Id x ∷ ts) = tt
 one_type_ends (Integer s n ∷ ts) = tt
 one_type_ends (Text v ∷ ts) = tt
+one_type_ends (Float narrow wide ∷ ts) = tt
 one_type_ends (Other ∷ ts) = tt
 
 opened : (w : List ℕ) (q : Result (Argument × List Terminal) Fault) (ts : List Terminal) → Closing q ts → Keeps q (Open ∷ Word w ∷ ts)
@@ -280,6 +331,7 @@ type_by_keeps (Close ∷ ts) = stay (Open ∷ Close ∷ ts)
 type_by_keeps (Id x ∷ ts) = stay (Open ∷ Id x ∷ ts)
 type_by_keeps (Integer s n ∷ ts) = stay (Open ∷ Integer s n ∷ ts)
 type_by_keeps (Text v ∷ ts) = stay (Open ∷ Text v ∷ ts)
+type_by_keeps (Float narrow wide ∷ ts) = stay (Open ∷ Float narrow wide ∷ ts)
 type_by_keeps (Other ∷ ts) = stay (Open ∷ Other ∷ ts)
 
 result_type_keeps : (ts : List Terminal) → Keeps (result_type ts) ts
@@ -291,6 +343,7 @@ result_type_keeps (Word w ∷ ts) = stay (Word w ∷ ts)
 result_type_keeps (Id x ∷ ts) = stay (Id x ∷ ts)
 result_type_keeps (Integer s n ∷ ts) = stay (Integer s n ∷ ts)
 result_type_keeps (Text v ∷ ts) = stay (Text v ∷ ts)
+result_type_keeps (Float narrow wide ∷ ts) = stay (Float narrow wide ∷ ts)
 result_type_keeps (Other ∷ ts) = stay (Other ∷ ts)
 
 on_keeps : {A : Type 0} (q : Result (A × List Terminal) Fault) (ts us : List Terminal) → Passes ts us → Keeps q us → Keeps q ts

@@ -6,7 +6,7 @@ use Rattle.wat_instructions.specs.declared.pieces.Argument.{Argument}
 use Rattle.wat_instructions.specs.Table.{mnemonics, low, high}
 use Rattle.wat_instructions.specs.declared.pieces.Instruction.{Instruction}
 use Rattle.wat_instructions.specs.declared.pieces.FaultKind.TheVariants.{Unexpected, UnknownWord}
-use Rattle.wat_instructions.specs.Terminals.{Terminal, Open, Close, Word, Id, Integer, Text, Other, Label}
+use Rattle.wat_instructions.specs.Terminals.{Terminal, Open, Close, Word, Id, Integer, Text, Float, Other, Label}
 use Rattle.wat_instructions.specs.Grammar.{Context, Fault, Instructions, plain, label_of, end_label, structured, is_end, is_else, is_then, is_if, block_type, instruction, end, otherwise}
 use Rattle.wat_instructions.specs.Grammar as grammar
 use Rattle.wat_instructions.specs.Machine.{Part, Body, Block, Group, Operands, Condition, Then, Else, Step, only_folded, bound, labels_in, step, run, run_by, output_before, word_by, open_by, open_block, folded_by, word_step, open_step, at_plain, at_operands, at_block, at_group, at_condition, turned, ended}
@@ -217,6 +217,7 @@ open_back context p ps (Close ∷ ts) is r h = absurd h
 open_back context p ps (Id x ∷ ts) is r h = absurd h
 open_back context p ps (Integer s n ∷ ts) is r h = absurd h
 open_back context p ps (Text v ∷ ts) is r h = absurd h
+open_back context p ps (Float narrow wide ∷ ts) is r h = absurd h
 open_back context p ps (Other ∷ ts) is r h = absurd h
 
 -- `else` after `then`
@@ -239,6 +240,7 @@ other_step_back context l ps (Close ∷ ts) is r h = absurd h
 other_step_back context l ps (Id x ∷ ts) is r h = absurd h
 other_step_back context l ps (Integer s n ∷ ts) is r h = absurd h
 other_step_back context l ps (Text v ∷ ts) is r h = absurd h
+other_step_back context l ps (Float narrow wide ∷ ts) is r h = absurd h
 other_step_back context l ps (Other ∷ ts) is r h = absurd h
 
 then_step_back : (context : Context) (l : Label) (ps : List Part) (ts : List Terminal) → Back context (Then l) ps (Close ∷ ts) (machine.then_step l ts ps)
@@ -249,6 +251,7 @@ then_step_back context l ps (Word w ∷ ts) is r h = absurd h
 then_step_back context l ps (Id x ∷ ts) is r h = absurd h
 then_step_back context l ps (Integer s n ∷ ts) is r h = absurd h
 then_step_back context l ps (Text v ∷ ts) is r h = absurd h
+then_step_back context l ps (Float narrow wide ∷ ts) is r h = absurd h
 then_step_back context l ps (Other ∷ ts) is r h = absurd h
 
 else_step_back : (context : Context) (l : Label) (ps : List Part) (ts : List Terminal) → Back context (Else l) ps (Close ∷ ts) (machine.else_step ts ps)
@@ -259,6 +262,7 @@ else_step_back context l ps (Word w ∷ ts) is r h = absurd h
 else_step_back context l ps (Id x ∷ ts) is r h = absurd h
 else_step_back context l ps (Integer s n ∷ ts) is r h = absurd h
 else_step_back context l ps (Text v ∷ ts) is r h = absurd h
+else_step_back context l ps (Float narrow wide ∷ ts) is r h = absurd h
 else_step_back context l ps (Other ∷ ts) is r h = absurd h
 
 close_back : (context : Context) (p : Part) (ps : List Part) (ts : List Terminal) → Back context p ps (Close ∷ ts) (machine.close_step p (Close ∷ ts) ts ps)
@@ -288,6 +292,7 @@ back context p ps (Word w ∷ ts) is r h = any_word_back context p ps w ts is r 
 back context p ps (Id x ∷ ts) is r h = absurd h
 back context p ps (Integer s n ∷ ts) is r h = absurd h
 back context p ps (Text v ∷ ts) is r h = absurd h
+back context p ps (Float narrow wide ∷ ts) is r h = absurd h
 back context p ps (Other ∷ ts) is r h = absurd h
 
 -- The other way.
@@ -378,6 +383,7 @@ open_takes context p (Close ∷ ts) ps = tt
 open_takes context p (Id x ∷ ts) ps = tt
 open_takes context p (Integer s n ∷ ts) ps = tt
 open_takes context p (Text v ∷ ts) ps = tt
+open_takes context p (Float narrow wide ∷ ts) ps = tt
 open_takes context p (Other ∷ ts) ps = tt
 
 other_by_takes : (d : Bool) (l : Label) (w : List ℕ) (ts : List Terminal) (ps : List Part) → Left (if d then machine.other_part l ts ps else Err (Unexpected, Word w ∷ ts)) (suc (suc (suc (length ts))))
@@ -392,6 +398,7 @@ other_takes l (Close ∷ ts) ps = tt
 other_takes l (Id x ∷ ts) ps = tt
 other_takes l (Integer s n ∷ ts) ps = tt
 other_takes l (Text v ∷ ts) ps = tt
+other_takes l (Float narrow wide ∷ ts) ps = tt
 other_takes l (Other ∷ ts) ps = tt
 
 then_step_takes : (l : Label) (ts : List Terminal) (ps : List Part) → Left (machine.then_step l ts ps) (suc (length ts))
@@ -402,6 +409,7 @@ then_step_takes l (Word w ∷ ts) ps = tt
 then_step_takes l (Id x ∷ ts) ps = tt
 then_step_takes l (Integer s n ∷ ts) ps = tt
 then_step_takes l (Text v ∷ ts) ps = tt
+then_step_takes l (Float narrow wide ∷ ts) ps = tt
 then_step_takes l (Other ∷ ts) ps = tt
 
 else_step_takes : (ts : List Terminal) (ps : List Part) → Left (machine.else_step ts ps) (suc (length ts))
@@ -412,6 +420,7 @@ else_step_takes (Word w ∷ ts) ps = tt
 else_step_takes (Id x ∷ ts) ps = tt
 else_step_takes (Integer s n ∷ ts) ps = tt
 else_step_takes (Text v ∷ ts) ps = tt
+else_step_takes (Float narrow wide ∷ ts) ps = tt
 else_step_takes (Other ∷ ts) ps = tt
 
 close_takes : (p : Part) (ts : List Terminal) (ps : List Part) → Left (machine.close_step p (Close ∷ ts) ts ps) (suc (length ts))
@@ -432,6 +441,7 @@ takes context p ps (Word w ∷ ts) = any_word_takes context p w ts ps
 takes context p ps (Id x ∷ ts) = tt
 takes context p ps (Integer s n ∷ ts) = tt
 takes context p ps (Text v ∷ ts) = tt
+takes context p ps (Float narrow wide ∷ ts) = tt
 takes context p ps (Other ∷ ts) = tt
 
 pub step_takes : (context : Context) (p : Part) (ps : List Part) (ts : List Terminal) (s : Step) → step context p ps ts ≡ Ok s → length s.left < length ts

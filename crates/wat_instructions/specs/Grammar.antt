@@ -3,6 +3,8 @@
 -- the binary format has them (5.4): `end` and `else` are among them, and a folded instruction comes after its operands.
 -- Which fault a text has that the grammar does not spell is no part of the standard: a rule of our own.
 use Rattle.std.specs.Prelude.{◌≡◌, ℕ, suc, Bool, true, false, List, [], ◌∷◌, ◌++◌, codes, Option, Some, None, Result, Ok, Err, bytes_eq, nat_lt, nat_le, ◌^◌, ◌*◌, ◌==◌, if◌then◌else◌, ℤ, pos, ◌-ℤ◌}
+use Rattle.std.specs.Float.{binary32, binary64}
+use Rattle.wat_floats.specs.Literals.{of_integer}
 use Rattle.wat_instructions.specs.declared.pieces.Argument.{Argument}
 use Rattle.wat_instructions.specs.declared.pieces.Argument.TheVariants as argument
 use Rattle.wat_instructions.specs.declared.pieces.Instruction.{Instruction}
@@ -16,7 +18,7 @@ use Rattle.wat_instructions.specs.declared.table.Immediate.{Immediate}
 use Rattle.wat_instructions.specs.declared.table.Immediate.TheVariants as immediate
 use Rattle.wat_instructions.specs.Memory.{offset, align}
 use Rattle.wat_instructions.specs.Table.{Mnemonic, found, mnemonics}
-use Rattle.wat_instructions.specs.Terminals.{Terminal, Open, Close, Word, Id, Integer, Label}
+use Rattle.wat_instructions.specs.Terminals.{Terminal, Open, Close, Word, Id, Integer, Float, Label}
 
 -- what is wrong, and the tokens from the one where it is
 abbrev pub Fault : Type 0
@@ -82,6 +84,29 @@ abbrev pub i64 : List Terminal → Result (Argument × List Terminal) Fault
 i64 (Integer s n ∷ ts) = i64_by (signed (2 ^ 63) s n) (Integer s n ∷ ts) ts
 i64 ts = Err (Unexpected, ts)
 
+-- 6.3.2 floating-point: a float, or an integer as a float
+abbrev pub is_minus : Sign → Bool
+is_minus sign.Minus = true
+is_minus s = false
+
+abbrev pub f32_by : Option ℕ → List Terminal → List Terminal → Result (Argument × List Terminal) Fault
+f32_by (Some bits) all ts = Ok (argument.F32 bits, ts)
+f32_by None all ts = Err (OutOfRange, all)
+
+abbrev pub f64_by : Option ℕ → List Terminal → List Terminal → Result (Argument × List Terminal) Fault
+f64_by (Some bits) all ts = Ok (argument.F64 bits, ts)
+f64_by None all ts = Err (OutOfRange, all)
+
+abbrev pub f32 : List Terminal → Result (Argument × List Terminal) Fault
+f32 (Integer s n ∷ ts) = f32_by (of_integer binary32 (is_minus s) n) (Integer s n ∷ ts) ts
+f32 (Float narrow wide ∷ ts) = f32_by narrow (Float narrow wide ∷ ts) ts
+f32 ts = Err (Unexpected, ts)
+
+abbrev pub f64 : List Terminal → Result (Argument × List Terminal) Fault
+f64 (Integer s n ∷ ts) = f64_by (of_integer binary64 (is_minus s) n) (Integer s n ∷ ts) ts
+f64 (Float narrow wide ∷ ts) = f64_by wide (Float narrow wide ∷ ts) ts
+f64 ts = Err (Unexpected, ts)
+
 abbrev pub number_or : ℕ → Option ℕ → List Terminal → List Terminal → ℕ × List Terminal
 number_or n (Some m) all ts = (m, ts)
 number_or n None all ts = (n, all)
@@ -109,6 +134,8 @@ immediate_of context ls immediate.Func ts = with_index (index context.funcs ts)
 immediate_of context ls immediate.Global ts = with_index (index context.globals ts)
 immediate_of context ls immediate.I32 ts = i32 ts
 immediate_of context ls immediate.I64 ts = i64 ts
+immediate_of context ls immediate.F32 ts = f32 ts
+immediate_of context ls immediate.F64 ts = f64 ts
 immediate_of context ls (immediate.Memory natural) ts = Ok (memory_of natural ts)
 immediate_of context ls immediate.Zero ts = Ok (argument.Zero, ts)
 

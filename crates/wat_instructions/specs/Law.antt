@@ -1,7 +1,7 @@
 -- What the code does is what the grammar spells; and what it spells has as many `(` as `)`.
 use Rattle.std.specs.Prelude.{◌≡◌, ◌≤◌, ◌↔◌, length, ℕ, zero, suc, List, [], ◌∷◌, Bool, Ok}
 use Rattle.wat_instructions.specs.declared.pieces.Instruction.{Instruction}
-use Rattle.wat_instructions.specs.Terminals.{Terminal, Open, Close, Word, Id, Integer, Text, Other, Label}
+use Rattle.wat_instructions.specs.Terminals.{Terminal, Open, Close, Word, Id, Integer, Text, Float, Other, Label}
 use Rattle.wat_instructions.specs.Grammar.{Context, Instructions}
 use Rattle.wat_instructions.specs.Grammar as grammar
 use Rattle.wat_instructions.specs.Machine as machine
@@ -20,6 +20,7 @@ past d (Word w ∷ ts) = past d ts
 past d (Id x ∷ ts) = past d ts
 past d (Integer s n ∷ ts) = past d ts
 past d (Text v ∷ ts) = past d ts
+past d (Float narrow wide ∷ ts) = past d ts
 past d (Other ∷ ts) = past d ts
 
 -- Who passes over the tokens of instructions by their parentheses comes to the same place.

@@ -1,11 +1,11 @@
 -- WebAssembly 2.0 specification, 6.5 (text format, instructions: 6.5.2 control, 6.5.4 parametric, 6.5.5 variable, 6.5.7 memory, 6.5.8 numeric) and 5.4
 -- (binary format, instructions). The plain instructions: the word, the first byte, and which immediate they have. Words whose bytes follow one another are
--- one line. Left out of 2.0: br_table, call_indirect, select with types, floating-point constants, references, tables, bulk memory, saturating
+-- one line. Left out of 2.0: br_table, call_indirect, select with types, references, tables, bulk memory, saturating
 -- conversions, vectors.
 use Rattle.std.specs.Prelude.{ℕ, suc, List, [], ◌∷◌, ◌++◌, ◌==◌, codes, Option, Some, None, bytes_eq, if◌then◌else◌}
 use Rattle.wat_instructions.specs.declared.table.Row.{Row}
 use Rattle.wat_instructions.specs.declared.table.Immediate.{Immediate}
-use Rattle.wat_instructions.specs.declared.table.Immediate.TheVariants.{No, Local, Label, Func, Global, I32, I64, Memory, Zero}
+use Rattle.wat_instructions.specs.declared.table.Immediate.TheVariants.{No, Local, Label, Func, Global, I32, I64, F32, F64, Memory, Zero}
 
 pub record Mnemonic : Type 0 where
   pub word : List ℕ
@@ -66,6 +66,8 @@ low =
     from 0x3F Zero (codes "memory.size memory.grow") ++
     from 0x41 I32 (codes "i32.const") ++
     from 0x42 I64 (codes "i64.const") ++
+    from 0x43 F32 (codes "f32.const") ++
+    from 0x44 F64 (codes "f64.const") ++
     from 0x45 No (codes "i32.eqz i32.eq i32.ne i32.lt_s i32.lt_u i32.gt_s i32.gt_u i32.le_s i32.le_u i32.ge_s i32.ge_u i64.eqz i64.eq i64.ne") ++
     from 0x53 No (codes "i64.lt_s i64.lt_u i64.gt_s i64.gt_u i64.le_s i64.le_u i64.ge_s i64.ge_u f32.eq f32.ne f32.lt f32.gt f32.le f32.ge") ++
     from 0x61 No (codes "f64.eq f64.ne f64.lt f64.gt f64.le f64.ge i32.clz i32.ctz i32.popcnt i32.add i32.sub i32.mul i32.div_s i32.div_u") ++

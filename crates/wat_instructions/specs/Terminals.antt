@@ -17,6 +17,8 @@ pub data Terminal : Type 0 where
   Id : List ℕ → Terminal
   -- an integer: its sign, and how large it is, below 2 ^ 64
   Integer : Sign → ℕ → Terminal
+  -- another number: its bits as a float of 32 and of 64 bits, where it is in range
+  Float : Option ℕ → Option ℕ → Terminal
   -- a string, by its value
   Text : List ℕ → Terminal
   -- any other token: no rule takes it
@@ -29,6 +31,7 @@ terminal piece.Close = Close
 terminal (piece.Word w) = Word w.now
 terminal (piece.Id x) = Id x.now
 terminal (piece.Integer s n) = Integer s n
+terminal (piece.Float narrow wide) = Float narrow wide
 terminal (piece.Text v) = Text v.now
 terminal piece.Other = Other
 

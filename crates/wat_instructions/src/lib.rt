@@ -3,6 +3,7 @@
 //! labels; folded instructions are laid out after their operands.
 #![tactic(auto)]
 
+mod floats;
 pub mod laws;
 pub mod machine;
 mod memory;

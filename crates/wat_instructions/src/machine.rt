@@ -110,7 +110,11 @@ fn step<'p, 'a>(
         [Piece::Close, rest @ ..] => closed(frame, frames, out, pieces, rest),
         [Piece::Word(word), rest @ ..] => at_word(scope, frame, frames, out, word, pieces, rest),
         [
-            Piece::Id(_) | Piece::Integer(_, _) | Piece::Text(_) | Piece::Other,
+            Piece::Id(_)
+            | Piece::Integer(_, _)
+            | Piece::Text(_)
+            | Piece::Float(_, _)
+            | Piece::Other,
             ..
         ] => Err(Refusal::Text(Fault {
             kind: FaultKind::Unexpected,
@@ -179,6 +183,7 @@ fn after_else<'p, 'a>(
             | Piece::Id(_)
             | Piece::Integer(_, _)
             | Piece::Text(_)
+            | Piece::Float(_, _)
             | Piece::Other,
             ..
         ] => Err(Refusal::Text(Fault {
@@ -210,7 +215,12 @@ fn after_then<'p, 'a>(
         }
         [Piece::Open, rest @ ..] => other_part(label, frames, out, rest),
         [
-            Piece::Word(_) | Piece::Id(_) | Piece::Integer(_, _) | Piece::Text(_) | Piece::Other,
+            Piece::Word(_)
+            | Piece::Id(_)
+            | Piece::Integer(_, _)
+            | Piece::Text(_)
+            | Piece::Float(_, _)
+            | Piece::Other,
             ..
         ] => Err(Refusal::Text(Fault {
             kind: FaultKind::Unexpected,
@@ -252,6 +262,7 @@ fn other_part<'p, 'a>(
             | Piece::Id(_)
             | Piece::Integer(_, _)
             | Piece::Text(_)
+            | Piece::Float(_, _)
             | Piece::Other,
             ..
         ] => Err(Refusal::Text(Fault {
@@ -304,6 +315,7 @@ fn folded<'p, 'a>(
             | Piece::Id(_)
             | Piece::Integer(_, _)
             | Piece::Text(_)
+            | Piece::Float(_, _)
             | Piece::Other,
             ..
         ] => Err(Refusal::Text(Fault {

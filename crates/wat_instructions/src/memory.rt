@@ -34,6 +34,7 @@ fn offset_at<'p, 'a>(pieces: &'p [Piece<'a>]) -> (u32, &'p [Piece<'a>])
             | Piece::Id(_)
             | Piece::Integer(_, _)
             | Piece::Text(_)
+            | Piece::Float(_, _)
             | Piece::Other,
             ..
         ] => (0, pieces),
@@ -57,6 +58,7 @@ fn align_at<'p, 'a>(natural: u8, pieces: &'p [Piece<'a>]) -> (u8, &'p [Piece<'a>
             | Piece::Id(_)
             | Piece::Integer(_, _)
             | Piece::Text(_)
+            | Piece::Float(_, _)
             | Piece::Other,
             ..
         ] => (natural, pieces),

@@ -24,6 +24,8 @@ pub enum Piece<'a> {
     Id(&'a str),
     /// An integer below 2^64 in size.
     Integer(Sign, u64),
+    /// Another number: its bits as a float of 32 and of 64 bits, where it is in range.
+    Float(Option<u32>, Option<u64>),
     /// A string, by its value.
     Text(&'a [u8]),
     /// Any other token: no rule takes it.
@@ -65,6 +67,9 @@ pub enum Argument {
     Index(usize),
     I32(i32),
     I64(i64),
+    /// The bits of a float.
+    F32(u32),
+    F64(u64),
     /// The type of a block: one result, or none.
     Block(Option<ValueType>),
     /// A memory argument: the exponent of its alignment, and its offset.

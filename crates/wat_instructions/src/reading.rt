@@ -5,10 +5,10 @@ ghost use Rattle.wat_instructions.specs.Machine.{bound, labels_in};
 ghost use Rattle.wat_instructions.specs.Parts.{fault_of, part, scope_of, stack};
 ghost use Rattle.wat_instructions.specs.Terminals.{Open, Word, label, terminal};
 
-use crate::memory;
 use crate::names::IndexedNames;
 use crate::pieces::{Argument, Fault, FaultKind, Frame, Instruction, Name, Piece, Sign, ValueType};
 use crate::table::{self, Immediate};
+use crate::{floats, memory};
 
 /// The names of the items of five index spaces, each in the order of their indices.
 #[derive(Clone, Copy)]
@@ -82,7 +82,12 @@ pub fn index<'p, 'a>(
             }),
         },
         [
-            Piece::Open | Piece::Close | Piece::Word(_) | Piece::Text(_) | Piece::Other,
+            Piece::Open
+            | Piece::Close
+            | Piece::Word(_)
+            | Piece::Text(_)
+            | Piece::Float(_, _)
+            | Piece::Other,
             ..
         ] => Err(Fault {
             kind: FaultKind::Unexpected,
@@ -127,7 +132,12 @@ fn label_number<'p, 'a>(
             }),
         },
         [
-            Piece::Open | Piece::Close | Piece::Word(_) | Piece::Text(_) | Piece::Other,
+            Piece::Open
+            | Piece::Close
+            | Piece::Word(_)
+            | Piece::Text(_)
+            | Piece::Float(_, _)
+            | Piece::Other,
             ..
         ] => Err(Fault {
             kind: FaultKind::Unexpected,
@@ -217,6 +227,7 @@ fn number_32<'p, 'a>(pieces: &'p [Piece<'a>]) -> Result<(Argument, &'p [Piece<'a
             | Piece::Word(_)
             | Piece::Id(_)
             | Piece::Text(_)
+            | Piece::Float(_, _)
             | Piece::Other,
             ..
         ] => Err(Fault {
@@ -279,6 +290,7 @@ fn number_64<'p, 'a>(pieces: &'p [Piece<'a>]) -> Result<(Argument, &'p [Piece<'a
             | Piece::Word(_)
             | Piece::Id(_)
             | Piece::Text(_)
+            | Piece::Float(_, _)
             | Piece::Other,
             ..
         ] => Err(Fault {
@@ -311,6 +323,8 @@ fn immediate<'p, 'a>(
         Immediate::Global => name_argument(scope.globals, pieces),
         Immediate::I32 => number_32(pieces),
         Immediate::I64 => number_64(pieces),
+        Immediate::F32 => floats::float_32(pieces),
+        Immediate::F64 => floats::float_64(pieces),
         Immediate::Memory(natural) => Ok(memory::argument(natural, pieces)),
         Immediate::Zero => Ok((Argument::Zero, pieces)),
     }
@@ -345,6 +359,7 @@ pub fn plain<'p, 'a>(
             | Piece::Id(_)
             | Piece::Integer(_, _)
             | Piece::Text(_)
+            | Piece::Float(_, _)
             | Piece::Other,
             ..
         ] => Err(Fault {
@@ -371,6 +386,7 @@ pub fn label<'p, 'a>(pieces: &'p [Piece<'a>]) -> (Name<'p>, &'p [Piece<'a>])
             | Piece::Word(_)
             | Piece::Integer(_, _)
             | Piece::Text(_)
+            | Piece::Float(_, _)
             | Piece::Other,
             ..
         ] => (Name::Absent, pieces),
@@ -404,6 +420,7 @@ pub fn end_label<'p, 'a>(
             | Piece::Word(_)
             | Piece::Integer(_, _)
             | Piece::Text(_)
+            | Piece::Float(_, _)
             | Piece::Other,
             ..
         ] => Ok(pieces),
@@ -515,6 +532,7 @@ fn empty_group<'p, 'a>(word: &str, pieces: &'p [Piece<'a>]) -> Option<&'p [Piece
             | Piece::Id(_)
             | Piece::Integer(_, _)
             | Piece::Text(_)
+            | Piece::Float(_, _)
             | Piece::Other,
             ..
         ] => None,
@@ -538,6 +556,7 @@ fn empty_word<'p, 'a>(word: &str, pieces: &'p [Piece<'a>]) -> Option<&'p [Piece<
             | Piece::Id(_)
             | Piece::Integer(_, _)
             | Piece::Text(_)
+            | Piece::Float(_, _)
             | Piece::Other,
             ..
         ] => None,
@@ -572,6 +591,7 @@ fn after_close<'p, 'a>(pieces: &'p [Piece<'a>]) -> Option<&'p [Piece<'a>]>
             | Piece::Id(_)
             | Piece::Integer(_, _)
             | Piece::Text(_)
+            | Piece::Float(_, _)
             | Piece::Other,
             ..
         ] => None,
@@ -607,6 +627,7 @@ fn result_type<'p, 'a>(
             | Piece::Id(_)
             | Piece::Integer(_, _)
             | Piece::Text(_)
+            | Piece::Float(_, _)
             | Piece::Other,
             ..
         ] => Ok((Argument::Block(None), pieces)),
@@ -637,6 +658,7 @@ fn type_after<'p, 'a>(
             | Piece::Id(_)
             | Piece::Integer(_, _)
             | Piece::Text(_)
+            | Piece::Float(_, _)
             | Piece::Other,
             ..
         ] => Ok((Argument::Block(None), all)),
@@ -664,6 +686,7 @@ fn one_type<'p, 'a>(pieces: &'p [Piece<'a>]) -> Result<(Argument, &'p [Piece<'a>
             | Piece::Id(_)
             | Piece::Integer(_, _)
             | Piece::Text(_)
+            | Piece::Float(_, _)
             | Piece::Other,
             ..
         ] => Err(Fault {
@@ -694,6 +717,7 @@ fn close_type<'p, 'a>(
             | Piece::Id(_)
             | Piece::Integer(_, _)
             | Piece::Text(_)
+            | Piece::Float(_, _)
             | Piece::Other,
             ..
         ] => Err(Fault {

@@ -12,6 +12,8 @@ pub enum Immediate {
     Global,
     I32,
     I64,
+    F32,
+    F64,
     /// A memory argument, whose natural alignment has this exponent.
     Memory(u8),
     /// None in the text, a byte 0 in the binary format.
@@ -36,7 +38,7 @@ macro_rules! row {
     };
 }
 
-const LOW: [Row; 99] = [
+const LOW: [Row; 101] = [
     row!("unreachable", 0x00, Immediate::No),
     row!("nop", 0x01, Immediate::No),
     row!("br", 0x0C, Immediate::Label),
@@ -77,6 +79,8 @@ const LOW: [Row; 99] = [
     row!("memory.grow", 0x40, Immediate::Zero),
     row!("i32.const", 0x41, Immediate::I32),
     row!("i64.const", 0x42, Immediate::I64),
+    row!("f32.const", 0x43, Immediate::F32),
+    row!("f64.const", 0x44, Immediate::F64),
     row!("i32.eqz", 0x45, Immediate::No),
     row!("i32.eq", 0x46, Immediate::No),
     row!("i32.ne", 0x47, Immediate::No),

@@ -1,5 +1,7 @@
--- WebAssembly 2.0 specification, 6.2.2 (tokens) and 6.3 (values: integers, strings, identifiers): the tokens that count, each with its value.
+-- WebAssembly 2.0 specification, 6.2.2 (tokens) and 6.3 (values: integers, floating-point, strings, identifiers): the tokens that count, each with its value.
 use Rattle.std.specs.Prelude.{◌≡◌, ℕ, ◌^◌, true, List, map, nat_lt, Option, Some, None, Result, Ok, Err, if◌then◌else◌}
+use Rattle.std.specs.Float.{binary32, binary64}
+use Rattle.wat_floats.specs.Literals.{literal}
 use Rattle.wat_lex.specs.declared.lexer.faults.LexError.{LexError}
 use Rattle.wat_lex.specs.declared.lexer.faults.LexError.TheVariants.{EmptyId}
 use Rattle.wat_lex.specs.declared.lexer.kinds.SignToken.{SignToken}
@@ -16,29 +18,34 @@ use Rattle.wat_lexer_parser.specs.laws.Blanking.{TextShows}
 use Rattle.wat_lexer_parser.specs.names.RegisteredNames.{no_names}
 use Rattle.wat_instructions.specs.declared.pieces.Sign.{Sign}
 use Rattle.wat_instructions.specs.declared.pieces.Sign.TheVariants as sign
-use Rattle.wat_instructions.specs.Terminals.{Terminal, Open, Close, Word, Id, Integer, Text, Other}
+use Rattle.wat_instructions.specs.Terminals.{Terminal, Open, Close, Word, Id, Integer, Float, Text, Other}
 
 abbrev pub sign_of : Option SignToken → Sign
 sign_of None = sign.Absent
 sign_of (Some token_sign.Plus) = sign.Plus
 sign_of (Some token_sign.Minus) = sign.Minus
 
--- an integer of at most 64 bits
-abbrev pub integer : Sign → ℕ → Terminal
-integer s n = if nat_lt n (2 ^ 64) then Integer s n else Other
+-- a number's word, as a float
+abbrev pub float_of : List ℕ → Terminal
+float_of w = Float (literal binary32 w) (literal binary64 w)
+
+-- an integer: one of more than 64 bits is but a float
+abbrev pub integer : Sign → ℕ → List ℕ → Terminal
+integer s n w = if nat_lt n (2 ^ 64) then Integer s n else float_of w
 
 -- an identifier whose name is UTF-8 and not empty
 abbrev pub identifier : Result (List ℕ) LexError → Terminal
 identifier (Ok name) = Id name
 identifier (Err e) = Other
 
--- the terminal symbol that a token is, by its kind: floating-point numbers, reserved tokens and annotations are none that a rule takes
+-- the terminal symbol that a token is, by its kind: reserved tokens and annotations are none that a rule takes
 abbrev pub terminal_by : List ℕ → Token → TokenKind → Terminal
 terminal_by text t kind.LParen = Open
 terminal_by text t kind.RParen = Close
 terminal_by text t kind.Keyword = Word (token_text text t)
 terminal_by text t kind.Id = identifier (name_value EmptyId (word_of text t))
-terminal_by text t (kind.Integer k) = integer (sign_of (kind_sign k)) (integer_value (kind_hex k) (word_of text t))
+terminal_by text t (kind.Integer k) = integer (sign_of (kind_sign k)) (integer_value (kind_hex k) (word_of text t)) (token_text text t)
+terminal_by text t (kind.Float k) = float_of (token_text text t)
 terminal_by text t kind.String = Text (string_value (word_of text t))
 terminal_by text t k = Other
 

@@ -7,12 +7,13 @@ ghost use Rattle.std.specs.Prelude.{◌≡◌, ◌≤◌, ◌<◌, ◌^◌, IfEr
 ghost use Rattle.wat_instructions.specs.Terminals.{terminal};
 ghost use Rattle.wat_lex.specs.tokens.ReadableTokens.{IsTokenOf};
 ghost use Rattle.wat_lexer_parser.specs.names.RegisteredNames.{no_names};
-ghost use Rattle.wat_pieces.specs.Pieces.{sign_of, terminal_of};
+ghost use Rattle.wat_pieces.specs.Pieces.{float_of, sign_of, terminal_of};
 ghost use Rattle.wat_pieces.specs.Shown.{ShownFrom, TextShown};
 ghost use Rattle.wat_pieces.specs.Values.{value_terminal};
 
 use std::alloc::{AllocError, Global};
 use std::borrow::{CowSlice, CowStr};
+use wat_floats::{f32_bits, f64_bits};
 use wat_instructions::pieces::{Piece, Sign};
 use wat_lexer_parser::lexer::{Lexer, Settings, SignToken, Token, TokenKind};
 use wat_lexer_parser::parser::{Cursor, LazyBuffer};
@@ -33,6 +34,7 @@ pub enum Value<'a> {
     Word(&'a str),
     Id(CowStr<'a>),
     Integer(Sign, u64),
+    Float(Option<u32>, Option<u64>),
     Text(CowSlice<'a, u8>),
     Other,
 }
@@ -116,16 +118,25 @@ fn read_value<'a>(alloc: Global, text: &'a str, token: &Token) -> Result<Value<'
         },
         TokenKind::Integer(kind) => match token.magnitude(text, kind) {
             Some(size) => Ok(Value::Integer(sign(kind.sign()), size)),
-            None => Ok(Value::Other),
+            None => read_float(alloc, token.src(text)),
         },
+        TokenKind::Float(_) => read_float(alloc, token.src(text)),
         TokenKind::String => Ok(Value::Text(token.string(alloc, text)?)),
         TokenKind::LineComment
         | TokenKind::BlockComment
         | TokenKind::Whitespace
         | TokenKind::Annotation
-        | TokenKind::Reserved
-        | TokenKind::Float(_) => Ok(Value::Other),
+        | TokenKind::Reserved => Ok(Value::Other),
     }
+}
+
+/// The value of a number's word, as a float.
+fn read_float<'a>(alloc: Global, word: &str) -> Result<Value<'a>, AllocError>
+    ensures { IfOk result (λ v. value_terminal v ≡ float_of word.now) }
+{
+    let single = f32_bits(alloc, word)?;
+    let double = f64_bits(alloc, word)?;
+    Ok(Value::Float(single, double))
 }
 
 /// The values of tokens.
@@ -154,6 +165,7 @@ fn piece<'v>(value: &'v Value<'_>) -> Piece<'v>
         Value::Word(word) => Piece::Word(*word),
         Value::Id(name) => Piece::Id(name.as_str()),
         Value::Integer(sign, size) => Piece::Integer(*sign, *size),
+        Value::Float(single, double) => Piece::Float(*single, *double),
         Value::Text(text) => Piece::Text(text.as_slice()),
         Value::Other => Piece::Other,
     }

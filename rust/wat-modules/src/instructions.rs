@@ -3,6 +3,7 @@
 //! binary format has them. Plain instructions come from a table; `block`, `loop` and `if` bind
 //! labels; folded instructions are laid out after their operands.
 use wat_lex::shim::prelude::*;
+mod floats;
 pub mod laws;
 pub mod machine;
 mod memory;

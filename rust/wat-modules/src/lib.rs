@@ -45,7 +45,7 @@ pub use wat_lex::{Error, Span};
 ///
 /// As yet a module is `(module $name? field..)`, of types, imports, functions, tables, memories, globals, exports and a start function, with names,
 /// inline imports and exports, and no elements or data. Value types are `i32`, `i64`, `f32` and `f64`. Instructions, plain, in blocks and folded, are
-/// those of WebAssembly 1.0 and the sign extensions, but for `br_table`, `call_indirect`, and constants that are floats. Blocks have at most one result.
+/// those of WebAssembly 1.0 and the sign extensions, but for `br_table` and `call_indirect`. Blocks have at most one result.
 ///
 /// Where the text is such a module the answer is its bytes; where it is none, an error: both are proved of the text that this function is made of. A
 /// text spells one module at most. That the module is valid is not promised: no type of an operand is checked. There is no section of names.

@@ -5,6 +5,7 @@
 use wat_lex::shim::prelude::*;
 use wat_lex::shim::alloc::{AllocError, Global};
 use wat_lex::shim::borrow::{CowSlice, CowStr};
+use wat_parser::floats::{f32_bits, f64_bits};
 use crate::instructions::pieces::{Piece, Sign};
 use wat_parser::proved::lexer::{Lexer, Settings, SignToken, Token, TokenKind};
 use wat_parser::proved::parser::{Cursor, LazyBuffer};
@@ -23,6 +24,7 @@ pub enum Value<'a> {
     Word(&'a str),
     Id(CowStr<'a>),
     Integer(Sign, u64),
+    Float(Option<u32>, Option<u64>),
     Text(CowSlice<'a, u8>),
     Other,
 }
@@ -124,16 +126,29 @@ fn read_value<'a>(alloc: Global, text: &'a str, token: &Token) -> Result<Value<'
         },
         TokenKind::Integer(kind) => match token.magnitude(text, kind) {
             Some(size) => Ok(Value::Integer(sign(kind.sign()), size)),
-            None => Ok(Value::Other),
+            None => read_float(alloc, token.src(text)),
         },
+        TokenKind::Float(_) => read_float(alloc, token.src(text)),
         TokenKind::String => Ok(Value::Text(token.string(alloc, text)?)),
         TokenKind::LineComment
         | TokenKind::BlockComment
         | TokenKind::Whitespace
         | TokenKind::Annotation
-        | TokenKind::Reserved
-        | TokenKind::Float(_) => Ok(Value::Other),
+        | TokenKind::Reserved => Ok(Value::Other),
     }
+}
+
+/// The value of a number's word, as a float.
+///
+/// # Proved
+///
+/// ```text
+/// ensures { IfOk result (λ v. value_terminal v ≡ float_of word.now) }
+/// ```
+fn read_float<'a>(alloc: Global, word: &str) -> Result<Value<'a>, AllocError> {
+    let single = f32_bits(alloc, word)?;
+    let double = f64_bits(alloc, word)?;
+    Ok(Value::Float(single, double))
 }
 
 /// The values of tokens.
@@ -170,6 +185,7 @@ fn piece<'v>(value: &'v Value<'_>) -> Piece<'v> {
         Value::Word(word) => Piece::Word(*word),
         Value::Id(name) => Piece::Id(name.as_str()),
         Value::Integer(sign, size) => Piece::Integer(*sign, *size),
+        Value::Float(single, double) => Piece::Float(*single, *double),
         Value::Text(text) => Piece::Text(text.as_slice()),
         Value::Other => Piece::Other,
     }

@@ -7,7 +7,7 @@ use wat_modules::parse_str;
 const HEADER: &[u8] = b"\0asm\x01\0\0\0";
 
 /// A module of one function without parameters: its body, and the bytes of that in the code section.
-const BODIES: [(&str, &[u8]); 6] = [
+const BODIES: [(&str, &[u8]); 8] = [
     ("", b"\x00\x0b"),
     (
         "(if (result i32) (i32.const 1) (then (i32.const 2)) (else (i32.const -3))) drop",
@@ -29,6 +29,14 @@ const BODIES: [(&str, &[u8]); 6] = [
     (
         "i64.const 0xffff_ffff_ffff_ffff loop $l (block $m (br $l) (br 0)) end $l",
         b"\x00\x42\x7f\x03\x40\x02\x40\x0c\x01\x0c\x00\x0b\x0b\x0b",
+    ),
+    (
+        "f32.const 1.5 (f32.const -0x1p-149) (f32.const 16777217) f32.const -inf",
+        b"\x00\x43\0\0\xc0\x3f\x43\x01\0\0\x80\x43\0\0\x80\x4b\x43\0\0\x80\xff\x0b",
+    ),
+    (
+        "f64.const 0.1 (f64.const nan:0x4_0000_0000_0000) f64.const -18446744073709551617",
+        b"\x00\x44\x9a\x99\x99\x99\x99\x99\xb9\x3f\x44\0\0\0\0\0\0\xf4\x7f\x44\0\0\0\0\0\0\xf0\xc3\x0b",
     ),
 ];
 
@@ -125,6 +133,13 @@ fn refusals_have_their_place() {
             "number out of range",
             24,
         ),
+        ("(module (func f32.const 1e39))", "number out of range", 24),
+        (
+            "(module (func f64.const nan:0x0))",
+            "number out of range",
+            24,
+        ),
+        ("(module (func i32.const 1.5))", "unexpected token", 24),
         ("(module (func $f) (func $f))", "duplicate identifier", 8),
         (
             "(module (func (param $x i32) (local $x i32) nop))",

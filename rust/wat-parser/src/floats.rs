@@ -31,7 +31,32 @@ pub fn f32_bits(alloc: Global, word: &str) -> Result<Option<u32>, AllocError> {
     }
 }
 
+/// The bits of an integer as a number of 32 bits, by its sign and its size.
+///
+/// # Proved
+///
+/// ```text
+/// ensures { result ≡ of_integer binary32 negative size }
+/// ```
+pub fn f32_of_integer(negative: bool, size: u64) -> Option<u32> {
+    match literal::of_integer(Precision::Single, negative, size) {
+        Some(bits) => Some(bits as u32),
+        None => None,
+    }
+}
+
 /// The same of 64 bits.
+///
+/// # Proved
+///
+/// ```text
+/// ensures { result ≡ of_integer binary64 negative size }
+/// ```
+pub fn f64_of_integer(negative: bool, size: u64) -> Option<u64> {
+    literal::of_integer(Precision::Double, negative, size)
+}
+
+/// As [`f32_bits`], of a number of 64 bits.
 ///
 /// # Proved
 ///

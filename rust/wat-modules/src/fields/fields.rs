@@ -192,6 +192,7 @@ fn module<'p, 'a>(
             | Piece::Id(_)
             | Piece::Integer(_, _)
             | Piece::Text(_)
+            | Piece::Float(_, _)
             | Piece::Other,
             ..,
         ] => Err(Refusal::Text(Fault {
@@ -236,6 +237,7 @@ fn module_word<'p, 'a>(
             | Piece::Id(_)
             | Piece::Integer(_, _)
             | Piece::Text(_)
+            | Piece::Float(_, _)
             | Piece::Other,
             ..,
         ] => Err(Refusal::Text(Fault {
@@ -307,6 +309,7 @@ fn ended<'p, 'a>(pieces: &'p [Piece<'a>]) -> Result<(), Fault<'p, 'a>> {
             | Piece::Id(_)
             | Piece::Integer(_, _)
             | Piece::Text(_)
+            | Piece::Float(_, _)
             | Piece::Other,
             ..,
         ] => Err(Fault {
@@ -443,6 +446,7 @@ fn next_field<'p, 'a>(
             | Piece::Id(_)
             | Piece::Integer(_, _)
             | Piece::Text(_)
+            | Piece::Float(_, _)
             | Piece::Other,
             ..,
         ] => Ok(None),
@@ -472,6 +476,7 @@ fn field_at<'p, 'a>(
             | Piece::Id(_)
             | Piece::Integer(_, _)
             | Piece::Text(_)
+            | Piece::Float(_, _)
             | Piece::Other,
             ..,
         ] => Err(Refusal::Text(Fault {
@@ -865,6 +870,7 @@ fn import_open<'p, 'a>(
             | Piece::Id(_)
             | Piece::Integer(_, _)
             | Piece::Text(_)
+            | Piece::Float(_, _)
             | Piece::Other,
             ..,
         ] => Err(Refusal::Text(Fault {
@@ -908,6 +914,7 @@ fn import_word<'p, 'a>(
             | Piece::Id(_)
             | Piece::Integer(_, _)
             | Piece::Text(_)
+            | Piece::Float(_, _)
             | Piece::Other,
             ..,
         ] => Err(Refusal::Text(Fault {
@@ -993,6 +1000,7 @@ fn external<'p, 'a>(
             | Piece::Id(_)
             | Piece::Integer(_, _)
             | Piece::Text(_)
+            | Piece::Float(_, _)
             | Piece::Other,
             ..,
         ] => Err(Fault {
@@ -1034,6 +1042,7 @@ fn external_word<'p, 'a>(
             | Piece::Id(_)
             | Piece::Integer(_, _)
             | Piece::Text(_)
+            | Piece::Float(_, _)
             | Piece::Other,
             ..,
         ] => Err(Fault {

@@ -104,6 +104,7 @@ pub(crate) fn after<'p, 'a>(word: &str, pieces: &'p [Piece<'a>]) -> Option<&'p [
             | Piece::Id(_)
             | Piece::Integer(_, _)
             | Piece::Text(_)
+            | Piece::Float(_, _)
             | Piece::Other,
             ..,
         ] => None,
@@ -133,6 +134,7 @@ fn after_word<'p, 'a>(word: &str, pieces: &'p [Piece<'a>]) -> Option<&'p [Piece<
             | Piece::Id(_)
             | Piece::Integer(_, _)
             | Piece::Text(_)
+            | Piece::Float(_, _)
             | Piece::Other,
             ..,
         ] => None,
@@ -158,6 +160,7 @@ pub(crate) fn closed<'p, 'a>(pieces: &'p [Piece<'a>]) -> Result<&'p [Piece<'a>],
             | Piece::Id(_)
             | Piece::Integer(_, _)
             | Piece::Text(_)
+            | Piece::Float(_, _)
             | Piece::Other,
             ..,
         ] => Err(Fault {
@@ -214,6 +217,7 @@ pub(crate) fn utf8_text<'p, 'a>(
             | Piece::Word(_)
             | Piece::Id(_)
             | Piece::Integer(_, _)
+            | Piece::Float(_, _)
             | Piece::Other,
             ..,
         ] => Err(Fault {
@@ -329,6 +333,7 @@ fn next_value<'p, 'a>(
             | Piece::Id(_)
             | Piece::Integer(_, _)
             | Piece::Text(_)
+            | Piece::Float(_, _)
             | Piece::Other,
             ..,
         ] => Ok(None),
@@ -367,6 +372,7 @@ fn group<'p, 'a>(
             | Piece::Word(_)
             | Piece::Integer(_, _)
             | Piece::Text(_)
+            | Piece::Float(_, _)
             | Piece::Other,
             ..,
         ] => listed(alloc, pieces),
@@ -402,6 +408,7 @@ fn named_one<'p, 'a>(
             | Piece::Id(_)
             | Piece::Integer(_, _)
             | Piece::Text(_)
+            | Piece::Float(_, _)
             | Piece::Other,
             ..,
         ] => Err(Refusal::Text(Fault {

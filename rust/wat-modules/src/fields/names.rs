@@ -155,6 +155,7 @@ fn starts<'p, 'a>(alloc: Global, pieces: &'p [Piece<'a>]) -> Result<Vec<Left<'p,
                 | Piece::Id(_)
                 | Piece::Integer(_, _)
                 | Piece::Text(_)
+                | Piece::Float(_, _)
                 | Piece::Other => return Ok(starts),
             },
             Depth::Inside(open) => match *piece {
@@ -164,6 +165,7 @@ fn starts<'p, 'a>(alloc: Global, pieces: &'p [Piece<'a>]) -> Result<Vec<Left<'p,
                 | Piece::Id(_)
                 | Piece::Integer(_, _)
                 | Piece::Text(_)
+                | Piece::Float(_, _)
                 | Piece::Other => {}
             },
         }
@@ -213,6 +215,7 @@ fn binding_at<'p>(pieces: &'p [Piece<'_>]) -> Option<Binding<'p>> {
             | Piece::Id(_)
             | Piece::Integer(_, _)
             | Piece::Text(_)
+            | Piece::Float(_, _)
             | Piece::Other,
             ..,
         ] => None,
@@ -253,6 +256,7 @@ fn import_binding<'p>(pieces: &'p [Piece<'_>]) -> Option<Binding<'p>> {
             | Piece::Word(_)
             | Piece::Id(_)
             | Piece::Integer(_, _)
+            | Piece::Float(_, _)
             | Piece::Other,
             ..,
         ] => None,
@@ -276,6 +280,7 @@ fn text_binding<'p>(pieces: &'p [Piece<'_>]) -> Option<Binding<'p>> {
             | Piece::Word(_)
             | Piece::Id(_)
             | Piece::Integer(_, _)
+            | Piece::Float(_, _)
             | Piece::Other,
             ..,
         ] => None,
@@ -299,6 +304,7 @@ fn open_binding<'p>(pieces: &'p [Piece<'_>]) -> Option<Binding<'p>> {
             | Piece::Id(_)
             | Piece::Integer(_, _)
             | Piece::Text(_)
+            | Piece::Float(_, _)
             | Piece::Other,
             ..,
         ] => None,
@@ -322,6 +328,7 @@ fn word_binding<'p>(pieces: &'p [Piece<'_>]) -> Option<Binding<'p>> {
             | Piece::Id(_)
             | Piece::Integer(_, _)
             | Piece::Text(_)
+            | Piece::Float(_, _)
             | Piece::Other,
             ..,
         ] => None,
@@ -377,6 +384,7 @@ fn definition_at<'p, 'a>(
             | Piece::Id(_)
             | Piece::Integer(_, _)
             | Piece::Text(_)
+            | Piece::Float(_, _)
             | Piece::Other,
             ..,
         ] => Ok(None),

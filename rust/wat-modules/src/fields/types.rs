@@ -101,6 +101,7 @@ pub(crate) fn limits<'p, 'a>(
             | Piece::Word(_)
             | Piece::Id(_)
             | Piece::Text(_)
+            | Piece::Float(_, _)
             | Piece::Other,
             ..,
         ] => Err(Fault {
@@ -139,6 +140,7 @@ fn maximum<'p, 'a>(
             | Piece::Word(_)
             | Piece::Id(_)
             | Piece::Text(_)
+            | Piece::Float(_, _)
             | Piece::Other,
             ..,
         ] => Ok((Limits { min, max: None }, pieces)),
@@ -189,6 +191,7 @@ fn reference_type<'p, 'a>(
             | Piece::Id(_)
             | Piece::Integer(_, _)
             | Piece::Text(_)
+            | Piece::Float(_, _)
             | Piece::Other,
             ..,
         ] => Err(Fault {
@@ -227,7 +230,12 @@ pub(crate) fn global_type<'p, 'a>(
         },
         [Piece::Open, rest @ ..] => mutable(rest),
         [
-            Piece::Close | Piece::Id(_) | Piece::Integer(_, _) | Piece::Text(_) | Piece::Other,
+            Piece::Close
+            | Piece::Id(_)
+            | Piece::Integer(_, _)
+            | Piece::Text(_)
+            | Piece::Float(_, _)
+            | Piece::Other,
             ..,
         ] => Err(Fault {
             kind: FaultKind::Unexpected,
@@ -269,6 +277,7 @@ fn mutable<'p, 'a>(
             | Piece::Id(_)
             | Piece::Integer(_, _)
             | Piece::Text(_)
+            | Piece::Float(_, _)
             | Piece::Other,
             ..,
         ] => Err(Fault {
@@ -308,6 +317,7 @@ fn mutable_type<'p, 'a>(
             | Piece::Id(_)
             | Piece::Integer(_, _)
             | Piece::Text(_)
+            | Piece::Float(_, _)
             | Piece::Other,
             ..,
         ] => Err(Fault {
@@ -365,6 +375,7 @@ pub(crate) fn twice_closed<'p, 'a>(
             | Piece::Id(_)
             | Piece::Integer(_, _)
             | Piece::Text(_)
+            | Piece::Float(_, _)
             | Piece::Other,
             ..,
         ] => Err(Fault {

@@ -122,7 +122,11 @@ fn step<'p, 'a>(
         [Piece::Close, rest @ ..] => closed(frame, frames, out, pieces, rest),
         [Piece::Word(word), rest @ ..] => at_word(scope, frame, frames, out, word, pieces, rest),
         [
-            Piece::Id(_) | Piece::Integer(_, _) | Piece::Text(_) | Piece::Other,
+            Piece::Id(_)
+            | Piece::Integer(_, _)
+            | Piece::Text(_)
+            | Piece::Float(_, _)
+            | Piece::Other,
             ..,
         ] => Err(Refusal::Text(Fault {
             kind: FaultKind::Unexpected,
@@ -199,6 +203,7 @@ fn after_else<'p, 'a>(
             | Piece::Id(_)
             | Piece::Integer(_, _)
             | Piece::Text(_)
+            | Piece::Float(_, _)
             | Piece::Other,
             ..,
         ] => Err(Refusal::Text(Fault {
@@ -234,7 +239,12 @@ fn after_then<'p, 'a>(
         }
         [Piece::Open, rest @ ..] => other_part(label, frames, out, rest),
         [
-            Piece::Word(_) | Piece::Id(_) | Piece::Integer(_, _) | Piece::Text(_) | Piece::Other,
+            Piece::Word(_)
+            | Piece::Id(_)
+            | Piece::Integer(_, _)
+            | Piece::Text(_)
+            | Piece::Float(_, _)
+            | Piece::Other,
             ..,
         ] => Err(Refusal::Text(Fault {
             kind: FaultKind::Unexpected,
@@ -279,6 +289,7 @@ fn other_part<'p, 'a>(
             | Piece::Id(_)
             | Piece::Integer(_, _)
             | Piece::Text(_)
+            | Piece::Float(_, _)
             | Piece::Other,
             ..,
         ] => Err(Refusal::Text(Fault {
@@ -338,6 +349,7 @@ fn folded<'p, 'a>(
             | Piece::Id(_)
             | Piece::Integer(_, _)
             | Piece::Text(_)
+            | Piece::Float(_, _)
             | Piece::Other,
             ..,
         ] => Err(Refusal::Text(Fault {

@@ -2,12 +2,12 @@
 //! Plain instructions and their immediates, names and labels.
 
 use wat_lex::shim::prelude::*;
-use crate::instructions::memory;
 use crate::instructions::names::IndexedNames;
 use crate::instructions::pieces::{
     Argument, Fault, FaultKind, Frame, Instruction, Name, Piece, Sign, ValueType,
 };
 use crate::instructions::table::{self, Immediate};
+use crate::instructions::{floats, memory};
 
 /// The names of the items of five index spaces, each in the order of their indices.
 #[derive(Clone, Copy)]
@@ -94,7 +94,12 @@ pub fn index<'p, 'a>(
             }),
         },
         [
-            Piece::Open | Piece::Close | Piece::Word(_) | Piece::Text(_) | Piece::Other,
+            Piece::Open
+            | Piece::Close
+            | Piece::Word(_)
+            | Piece::Text(_)
+            | Piece::Float(_, _)
+            | Piece::Other,
             ..,
         ] => Err(Fault {
             kind: FaultKind::Unexpected,
@@ -143,7 +148,12 @@ fn label_number<'p, 'a>(
             }),
         },
         [
-            Piece::Open | Piece::Close | Piece::Word(_) | Piece::Text(_) | Piece::Other,
+            Piece::Open
+            | Piece::Close
+            | Piece::Word(_)
+            | Piece::Text(_)
+            | Piece::Float(_, _)
+            | Piece::Other,
             ..,
         ] => Err(Fault {
             kind: FaultKind::Unexpected,
@@ -251,6 +261,7 @@ fn number_32<'p, 'a>(
             | Piece::Word(_)
             | Piece::Id(_)
             | Piece::Text(_)
+            | Piece::Float(_, _)
             | Piece::Other,
             ..,
         ] => Err(Fault {
@@ -323,6 +334,7 @@ fn number_64<'p, 'a>(
             | Piece::Word(_)
             | Piece::Id(_)
             | Piece::Text(_)
+            | Piece::Float(_, _)
             | Piece::Other,
             ..,
         ] => Err(Fault {
@@ -359,6 +371,8 @@ fn immediate<'p, 'a>(
         Immediate::Global => name_argument(scope.globals, pieces),
         Immediate::I32 => number_32(pieces),
         Immediate::I64 => number_64(pieces),
+        Immediate::F32 => floats::float_32(pieces),
+        Immediate::F64 => floats::float_64(pieces),
         Immediate::Memory(natural) => Ok(memory::argument(natural, pieces)),
         Immediate::Zero => Ok((Argument::Zero, pieces)),
     }
@@ -396,6 +410,7 @@ pub fn plain<'p, 'a>(
             | Piece::Id(_)
             | Piece::Integer(_, _)
             | Piece::Text(_)
+            | Piece::Float(_, _)
             | Piece::Other,
             ..,
         ] => Err(Fault {
@@ -426,6 +441,7 @@ pub fn label<'p, 'a>(pieces: &'p [Piece<'a>]) -> (Name<'p>, &'p [Piece<'a>]) {
             | Piece::Word(_)
             | Piece::Integer(_, _)
             | Piece::Text(_)
+            | Piece::Float(_, _)
             | Piece::Other,
             ..,
         ] => (Name::Absent, pieces),
@@ -463,6 +479,7 @@ pub fn end_label<'p, 'a>(
             | Piece::Word(_)
             | Piece::Integer(_, _)
             | Piece::Text(_)
+            | Piece::Float(_, _)
             | Piece::Other,
             ..,
         ] => Ok(pieces),
@@ -604,6 +621,7 @@ fn empty_group<'p, 'a>(word: &str, pieces: &'p [Piece<'a>]) -> Option<&'p [Piece
             | Piece::Id(_)
             | Piece::Integer(_, _)
             | Piece::Text(_)
+            | Piece::Float(_, _)
             | Piece::Other,
             ..,
         ] => None,
@@ -630,6 +648,7 @@ fn empty_word<'p, 'a>(word: &str, pieces: &'p [Piece<'a>]) -> Option<&'p [Piece<
             | Piece::Id(_)
             | Piece::Integer(_, _)
             | Piece::Text(_)
+            | Piece::Float(_, _)
             | Piece::Other,
             ..,
         ] => None,
@@ -677,6 +696,7 @@ fn after_close<'p, 'a>(pieces: &'p [Piece<'a>]) -> Option<&'p [Piece<'a>]> {
             | Piece::Id(_)
             | Piece::Integer(_, _)
             | Piece::Text(_)
+            | Piece::Float(_, _)
             | Piece::Other,
             ..,
         ] => None,
@@ -719,6 +739,7 @@ fn result_type<'p, 'a>(
             | Piece::Id(_)
             | Piece::Integer(_, _)
             | Piece::Text(_)
+            | Piece::Float(_, _)
             | Piece::Other,
             ..,
         ] => Ok((Argument::Block(None), pieces)),
@@ -753,6 +774,7 @@ fn type_after<'p, 'a>(
             | Piece::Id(_)
             | Piece::Integer(_, _)
             | Piece::Text(_)
+            | Piece::Float(_, _)
             | Piece::Other,
             ..,
         ] => Ok((Argument::Block(None), all)),
@@ -784,6 +806,7 @@ fn one_type<'p, 'a>(pieces: &'p [Piece<'a>]) -> Result<(Argument, &'p [Piece<'a>
             | Piece::Id(_)
             | Piece::Integer(_, _)
             | Piece::Text(_)
+            | Piece::Float(_, _)
             | Piece::Other,
             ..,
         ] => Err(Fault {
@@ -818,6 +841,7 @@ fn close_type<'p, 'a>(
             | Piece::Id(_)
             | Piece::Integer(_, _)
             | Piece::Text(_)
+            | Piece::Float(_, _)
             | Piece::Other,
             ..,
         ] => Err(Fault {

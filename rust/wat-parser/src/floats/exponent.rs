@@ -77,6 +77,20 @@ fn size_of(text: &[u8]) -> u128 {
 }
 
 impl Power {
+    /// Neither.
+    ///
+    /// # Proved
+    ///
+    /// ```text
+    /// ensures { (result.raised ≡ 0) × (result.lowered ≡ 0) }
+    /// ```
+    pub(crate) fn none() -> Power {
+        Power {
+            raised: 0,
+            lowered: 0,
+        }
+    }
+
     /// The power of two that an exponent writes.
     ///
     /// # Proved

@@ -170,3 +170,22 @@ fn scaled(precision: Precision, leading: Leading, places: usize, power: Power) -
         u128::from(shift) + places,
     )
 }
+
+/// The bits of the number nearest to a whole one.
+///
+/// # Proved
+///
+/// ```text
+/// ensures { result ≡ to_bits (format precision) (round (format precision) false number 1) }
+/// ```
+pub(crate) fn whole(precision: Precision, number: u64) -> u64 {
+    if number == 0 {
+        return 0;
+    }
+    let leading = Leading {
+        count: number,
+        dropped: 0,
+        more: false,
+    };
+    scaled(precision, leading, 0, Power::none())
+}

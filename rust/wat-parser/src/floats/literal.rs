@@ -4,7 +4,7 @@
 use wat_lex::shim::prelude::*;
 use crate::floats::decimal::decimal;
 use crate::floats::exponent::{is_negative, unsigned};
-use crate::floats::hexadecimal::{Leading, hexadecimal, with_digits};
+use crate::floats::hexadecimal::{Leading, hexadecimal, whole, with_digits};
 use crate::floats::precision::Precision;
 use wat_lex::shim::alloc::{AllocError, Global};
 
@@ -113,9 +113,39 @@ pub(crate) fn literal(
     precision: Precision,
     word: &[u8],
 ) -> Result<Option<u64>, AllocError> {
-    match joined_magnitude(alloc, precision, unsigned(word))? {
-        Some(bits) if is_negative(word) => Ok(Some(precision.sign_bit() + bits)),
-        Some(bits) => Ok(Some(bits)),
-        None => Ok(None),
+    let magnitude = joined_magnitude(alloc, precision, unsigned(word))?;
+    Ok(signed(precision, is_negative(word), magnitude))
+}
+
+/// The bits with a sign.
+///
+/// # Proved
+///
+/// ```text
+/// requires { IfSome magnitude (λ b. b < sign_bit (format precision)) }
+/// ensures value { result ≡ literals.signed (format precision) negative magnitude }
+/// ensures small { IfSome result (λ b. b < sign_bit (format precision) * 2) }
+/// ```
+fn signed(precision: Precision, negative: bool, magnitude: Option<u64>) -> Option<u64> {
+    match magnitude {
+        Some(bits) if negative => Some(precision.sign_bit() + bits),
+        Some(bits) => Some(bits),
+        None => None,
     }
+}
+
+/// The bits that an integer denotes as a float.
+///
+/// # Proved
+///
+/// ```text
+/// ensures value { result ≡ literals.of_integer (format precision) negative size }
+/// ensures small { IfSome result (λ b. b < sign_bit (format precision) * 2) }
+/// ```
+pub(crate) fn of_integer(precision: Precision, negative: bool, size: u64) -> Option<u64> {
+    signed(
+        precision,
+        negative,
+        finite(precision, whole(precision, size)),
+    )
 }

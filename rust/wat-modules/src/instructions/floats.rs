@@ -1,0 +1,138 @@
+// Made by tools/erase from crates/wat_instructions/src/floats.rt; do not edit.
+//! Floating-point immediates.
+
+use wat_lex::shim::prelude::*;
+use crate::instructions::pieces::{Argument, Fault, FaultKind, Piece, Sign};
+use wat_parser::floats::{f32_of_integer, f64_of_integer};
+
+/// Whether an integer is one below 0, or `-0`.
+///
+/// # Proved
+///
+/// ```text
+/// ensures { result ≡ is_minus sign }
+/// ```
+fn is_minus(sign: Sign) -> bool {
+    match sign {
+        Sign::Minus => true,
+        Sign::Absent | Sign::Plus => false,
+    }
+}
+
+/// The float of 32 bits, where it is in range.
+///
+/// # Proved
+///
+/// ```text
+/// ensures { MatchResult result
+/// (λ r. f32_by bits (map terminal all.now) (map terminal rest.now) ≡ Ok (r.0, map terminal r.1.now))
+/// (λ f. f32_by bits (map terminal all.now) (map terminal rest.now) ≡ Err (fault_of f)) }
+/// ```
+fn single<'p, 'a>(
+    bits: Option<u32>,
+    all: &'p [Piece<'a>],
+    rest: &'p [Piece<'a>],
+) -> Result<(Argument, &'p [Piece<'a>]), Fault<'p, 'a>> {
+    match bits {
+        Some(bits) => Ok((Argument::F32(bits), rest)),
+        None => Err(Fault {
+            kind: FaultKind::OutOfRange,
+            left: all,
+        }),
+    }
+}
+
+/// The float of 64 bits, where it is in range.
+///
+/// # Proved
+///
+/// ```text
+/// ensures { MatchResult result
+/// (λ r. f64_by bits (map terminal all.now) (map terminal rest.now) ≡ Ok (r.0, map terminal r.1.now))
+/// (λ f. f64_by bits (map terminal all.now) (map terminal rest.now) ≡ Err (fault_of f)) }
+/// ```
+fn double<'p, 'a>(
+    bits: Option<u64>,
+    all: &'p [Piece<'a>],
+    rest: &'p [Piece<'a>],
+) -> Result<(Argument, &'p [Piece<'a>]), Fault<'p, 'a>> {
+    match bits {
+        Some(bits) => Ok((Argument::F64(bits), rest)),
+        None => Err(Fault {
+            kind: FaultKind::OutOfRange,
+            left: all,
+        }),
+    }
+}
+
+/// A float of 32 bits.
+///
+/// # Proved
+///
+/// ```text
+/// ensures { MatchResult result
+/// (λ r. f32 (map terminal pieces.now) ≡ Ok (r.0, map terminal r.1.now))
+/// (λ f. f32 (map terminal pieces.now) ≡ Err (fault_of f)) }
+/// ```
+pub(crate) fn float_32<'p, 'a>(
+    pieces: &'p [Piece<'a>],
+) -> Result<(Argument, &'p [Piece<'a>]), Fault<'p, 'a>> {
+    match pieces {
+        [Piece::Integer(sign, size), rest @ ..] => {
+            single(f32_of_integer(is_minus(*sign), *size), pieces, rest)
+        }
+        [Piece::Float(bits, _), rest @ ..] => single(*bits, pieces, rest),
+        [
+            Piece::Open
+            | Piece::Close
+            | Piece::Word(_)
+            | Piece::Id(_)
+            | Piece::Text(_)
+            | Piece::Other,
+            ..,
+        ] => Err(Fault {
+            kind: FaultKind::Unexpected,
+            left: pieces,
+        }),
+        [] => Err(Fault {
+            kind: FaultKind::Unexpected,
+            left: pieces,
+        }),
+    }
+}
+
+/// A float of 64 bits.
+///
+/// # Proved
+///
+/// ```text
+/// ensures { MatchResult result
+/// (λ r. f64 (map terminal pieces.now) ≡ Ok (r.0, map terminal r.1.now))
+/// (λ f. f64 (map terminal pieces.now) ≡ Err (fault_of f)) }
+/// ```
+pub(crate) fn float_64<'p, 'a>(
+    pieces: &'p [Piece<'a>],
+) -> Result<(Argument, &'p [Piece<'a>]), Fault<'p, 'a>> {
+    match pieces {
+        [Piece::Integer(sign, size), rest @ ..] => {
+            double(f64_of_integer(is_minus(*sign), *size), pieces, rest)
+        }
+        [Piece::Float(_, bits), rest @ ..] => double(*bits, pieces, rest),
+        [
+            Piece::Open
+            | Piece::Close
+            | Piece::Word(_)
+            | Piece::Id(_)
+            | Piece::Text(_)
+            | Piece::Other,
+            ..,
+        ] => Err(Fault {
+            kind: FaultKind::Unexpected,
+            left: pieces,
+        }),
+        [] => Err(Fault {
+            kind: FaultKind::Unexpected,
+            left: pieces,
+        }),
+    }
+}
