@@ -123,7 +123,6 @@ f32_keeps (Open ∷ ts) = tt
 f32_keeps (Close ∷ ts) = tt
 f32_keeps (Word w ∷ ts) = tt
 f32_keeps (Text v ∷ ts) = tt
-f32_keeps (Float narrow wide ∷ ts) = tt
 f32_keeps (Other ∷ ts) = tt
 
 f64_keeps : (ts : List Terminal) → Keeps (grammar.f64 ts) ts
@@ -135,7 +134,6 @@ f64_keeps (Open ∷ ts) = tt
 f64_keeps (Close ∷ ts) = tt
 f64_keeps (Word w ∷ ts) = tt
 f64_keeps (Text v ∷ ts) = tt
-f64_keeps (Float narrow wide ∷ ts) = tt
 f64_keeps (Other ∷ ts) = tt
 
 pub on : (ts us vs : List Terminal) → Passes ts us → Passes us vs → Passes ts vs

@@ -266,7 +266,7 @@ fn a_map_is_as_it_was_where_a_pair_is_refused() {
 
 #[test]
 fn a_map_answers_as_that_of_rust() {
-    for keys in [3, 12, 200] {
+    for keys in [3, 12, 200, 5_000] {
         compare_maps(keys);
     }
 }
@@ -275,7 +275,7 @@ fn a_map_answers_as_that_of_rust() {
 fn compare_maps(keys: u64) {
     let (mut ours, mut theirs) = (BTreeMap::new(Global), StdMap::new());
     let mut random = 1u64;
-    for step in 0..20_000u64 {
+    for step in 0..50_000u64 {
         random = random
             .wrapping_mul(6_364_136_223_846_793_005)
             .wrapping_add(1);
@@ -290,6 +290,7 @@ fn compare_maps(keys: u64) {
             (theirs.len(), theirs.get(&key))
         );
     }
+    assert!(ours.keys().eq(theirs.keys()));
 }
 
 /// Texts of characters that are measured together, among those that are not.
