@@ -341,8 +341,8 @@ expect 'types, no UTF-8' 2 '' 'wat_tokens: input is not UTF-8\n' "$program" type
 output=/dev/full expect 'types, no room' 2 '' 'wat_tokens: write failed\n' "$program" types < <(printf '(module)')
 
 expect 'module' 0 '\0asm\01\0\0\0' '' "$program" module < <(printf '(module $m)')
-expect 'module, refused' 1 '' "$(fault 'unknown keyword' 9 '(module (frob))' '         ')" "$program" module < <(printf '(module (frob))')
-expect 'module, confusing' 1 '' "$confusing_fault" "$program" module < <(printf %s "$confusing")
+expect 'module, refused' 1 '' "$(fault 'unknown keyword' 10 '(module (frob))' '         ')" "$program" module < <(printf '(module (frob))')
+expect 'module, confusing' 0 '\0asm\01\0\0\0' '' "$program" module < <(printf '(module);;\u202e')
 expect 'module, no UTF-8' 2 '' 'wat_tokens: input is not UTF-8\n' "$program" module < <(printf '(module) \377')
 output=/dev/full expect 'module, no room' 2 '' 'wat_tokens: write failed\n' "$program" module < <(printf '(module)')
 
