@@ -116,6 +116,7 @@ rust_packages() {
     timed "Rust: tests of $lex" 300 cargo test --quiet --manifest-path "$lex/Cargo.toml"
     timed "Rust: tests of $parser" 300 cargo test --quiet "${patch[@]:0:2}" --manifest-path "$parser/Cargo.toml"
     timed "Rust: tests of $modules" 300 cargo test --quiet "${patch[@]}" --manifest-path "$modules/Cargo.toml"
+    patch+=(--config "patch.crates-io.wat-modules.path='$room/$modules'")
     timed 'Rust: cargo install of the program' 120 cargo install --quiet "${patch[@]}" --path wat-tokens-*
     expect 'Rust: the program that cargo installs' $'0..1 LParen\n1..2 Keyword\n2..3 RParen' "$CARGO_HOME/bin/wat_tokens" < <(printf '(a)')
 }
