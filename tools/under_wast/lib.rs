@@ -18,6 +18,8 @@ pub mod parser;
 #[allow(dead_code, non_camel_case_types)]
 #[allow(unused_imports, unused_labels, unused_variables)]
 pub mod proved;
+#[allow(unused_imports)]
+pub mod floats;
 pub mod token;
 #[allow(unused_imports)]
 pub mod words;
