@@ -15,15 +15,23 @@ pub struct Strings {
 /// The cells by their bytes; one byte more says whether a cell is set.
 #[derive(Default)]
 struct Sizes {
+    of_1: Cells<[u8; 1]>,
+    of_2: Cells<[u8; 2]>,
     of_3: Cells<[u8; 3]>,
+    of_4: Cells<[u8; 4]>,
+    of_5: Cells<[u8; 5]>,
+    of_6: Cells<[u8; 6]>,
     of_7: Cells<[u8; 7]>,
+    of_8: Cells<[u8; 8]>,
     of_11: Cells<[u8; 11]>,
     of_15: Cells<[u8; 15]>,
+    of_19: Cells<[u8; 19]>,
     of_23: Cells<[u8; 23]>,
     of_31: Cells<[u8; 31]>,
+    of_39: Cells<[u8; 39]>,
     of_47: Cells<[u8; 47]>,
     of_63: Cells<[u8; 63]>,
-    longer: Cells<Vec<u8>>,
+    longer: Cells<Box<[u8]>>,
 }
 
 impl Strings {
@@ -31,13 +39,21 @@ impl Strings {
     pub fn keep(&self, bytes: &[u8]) -> Result<&[u8], AllocError> {
         let sizes = self.sizes()?;
         match bytes.len() {
-            0..=3 => sizes.of_3.keep_padded(bytes),
-            4..=7 => sizes.of_7.keep_padded(bytes),
-            8..=11 => sizes.of_11.keep_padded(bytes),
+            0..=1 => sizes.of_1.keep_padded(bytes),
+            2 => sizes.of_2.keep_padded(bytes),
+            3 => sizes.of_3.keep_padded(bytes),
+            4 => sizes.of_4.keep_padded(bytes),
+            5 => sizes.of_5.keep_padded(bytes),
+            6 => sizes.of_6.keep_padded(bytes),
+            7 => sizes.of_7.keep_padded(bytes),
+            8 => sizes.of_8.keep_padded(bytes),
+            9..=11 => sizes.of_11.keep_padded(bytes),
             12..=15 => sizes.of_15.keep_padded(bytes),
-            16..=23 => sizes.of_23.keep_padded(bytes),
+            16..=19 => sizes.of_19.keep_padded(bytes),
+            20..=23 => sizes.of_23.keep_padded(bytes),
             24..=31 => sizes.of_31.keep_padded(bytes),
-            32..=47 => sizes.of_47.keep_padded(bytes),
+            32..=39 => sizes.of_39.keep_padded(bytes),
+            40..=47 => sizes.of_47.keep_padded(bytes),
             48..=63 => sizes.of_63.keep_padded(bytes),
             _ => {
                 let mut exact = Vec::new();
@@ -45,7 +61,7 @@ impl Strings {
                     .try_reserve_exact(bytes.len())
                     .map_err(|_| AllocError)?;
                 exact.extend_from_slice(bytes);
-                Ok(sizes.longer.keep(exact)?)
+                Ok(sizes.longer.keep(exact.into_boxed_slice())?)
             }
         }
     }
@@ -65,16 +81,18 @@ impl Strings {
     }
 }
 
-/// Cells in blocks, each half as long again as the one before, so that none of them ever moves.
+/// Cells in blocks, each a quarter longer than the one before, so that none of them ever moves, and few are not set at the end.
 struct Cells<T> {
-    blocks: [OnceCell<Box<[OnceCell<T>]>>; BLOCKS],
+    blocks: OnceCell<Box<[Block<T>]>>,
     /// The block that has cells which are not set, and how many are.
     last: Cell<usize>,
     set: Cell<usize>,
 }
 
+type Block<T> = OnceCell<Box<[OnceCell<T>]>>;
+
 /// Together they have more cells than the longest text has strings.
-const BLOCKS: usize = 48;
+const BLOCKS: usize = 80;
 
 /// How many cells the first block has.
 const FIRST: usize = 16;
@@ -82,7 +100,7 @@ const FIRST: usize = 16;
 impl<T> Default for Cells<T> {
     fn default() -> Cells<T> {
         Cells {
-            blocks: [const { OnceCell::new() }; BLOCKS],
+            blocks: OnceCell::new(),
             last: Cell::new(0),
             set: Cell::new(0),
         }
@@ -92,10 +110,10 @@ impl<T> Default for Cells<T> {
 impl<T> Cells<T> {
     fn keep(&self, item: T) -> Result<&T, AllocError> {
         let set = self.set.get();
-        let block = self.blocks[self.last.get()].get().map(|cells| &**cells);
+        let block = self.blocks.get().and_then(|all| all[self.last.get()].get());
         let cell = match block.and_then(|cells| cells.get(set)) {
             Some(cell) => cell,
-            None => self.block_after(block)?,
+            None => self.block_after(block.map(|full| full.len()))?,
         };
         self.set.set(self.set.get() + 1);
         Ok(cell.get_or_init(|| item))
@@ -103,13 +121,18 @@ impl<T> Cells<T> {
 
     /// The first cell of a new block after the one that is full.
     #[cold]
-    fn block_after(&self, full: Option<&[OnceCell<T>]>) -> Result<&OnceCell<T>, AllocError> {
-        let count = full.map_or(FIRST, |full| full.len() + full.len() / 2);
+    fn block_after(&self, full: Option<usize>) -> Result<&OnceCell<T>, AllocError> {
+        if self.blocks.get().is_none() {
+            let blocks = boxed(BLOCKS, OnceCell::new)?;
+            self.blocks.get_or_init(|| blocks);
+        }
+        let count = full.map_or(FIRST, |full| full + full / 4);
         let last = self.last.get() + usize::from(full.is_some());
         let cells = boxed(count, OnceCell::new)?;
         self.last.set(last);
         self.set.set(0);
-        Ok(&self.blocks[last].get_or_init(|| cells)[0])
+        let blocks = self.blocks.get().expect("made above");
+        Ok(&blocks[last].get_or_init(|| cells)[0])
     }
 }
 
