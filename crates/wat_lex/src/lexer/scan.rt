@@ -1,9 +1,9 @@
 //! Scanning: what is at the start of a text, by its first bytes.
-ghost use Rattle.std.specs.Prelude.{◌≡◌, ◌<◌, ◌≤◌, ◌↔◌, ◌∷◌, [], true, false, drop, length, slice_index};
+ghost use Rattle.std.specs.Prelude.{◌≡◌, ◌≢◌, ◌<◌, ◌≤◌, ◌↔◌, ◌∷◌, [], true, false, drop, length, slice_index};
 ghost use Rattle.std.specs.Prelude.{IfSome, IsTrue};
 ghost use Rattle.std.specs.List.{prefix_len};
 ghost use Rattle.std.specs.Str.{IsCharBoundary};
-ghost use Rattle.wat_lex.specs.grammar.Classes.{is_idchar, is_run_char};
+ghost use Rattle.wat_lex.specs.grammar.Classes.{is_idchar, is_run_char, quote};
 ghost use Rattle.wat_lex.specs.grammar.Numbers.{sign_of};
 ghost use Rattle.wat_lex.specs.tokens.BareWords.{bare_len};
 ghost use Rattle.wat_lex.specs.tokens.Faults.{begins_word};
@@ -17,7 +17,7 @@ use crate::lexer::faults::{LexError, LexFault};
 use crate::lexer::kinds::{Found, Lexeme, Outline, Shape, Sign, Stride, TokenKind};
 use crate::lexer::scan::blocks::{block_at, other_than_idchars};
 use crate::lexer::scan::classes::{
-    idchar_len, idchar_len_by_block, idchar_len_of_word, is_run_char, whitespace_len,
+    idchar_len, idchar_len_by_block, idchar_len_of_word, is_idchar, is_run_char, whitespace_len,
 };
 use crate::lexer::scan::comments::{
     block_comment, block_comment_len, line_comment, line_comment_len,
@@ -54,14 +54,27 @@ fn string_follows(text: &[u8], len: usize) -> bool
     byte_at(text, len) == b'"'
 }
 
+/// Whether a word of idchars ends before a byte, and no string is joined to it there.
+#[inline(always)]
+fn ends_bare_word(b: u8) -> bool
+    ensures { IsTrue result → (is_idchar b ≡ false) × (b ≢ quote) }
+{
+    !is_idchar(b) && b != b'"'
+}
+
 /// How many bytes the word of idchars has that is at the start: none where a string is joined to
-/// them.
+/// them. In a group it is often one.
 #[inline(always)]
 pub fn bare_len(text: &[u8]) -> usize
     ensures { result ≡ bare_len text.now }
 {
-    let len = idchar_len(text);
-    if string_follows(text, len) { 0 } else { len }
+    match text {
+        [first, next, ..] if is_idchar(*first) && ends_bare_word(*next) => 1,
+        _ => {
+            let len = idchar_len(text);
+            if string_follows(text, len) { 0 } else { len }
+        }
+    }
 }
 
 /// A token of this kind and length.
