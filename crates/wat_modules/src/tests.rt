@@ -221,6 +221,7 @@ fn bytes(rt: HostRuntime) -> Result<(), Fail> {
         ),
     ];
     for (text, expected) in rows.iter() {
+        assert!(rt; text.len() < 0x1_0000_0000);
         match compile(rt.alloc(), text) {
             Ok(bytes) => assert_eq!(rt; bytes.as_slice(), *expected),
             Err(_) => panic!(rt; "{text} is refused"),
@@ -315,6 +316,7 @@ fn refused(rt: HostRuntime) -> Result<(), Fail> {
         ("(module (func \"", "unexpected end-of-file", 15),
     ];
     for (text, expected, place) in rows.iter() {
+        assert!(rt; text.len() < 0x1_0000_0000);
         match compile(rt.alloc(), text) {
             Ok(_) => panic!(rt; "{text} is taken"),
             Err(error) => {

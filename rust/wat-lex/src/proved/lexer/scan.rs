@@ -6,7 +6,7 @@ use crate::proved::lexer::faults::{LexError, LexFault};
 use crate::proved::lexer::kinds::{Found, Lexeme, Outline, Shape, Sign, Stride, TokenKind};
 use crate::proved::lexer::scan::blocks::{block_at, other_than_idchars};
 use crate::proved::lexer::scan::classes::{
-    idchar_len, idchar_len_by_block, idchar_len_of_word, is_run_char, whitespace_len,
+    idchar_len, idchar_len_by_block, idchar_len_of_word, is_idchar, is_run_char, whitespace_len,
 };
 use crate::proved::lexer::scan::comments::{
     block_comment, block_comment_len, line_comment, line_comment_len,
@@ -51,8 +51,20 @@ fn string_follows(text: &[u8], len: usize) -> bool {
     byte_at(text, len) == b'"'
 }
 
+/// Whether a word of idchars ends before a byte, and no string is joined to it there.
+///
+/// # Proved
+///
+/// ```text
+/// ensures { IsTrue result → (is_idchar b ≡ false) × (b ≢ quote) }
+/// ```
+#[inline(always)]
+fn ends_bare_word(b: u8) -> bool {
+    !is_idchar(b) && b != b'"'
+}
+
 /// How many bytes the word of idchars has that is at the start: none where a string is joined to
-/// them.
+/// them. In a group it is often one.
 ///
 /// # Proved
 ///
@@ -61,8 +73,13 @@ fn string_follows(text: &[u8], len: usize) -> bool {
 /// ```
 #[inline(always)]
 pub fn bare_len(text: &[u8]) -> usize {
-    let len = idchar_len(text);
-    if string_follows(text, len) { 0 } else { len }
+    match text {
+        [first, next, ..] if is_idchar(*first) && ends_bare_word(*next) => 1,
+        _ => {
+            let len = idchar_len(text);
+            if string_follows(text, len) { 0 } else { len }
+        }
+    }
 }
 
 /// A token of this kind and length.
