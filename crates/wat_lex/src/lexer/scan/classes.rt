@@ -143,7 +143,7 @@ fn idchar_len_by_byte(text: &[u8]) -> usize
 }
 
 /// How many idchars are at the start, found a block at a time.
-#[inline(always)]
+#[inline]
 pub fn idchar_len_by_block(text: &[u8]) -> usize
     ensures { result ≡ prefix_len is_idchar text.now }
 {

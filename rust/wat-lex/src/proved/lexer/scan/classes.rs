@@ -181,7 +181,7 @@ fn idchar_len_by_byte(text: &[u8]) -> usize {
 /// ```text
 /// ensures { result ≡ prefix_len is_idchar text.now }
 /// ```
-#[inline(always)]
+#[inline]
 pub fn idchar_len_by_block(text: &[u8]) -> usize {
     let mut i = 0;
     while text.len() - i >= 16 {
