@@ -259,6 +259,31 @@ fn push_digits(
     text.push_str(&word[word.len() - digits.len()..])
 }
 
+/// A number's digits without `+`, underscores and `0x`, a `-` kept, in memory of their own.
+// It stays a call, so that digits that are as they are written are read at once.
+/// # Proved
+///
+/// ```text
+/// requires ascii { IsAscii word.now }
+/// requires long { hex ≡ true → 2 ≤ length (unsigned word.now) }
+/// requires plain { underscores ≡ false → has_underscores word.now ≡ false }
+/// ensures { IfOk result (IsText true (number_text hex word.now)) }
+/// ```
+#[inline(never)]
+fn joined_text<'a>(
+    alloc: Global,
+    word: &str,
+    hex: bool,
+    underscores: bool,
+) -> Result<CowStr<'a>, AllocError> {
+    let mut text = String::new(alloc);
+    if is_negative(word.as_bytes()) {
+        text.push('-')?;
+    }
+    push_digits(&mut text, word, hex, underscores)?;
+    Ok(CowStr::Owned(text))
+}
+
 /// A number's digits without `+`, underscores and `0x`, a `-` kept.
 ///
 /// # Proved
@@ -270,7 +295,7 @@ fn push_digits(
 /// ensures value { IfOk result (IsText (hex || underscores) (number_text hex word.now)) }
 /// ensures free { (hex || underscores) ≡ false → IsOk result }
 /// ```
-#[inline]
+#[inline(always)]
 fn number_text<'a>(
     alloc: Global,
     word: &'a str,
@@ -280,12 +305,7 @@ fn number_text<'a>(
     if !hex && !underscores {
         return Ok(CowStr::Borrowed(without_plus(word)));
     }
-    let mut text = String::new(alloc);
-    if is_negative(word.as_bytes()) {
-        text.push('-')?;
-    }
-    push_digits(&mut text, word, hex, underscores)?;
-    Ok(CowStr::Owned(text))
+    joined_text(alloc, word, hex, underscores)
 }
 
 /// The digits after `nan:0x`, without underscores.
