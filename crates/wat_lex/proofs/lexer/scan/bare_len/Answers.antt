@@ -8,8 +8,8 @@ use Rattle.wat_lex.proofs.lexer.scan.bare_len.Goals as goal
 
 other : (b q : ℕ) → b ≢ q → (b == q) ≡ false
 other b q n = elim (eqb_tells b q) [
-    | inl e ↦ absurd (n e.1)
-    | inr e ↦ e.0
+  | inl e ↦ absurd (n e.1)
+  | inr e ↦ e.0
 ]
 
 one_idchar : (a b : ℕ) (r : List ℕ) → is_idchar a ≡ true → is_idchar b ≡ false → prefix_len is_idchar (a ∷ b ∷ r) ≡ 1
