@@ -5,7 +5,9 @@ tables, globals; a start function; fields in any order that has imports first; a
 
 PROGRAM reads a module from standard input and writes its bytes to standard output; where it refuses the text its status is 1. It is
 rust/wat-modules/examples/module.rs. An `else` with nothing after it is written by PROGRAM and left out by `wat2wasm`, and
-`wat2wasm` 1.0.32 does not round hexadecimal numbers below the least normal one to the nearest: such texts are not made.
+`wat2wasm` 1.0.32 does not round hexadecimal numbers below the least normal one to the nearest: such texts are not made. A block of
+`(type x)` is written by the index of its type, as 6.5.2 says; `wat2wasm` writes it short where the type has a short form. Such a text
+is compared by what PROGRAM makes of it with the lists of the type in the place of `(type x)`.
 
 usage: compare_modules.py [--modules N] [--mutants N] [--seed N] [--show] PROGRAM [ARGUMENT..]
        compare_modules.py --write FUNCTIONS [--named] [--seed N] > TEXT
@@ -27,8 +29,10 @@ TABLE = pathlib.Path(__file__).resolve().parents[1] / "crates/wat_instructions/s
 class Body:
     """Instructions under labels, as lists of tokens."""
 
-    def __init__(self, rng, rows, names, variables):
+    def __init__(self, rng, rows, names, variables, types=None):
+        """Without types no instruction has a type use: `wat2wasm` looks for these in functions alone."""
         self.rng, self.rows, self.functions, self.globals, self.variables = rng, rows, names["func"], names["global"], variables
+        self.tables, self.type_names, self.types = names["table"], names["type"], types
         self.labels = [None]
 
     def index(self, names):
@@ -93,10 +97,30 @@ class Body:
             return ["nop"]
         if kind == "Memory":
             return [word] + self.memory()
+        if kind == "Labels":
+            return [word] + [self.index(self.labels[::-1]) for _ in range(self.rng.choice([1, 1, 2, 3, 200]))]
+        if kind == "Indirect":
+            if self.types is None:
+                return ["nop"]
+            return [word] + ([self.index(self.tables)] if self.tables and self.rng.random() < 0.5 else []) + self.unnamed_use()
         if kind == "Global" and not self.globals:
             return [word, str(self.rng.randrange(200))]
         given = {"Global": lambda: self.index(self.globals), "Local": lambda: self.index(self.variables), "Func": lambda: self.index(self.functions), "Label": lambda: self.index(self.labels[::-1]), "I32": lambda: self.number(32), "I64": lambda: self.number(64), "F32": lambda: self.float(24, 127), "F64": lambda: self.float(53, 1023)}
         return [word, given[kind]()] if kind in given else [word]
+
+    def unnamed_use(self):
+        """A type use whose parameters have no names."""
+        rng = self.rng
+        if not self.types or rng.random() < 0.5:
+            params, results = a_type(rng)
+            index = []
+        else:
+            at = rng.randrange(len(self.types))
+            params, results = self.types[at]
+            index = ["(", "type", rng.choice([self.type_names[at] or str(at), hex(at)]), ")"]
+            if rng.random() < 0.5:
+                return index
+        return index + listed(rng, "param", params, None)[0] + listed(rng, "result", results, None)[0]
 
     def label(self):
         return self.rng.choice([None, None, "$l", "$m", f"$l{len(self.labels)}"])
@@ -108,8 +132,10 @@ class Body:
         return made
 
     def head(self, label):
-        """The label and the type of a block, among groups that list nothing."""
+        """The label and the type of a block: a type use, or one result at most among groups that list nothing."""
         rng = self.rng
+        if self.types is not None and rng.random() < 0.5:
+            return ([label] if label else []) + self.unnamed_use()
         of = rng.choice([[], [], ["(", "result", rng.choice(TYPES), ")"]])
         before = ["(", "param", ")"] * rng.choice([0, 0, 0, 1, 2]) + ["(", "result", ")"] * rng.choice([0, 0, 0, 1])
         return ([label] if label else []) + before + of + ["(", "result", ")"] * rng.choice([0, 0, 0, 1])
@@ -188,10 +214,10 @@ def a_type(rng):
 
 
 def listed(rng, word, types, prefix):
-    """Groups that list these types, and their names."""
+    """Groups that list these types, and their names, of which there are none without a prefix."""
     tokens, names, types = [], [], list(types)
     while types or rng.random() < 0.2:
-        if types and word == "param" and rng.random() < 0.5:
+        if types and prefix and word == "param" and rng.random() < 0.5:
             names.append(f"${prefix}{len(names)}")
             tokens += ["(", word, names[-1], types.pop(0), ")"]
         else:
@@ -221,7 +247,7 @@ def function(rng, rows, names, types):
     """What comes after the name and the exports of a function."""
     use, first = type_use(rng, types, names)
     local, last = variables(rng, "local", "v")
-    return use + local + Body(rng, rows, names, first + last).many(3)
+    return use + local + Body(rng, rows, names, first + last, types).many(3)
 
 
 def kind_of(rng, kind):
@@ -338,27 +364,74 @@ def after_group(tokens, at):
     return at
 
 
-def types_of_blocks(tokens):
-    """Of each block how many items its groups list, by their words."""
-    for at, token in enumerate(tokens):
-        if token in ("block", "loop", "if"):
-            at += 2 if tokens[at + 1 : at + 2] and tokens[at + 1].startswith("$") else 1
-            counts = {"type": 0, "param": 0, "result": 0}
-            while tokens[at : at + 1] == ["("] and tokens[at + 1] in counts:
-                end = after_group(tokens, at)
-                counts[tokens[at + 1]] += end - at - 3
-                at = end
-            yield counts
+def group_at(tokens, at, word):
+    """The items of the group of the word that begins there, or None."""
+    if tokens[at : at + 2] != ["(", word]:
+        return None
+    return tokens[at + 2 : after_group(tokens, at) - 1]
 
 
-def has_other_type(tokens):
-    """Whether a block has more than one result, or what is no type in its place."""
-    return any(counts["result"] > 1 for counts in types_of_blocks(tokens))
+def lists_at(tokens, at):
+    """The parameters and the results that groups there list, and the place after them."""
+    made = []
+    for word in ("param", "result"):
+        items = []
+        while (group := group_at(tokens, at, word)) is not None:
+            items += [item for item in group if not item.startswith("$")]
+            at = after_group(tokens, at)
+        made.append(items)
+    return made[0], made[1], at
 
 
-def has_parameters(tokens):
-    """Whether a block has parameters, or a type by its index."""
-    return any(counts["param"] or counts["type"] for counts in types_of_blocks(tokens))
+def defined_types(tokens):
+    """The types that fields define: their names, parameters and results."""
+    made = []
+    for at in range(len(tokens)):
+        if tokens[at : at + 2] == ["(", "type"]:
+            name = tokens[at + 2] if tokens[at + 2].startswith("$") else None
+            place = at + (3 if name else 2)
+            if tokens[place : place + 2] == ["(", "func"]:
+                made.append((name,) + lists_at(tokens, place + 2)[:2])
+    return made
+
+
+def type_of(types, index):
+    """The type of an index, or None."""
+    if index.startswith("$"):
+        return next((of for of in types if of[0] == index), None)
+    try:
+        return types[int(index.replace("_", ""), 16 if index.startswith("0x") else 10)]
+    except (ValueError, IndexError):
+        return None
+
+
+def shortened(tokens):
+    """The tokens with the lists of its type in the place of each `(type x)` of a block, where the type has a short form."""
+    types, made, at = defined_types(tokens), [], 0
+    while at < len(tokens):
+        token = tokens[at]
+        made.append(token)
+        at += 1
+        if token not in ("block", "loop", "if"):
+            continue
+        if tokens[at : at + 1] and tokens[at].startswith("$"):
+            made.append(tokens[at])
+            at += 1
+        group = group_at(tokens, at, "type")
+        of = type_of(types, group[0]) if group and len(group) == 1 else None
+        if of and not of[1] and len(of[2]) < 2:
+            at = lists_at(tokens, after_group(tokens, at))[2]
+            made += ["(", "result"] + of[2] + [")"]
+    return made
+
+
+def has_use_in_global(tokens):
+    """Whether an instruction of a global has a type use, for which `wat2wasm` does not look."""
+    for at in range(len(tokens)):
+        if tokens[at : at + 2] == ["(", "global"]:
+            if {"call_indirect", "block", "loop", "if"} & set(tokens[at : after_group(tokens, at)]):
+                return True
+    return False
 
 
 def has_bare_part(tokens):
@@ -418,8 +491,6 @@ def has_brought_type(tokens):
 # What `wat2wasm` takes and PROGRAM refuses: its message, and what such a text has.
 DEPARTURES = {
     "of an `if` without `then` or `else`, which wat2wasm takes": ("unexpected token", has_bare_part),
-    "of a block with more results than one, not read as yet": ("unexpected token", has_other_type),
-    "of a block with parameters, not read as yet": ("unknown keyword", has_parameters),
     "of a `select` with a type, not read as yet": ("unknown keyword", has_typed_select),
     "of a variable of a reference type, not read as yet": ("unknown keyword", has_reference),
     "of a type use by the number of a type that a use brings, left out": ("unknown identifier", has_brought_type),
@@ -428,8 +499,16 @@ DEPARTURES = {
 }
 
 
-def departure(tokens, ours, theirs):
+SHORT = "of a block of `(type x)`, which wat2wasm writes short"
+IN_GLOBAL = "of a type use in a global, which wat2wasm does not look for"
+
+
+def departure(program, rng, tokens, ours, theirs):
     """The name of the departure that explains these answers, or None."""
+    if ours[0] is not None:
+        if shortened(tokens) != tokens and answer_of(program, laid(rng, shortened(tokens)))[0] == theirs[0]:
+            return SHORT
+        return IN_GLOBAL if has_use_in_global(tokens) else None
     if theirs[0] is None:
         return None
     found = (name for name, (message, has) in DEPARTURES.items() if ours[1].startswith(message + "\n") and has(tokens))
@@ -483,13 +562,13 @@ def main():
         if tokens and not has_empty_else(tokens):
             texts.append((True, tokens))
     texts = [(mutant, tokens, laid(rng, tokens)) for mutant, tokens in texts]
-    counts, differ = {"same bytes": 0, "both refuse": 0, **{name: 0 for name in DEPARTURES}}, []
+    counts, differ = {"same bytes": 0, "both refuse": 0, **{name: 0 for name in (*DEPARTURES, SHORT, IN_GLOBAL)}}, []
     with tempfile.TemporaryDirectory() as room:
         for mutant, tokens, text in texts:
             ours, theirs = answer_of(given.program, text), reference(text, room)
             if ours[0] == theirs[0] and (mutant or ours[0]):
                 counts["both refuse" if ours[0] is None else "same bytes"] += 1
-            elif explained := mutant and departure(tokens, ours, theirs):
+            elif (explained := departure(given.program, rng, tokens, ours, theirs)) and (mutant or explained == SHORT):
                 counts[explained] += 1
                 if given.show:
                     print(f"--- {explained}", text, f"ours:   {ours[1]}", sep="\n")

@@ -1,31 +1,22 @@
 -- Function types that are the same are equal, and each is among those of its module.
-use Rattle.std.proofs.Common.{◌≡◌, ◌<◌, ◌∙◌, ℕ, zero, suc, Bool, true, false, List, [], ◌∷◌, ◌++◌, length, map, Some, refl, sym, ap, subst, arith}
+use Rattle.std.proofs.Common.{◌≡◌, ◌<◌, ◌∙◌, ℕ, zero, suc, Bool, true, false, List, [], ◌∷◌, ◌++◌, length, map, drop, get_or, ◌+◌, Some, refl, sym, ap, subst, arith}
 use Rattle.std.specs.Prelude.{◌==◌, ◌&&◌, if◌then◌else◌, slice_get, slice_index_or}
 use Rattle.std.proofs.lemmas.Bool.Decides.{Decides-eqb}
 use Rattle.wat_instructions.specs.declared.pieces.ValueType.{ValueType}
 use Rattle.wat_instructions.specs.declared.pieces.ValueType.TheVariants as value
 use Rattle.std.specs.List.{flat_map}
-use Rattle.wat_fields.specs.Binary.{has_type, same_type, same_values, type_byte, type_index, types_after, types_of, use_of, used_type, with_type}
-use Rattle.wat_fields.specs.Fields.{FunctionType, TypeUse, definition_type, definitions_of}
+use Rattle.std.proofs.lemmas.List.{drop_more}
+use Rattle.wat_fields.specs.declared.fields.Field as declared
+use Rattle.wat_fields.specs.Views.{field_of}
+use Rattle.wat_instructions.specs.Types.{FunctionType, same_type, same_values, type_byte}
+use Rattle.wat_fields.specs.Binary.{has_type, type_index, types_after, types_of, used_by, with_type}
+use Rattle.wat_fields.specs.Fields.{definition_type, definitions_of}
 use Rattle.wat_fields.specs.Law.{TypesAreThere}
 
 both : (a b : Bool) → a && b ≡ true → (a ≡ true) × (b ≡ true)
 both true true e = (refl, refl)
 both true false e = cc
 both false b e = cc
-
-same_length : (ts us : List ValueType) → same_values ts us ≡ true → length ts ≡ length us
-same_length [] [] e = refl
-same_length (t ∷ ts) (u ∷ us) e = ap suc (same_length ts us (both (type_byte t == type_byte u) (same_values ts us) e).1)
-same_length [] (u ∷ us) e = cc
-same_length (t ∷ ts) [] e = cc
-
-pub other_length : (ts us : List ValueType) → (length ts ≡ length us → ⊥) → false ≡ same_values ts us
-other_length ts us h = by (same_values ts us) refl
-  where
-    by : (b : Bool) → same_values ts us ≡ b → false ≡ b
-    by true e = absurd (h (same_length ts us e))
-    by false e = refl
 
 -- value types of one byte are equal
 
@@ -108,15 +99,25 @@ kept t u us h = by (has_type u us)
     by true = h
     by false = still t us (u ∷ []) h
 
-kept_after : (t : FunctionType) (ts : List FunctionType) (us : List TypeUse) → has_type t ts ≡ true → has_type t (types_after ts us) ≡ true
+kept_after : (t : FunctionType) (ts us : List FunctionType) → has_type t ts ≡ true → has_type t (types_after ts us) ≡ true
 kept_after t ts [] h = h
-kept_after t ts (u ∷ us) h = kept_after t (with_type ts (used_type u)) us (kept t (used_type u) ts h)
+kept_after t ts (u ∷ us) h = kept_after t (with_type ts u) us (kept t u ts h)
 
-each : (ts : List FunctionType) (us : List TypeUse) (u : TypeUse) (k : ℕ) → k < length us → slice_index_or us k u ≡ u → has_type (used_type u) (types_after ts us) ≡ true
+each : (ts us : List FunctionType) (u : FunctionType) (k : ℕ) → k < length us → slice_index_or us k u ≡ u → has_type u (types_after ts us) ≡ true
 each ts [] u k l e = absurd (omega (arith, l))
-each ts (v ∷ us) u zero l e = kept_after (used_type u) (with_type ts (used_type v)) us (subst (λ x. has_type (used_type u) (with_type ts (used_type x)) ≡ true) (sym e) (brought (used_type u) ts))
-each ts (v ∷ us) u (suc k) l e = each (with_type ts (used_type v)) us u k (omega (arith, l)) e
+each ts (v ∷ us) u zero l e = kept_after u (with_type ts v) us (subst (λ x. has_type u (with_type ts x) ≡ true) (sym e) (brought u ts))
+each ts (v ∷ us) u (suc k) l e = each (with_type ts v) us u k (omega (arith, l)) e
+
+after_more : (ts us vs : List FunctionType) → types_after ts (us ++ vs) ≡ types_after (types_after ts us) vs
+after_more ts [] vs = refl
+after_more ts (u ∷ us) vs = after_more (with_type ts u) us vs
+
+-- one field on
+pub field_used : (fields : List declared.Field) (f d : declared.Field) (i : ℕ) (all before after : List FunctionType) → all ≡ types_after before (flat_map used_by (map field_of (drop i fields))) → i < length fields → f ≡ get_or fields i d → after ≡ types_after before (used_by (field_of f)) → all ≡ types_after after (flat_map used_by (map field_of (drop (i + 1) fields)))
+field_used fields f d i all before after h l e k =
+    let rest = flat_map used_by (map field_of (drop (i + 1) fields)) in
+    h ∙ ap (λ xs. types_after before (flat_map used_by (map field_of xs))) (drop_more fields i d l) ∙ ap (λ x. types_after before (used_by (field_of x) ++ rest)) (sym e) ∙ after_more before (used_by (field_of f)) rest ∙ ap (λ x. types_after x rest) (sym k)
 
 pub types_are_there : TypesAreThere
 unfolding types_of
-types_are_there fs u (k, l, e) = there (used_type u) (types_of fs) (each (map definition_type (definitions_of fs)) (flat_map use_of fs) u k l e)
+types_are_there fs t (k, l, e) = there t (types_of fs) (each (map definition_type (definitions_of fs)) (flat_map used_by fs) t k l e)

@@ -10,7 +10,8 @@ use Rattle.wat_instructions.specs.Law.{past}
 use Rattle.wat_instructions.specs.Terminals.{Terminal, Open, Close, Word, Id, Integer, Text, Float, Other}
 use Rattle.wat_fields.specs.declared.fields.IndexSpace.{IndexSpace}
 use Rattle.wat_fields.specs.declared.fields.IndexSpace.TheVariants as space
-use Rattle.wat_fields.specs.Fields.{Many, by_none, by_more, Types, Field, FieldIs, by_type, by_import, by_inline_import, by_func, by_table, by_memory, by_global, by_export, by_start, Binding, binding, Definition, Module, by_module, all_distinct, context_of, types_in, binding_of, bindings_of, definition_of, definitions_of, imports_first, space_of, starts_of}
+use Rattle.wat_instructions.specs.Types.{Types}
+use Rattle.wat_fields.specs.Fields.{Many, by_none, by_more, Field, FieldIs, by_type, by_import, by_inline_import, by_func, by_table, by_memory, by_global, by_export, by_start, Binding, binding, Definition, Module, by_module, all_distinct, context_of, types_in, binding_of, bindings_of, definition_of, definitions_of, imports_first, space_of, starts_of}
 use Rattle.wat_fields.specs.Law.{ReadingIsGrammar}
 use Rattle.wat_fields.specs.Reading.{Read, all, field_item, fields_at, fields_of, binding_by, import_binding, binding_at, definition_by, definition_at, type_at, whole, module_word, ended, ordered, starts, Before, Inside}
 use Rattle.wat_fields.proofs.Items.{word_is, is_word}
@@ -175,21 +176,21 @@ ordered_complete ts fs i l =
     ap (λ (b : Bool). if b then (if nat_lt (length (starts_of fs)) 2 then Ok fs else Err (SecondStart, ts)) else Err (LateImport, ts)) i ∙ ap (λ (b : Bool). if b then Ok fs else Err (SecondStart, ts)) ((Decides-ltb (length (starts_of fs)) 2).1 (omega (arith, l)))
 
 of_context : Laws → (ds : List Definition) (bs : List Binding) (w : List ℕ) (ts : List Terminal) (fs : List Field) → w ≡ codes "module" → ds ≡ flat_map definition_at (starts Before [] (label_of ts).1) → bs ≡ flat_map binding_at (starts Before [] (label_of ts).1)
-    → (b : Bool) → all_distinct (types_in ds) (context_of bs) ≡ b → (if b then ordered (label_of ts).1 (ended (all (field_item (types_in ds) (context_of bs)) (label_of ts).1)) else Err (Duplicate, (label_of ts).1)) ≡ Ok fs → Module (Open ∷ Word w ∷ ts) fs
+    → (b : Bool) → all_distinct (types_in ds) (context_of (types_in ds) bs) ≡ b → (if b then ordered (label_of ts).1 (ended (all (field_item (types_in ds) (context_of (types_in ds) bs)) (label_of ts).1)) else Err (Duplicate, (label_of ts).1)) ≡ Ok fs → Module (Open ∷ Word w ∷ ts) fs
 of_context laws ds bs w ts fs e n o true d h =
-    let s = ordered_sound (label_of ts).1 (ended (all (field_item (types_in ds) (context_of bs)) (label_of ts).1)) fs h in
-    let m = (all_sound (field_item (types_in ds) (context_of bs)) (FieldIs (types_in ds) (context_of bs)) (fields_read laws (types_in ds) (context_of bs)) fs (label_of ts).1 (Close ∷ []) (ended_sound _ fs s.0)).0 in
-    let k = module_context laws (types_in ds) (context_of bs) (label_of ts).1 fs m in
+    let s = ordered_sound (label_of ts).1 (ended (all (field_item (types_in ds) (context_of (types_in ds) bs)) (label_of ts).1)) fs h in
+    let m = (all_sound (field_item (types_in ds) (context_of (types_in ds) bs)) (FieldIs (types_in ds) (context_of (types_in ds) bs)) (fields_read laws (types_in ds) (context_of (types_in ds) bs)) fs (label_of ts).1 (Close ∷ []) (ended_sound _ fs s.0)).0 in
+    let k = module_context laws (types_in ds) (context_of (types_in ds) bs) (label_of ts).1 fs m in
     let x = n ∙ k.definitions in
     let y = o ∙ k.bindings in
-    by_module e (subst (λ z. Many (FieldIs (types_in z) (context_of (bindings_of fs))) (label_of ts).1 fs (Close ∷ [])) x (subst (λ z. Many (FieldIs (types_in ds) (context_of z)) (label_of ts).1 fs (Close ∷ [])) y m))
-    (subst (λ z. all_distinct (types_in z) (context_of (bindings_of fs)) ≡ true) x (subst (λ z. all_distinct (types_in ds) (context_of z) ≡ true) y d)) s.1 s.2
+    by_module e (subst (λ z. Many (FieldIs (types_in z) (context_of (types_in z) (bindings_of fs))) (label_of ts).1 fs (Close ∷ [])) x (subst (λ z. Many (FieldIs (types_in ds) (context_of (types_in ds) z)) (label_of ts).1 fs (Close ∷ [])) y m))
+    (subst (λ z. all_distinct (types_in z) (context_of (types_in z) (bindings_of fs)) ≡ true) x (subst (λ z. all_distinct (types_in ds) (context_of (types_in ds) z) ≡ true) y d)) s.1 s.2
 of_context laws ds bs w ts fs e n o false d h = cc
 
 word_module : Laws → (w : List ℕ) (ts : List Terminal) (fs : List Field) (b : Bool) → bytes_eq w (codes "module") ≡ b → (if b then fields_at (label_of ts).1 else Err (UnknownWord, Word w ∷ ts)) ≡ Ok fs → Module (Open ∷ Word w ∷ ts) fs
 word_module laws w ts fs true e h =
     let ss = starts Before [] (label_of ts).1 in
-    of_context laws (flat_map definition_at ss) (flat_map binding_at ss) w ts fs (word_is w (codes "module") e) refl refl (all_distinct (types_in (flat_map definition_at ss)) (context_of (flat_map binding_at ss))) refl h
+    of_context laws (flat_map definition_at ss) (flat_map binding_at ss) w ts fs (word_is w (codes "module") e) refl refl (all_distinct (types_in (flat_map definition_at ss)) (context_of (types_in (flat_map definition_at ss)) (flat_map binding_at ss))) refl h
 word_module laws w ts fs false e h = cc
 
 open_module : Laws → (ts : List Terminal) (fs : List Field) → module_word ts ≡ Ok fs → Module (Open ∷ ts) fs
@@ -223,10 +224,10 @@ module_complete : Laws → (ts : List Terminal) (fs : List Field) → Module ts 
 unfolding whole
 module_complete laws _ fs (by_module {w = w} {ts = ts} e m d i l) =
     let types = types_in (definitions_of fs) in
-    let context = context_of (bindings_of fs) in
+    let context = context_of types (bindings_of fs) in
     let k = module_context laws types context (label_of ts).1 fs m in
     ap (λ (x : Bool). if x then fields_at (label_of ts).1 else Err (UnknownWord, Word w ∷ ts)) (is_word w (codes "module") e)
-    ∙ ap (λ x. fields_of (types_in x) (context_of (flat_map binding_at (starts Before [] (label_of ts).1))) (label_of ts).1) k.definitions ∙ ap (λ x. fields_of types (context_of x) (label_of ts).1) k.bindings
+    ∙ ap (λ x. fields_of (types_in x) (context_of (types_in x) (flat_map binding_at (starts Before [] (label_of ts).1))) (label_of ts).1) k.definitions ∙ ap (λ x. fields_of types (context_of types x) (label_of ts).1) k.bindings
     ∙ ap (λ (x : Bool). if x then ordered (label_of ts).1 (ended (all (field_item types context) (label_of ts).1)) else Err (Duplicate, (label_of ts).1)) d
     ∙ ap (λ q. ordered (label_of ts).1 (ended q)) (all_complete (field_item types context) (FieldIs types context) (fields_read laws types context) fs (label_of ts).1 (Close ∷ []) m (no_field types context)) ∙ ordered_complete (label_of ts).1 fs i l
 

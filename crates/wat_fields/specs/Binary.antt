@@ -3,7 +3,7 @@
 -- section, 5.5.16 modules). And 6.6.3: the types that type uses without an index bring. What the standard leaves open is fixed: integers in their
 -- shortest form, runs of local variables of one type counted together, no section without content, no custom section, an `else` where the text has one.
 -- The order of exports is that of the text: an inline one is where its field is (6.6.5 to 6.6.8).
-use Rattle.std.specs.Prelude.{ℕ, suc, Bool, true, false, ◌&&◌, List, [], ◌∷◌, ◌++◌, length, map, Option, Some, None, ◌==◌, if◌then◌else◌}
+use Rattle.std.specs.Prelude.{ℕ, suc, Bool, true, false, List, [], ◌∷◌, ◌++◌, length, map, Option, Some, None, ◌==◌, if◌then◌else◌, pos}
 use Rattle.std.specs.Int.{w32, w64, to_le_bytes}
 use Rattle.std.specs.List.{flat_map}
 use Rattle.wat_lex.specs.binary.Encoding.{list_encoding, text_encoding}
@@ -12,7 +12,7 @@ use Rattle.wat_instructions.specs.declared.pieces.Argument.{Argument}
 use Rattle.wat_instructions.specs.declared.pieces.Argument.TheVariants as argument
 use Rattle.wat_instructions.specs.declared.pieces.Instruction.{Instruction}
 use Rattle.wat_instructions.specs.declared.pieces.ValueType.{ValueType}
-use Rattle.wat_instructions.specs.declared.pieces.ValueType.TheVariants as value
+use Rattle.wat_instructions.specs.Types.{FunctionType, UnnamedUse, index_or, same_type, type_byte}
 use Rattle.wat_fields.specs.declared.fields.GlobalType.{GlobalType}
 use Rattle.wat_fields.specs.declared.fields.IndexSpace.{IndexSpace}
 use Rattle.wat_fields.specs.declared.fields.IndexSpace.TheVariants as space
@@ -20,36 +20,13 @@ use Rattle.wat_fields.specs.declared.fields.Limits.{Limits}
 use Rattle.wat_fields.specs.declared.fields.ReferenceType.{ReferenceType}
 use Rattle.wat_fields.specs.declared.fields.ReferenceType.TheVariants as reference
 use Rattle.wat_fields.specs.declared.fields.TableType.{TableType}
-use Rattle.wat_fields.specs.Fields.{ExternType, FuncType, OfTable, OfMemory, OfGlobal, Field, Func, Table, Memory, Global, Start, Function, FunctionType, TypeUse, Variable, bindings_of, definition_type, definitions_of, extern_space, function_type, names_in, starts_of}
+use Rattle.wat_fields.specs.Fields.{ExternType, FuncType, OfTable, OfMemory, OfGlobal, Field, Func, Table, Memory, Global, Start, Function, TypeUse, Variable, bindings_of, definition_type, definitions_of, extern_space, function_type, names_in, starts_of}
 use Rattle.wat_fields.specs.Fields as field
-
--- 5.3.1 number types
-abbrev pub type_byte : ValueType → ℕ
-type_byte value.I32 = 0x7F
-type_byte value.I64 = 0x7E
-type_byte value.F32 = 0x7D
-type_byte value.F64 = 0x7C
 
 -- 5.4.1 block types: a value type, or 0x40
 abbrev pub block_byte : Option ValueType → ℕ
 block_byte None = 0x40
 block_byte (Some t) = type_byte t
-
--- 5.4: what follows the first byte of an instruction; 5.2.3 floats: their bits, the lowest byte first; 5.4.6 memory arguments: the exponent of the alignment,
--- and the offset
-abbrev pub argument_bytes : Argument → List ℕ
-argument_bytes argument.Nothing = []
-argument_bytes (argument.Index n) = unsigned_leb128 n
-argument_bytes (argument.I32 n) = signed_leb128 n
-argument_bytes (argument.I64 n) = signed_leb128 n
-argument_bytes (argument.F32 bits) = to_le_bytes w32 bits
-argument_bytes (argument.F64 bits) = to_le_bytes w64 bits
-argument_bytes (argument.Block t) = block_byte t ∷ []
-argument_bytes (argument.Memory align offset) = unsigned_leb128 align ++ unsigned_leb128 offset
-argument_bytes argument.Zero = 0 ∷ []
-
-abbrev pub instruction_bytes : Instruction → List ℕ
-instruction_bytes i = i.opcode ∷ argument_bytes i.argument
 
 abbrev pub variable_byte : Variable → ℕ
 variable_byte v = type_byte v.type
@@ -57,14 +34,6 @@ variable_byte v = type_byte v.type
 -- 5.3.6: 0x60, and both; 5.3.5: each a vector of value types, a byte each
 unfoldable pub type_bytes : FunctionType → List ℕ
 type_bytes t = 0x60 ∷ (text_encoding (map type_byte t.params) ++ text_encoding (map type_byte t.results))
-
-abbrev pub same_values : List ValueType → List ValueType → Bool
-same_values [] [] = true
-same_values (t ∷ ts) (u ∷ us) = (type_byte t == type_byte u) && same_values ts us
-same_values ts us = false
-
-abbrev pub same_type : FunctionType → FunctionType → Bool
-same_type t u = same_values t.params u.params && same_values t.results u.results
 
 -- 6.6.3: the index of a type among these, which is the least
 abbrev pub type_index : FunctionType → List FunctionType → ℕ
@@ -82,28 +51,60 @@ with_type ts t = if has_type t ts then ts else ts ++ t ∷ []
 abbrev pub used_type : TypeUse → FunctionType
 used_type u = function_type u.params u.results
 
--- the types after these type uses, from those before
-abbrev pub types_after : List FunctionType → List TypeUse → List FunctionType
+-- the types after those that are used, from those before
+abbrev pub types_after : List FunctionType → List FunctionType → List FunctionType
 types_after ts [] = ts
-types_after ts (u ∷ us) = types_after (with_type ts (used_type u)) us
+types_after ts (u ∷ us) = types_after (with_type ts u) us
 
--- the type uses of a field
-abbrev pub use_of : Field → List TypeUse
-use_of (Func f) = f.uses ∷ []
-use_of (field.Import m n l ns (FuncType u)) = u ∷ []
-use_of f = []
+-- the type that an instruction uses
+abbrev pub argument_types : Argument → List FunctionType
+argument_types (argument.Indirect c) = c.uses.type ∷ []
+argument_types (argument.BlockUse u) = u.type ∷ []
+argument_types a = []
+
+abbrev pub instruction_types : Instruction → List FunctionType
+instruction_types i = argument_types i.argument
+
+-- The types that a field uses, in their order: a function its own first, and then those of its instructions, in the order of the
+-- binary format. (6.6.3 says: as they appear, and leaves open whether folded instructions are unfolded before. A folded one comes after its operands
+-- here, as everywhere in these definitions.)
+abbrev pub used_by : Field → List FunctionType
+used_by (Func f) = used_type f.uses ∷ flat_map instruction_types f.body
+used_by (field.Import m n l ns (FuncType u)) = used_type u ∷ []
+used_by (Global l ns t is) = flat_map instruction_types is
+used_by f = []
 
 -- those that fields define, and after them those that type uses bring
 unfoldable pub types_of : List Field → List FunctionType
-types_of fs = types_after (map definition_type (definitions_of fs)) (flat_map use_of fs)
-
-abbrev pub index_or : Option ℕ → ℕ → ℕ
-index_or (Some i) n = i
-index_or None n = n
+types_of fs = types_after (map definition_type (definitions_of fs)) (flat_map used_by fs)
 
 -- 6.6.3: the index of the type that is used, which is among them (Law): the one that is said, or the least
 abbrev pub use_bytes : List FunctionType → TypeUse → List ℕ
 use_bytes types u = unsigned_leb128 (index_or u.index (type_index (used_type u) types))
+
+-- the same of an instruction
+abbrev pub unnamed_index : List FunctionType → UnnamedUse → ℕ
+unnamed_index types u = index_or u.index (type_index u.type types)
+
+-- 5.4: what follows the first byte of an instruction, where these are the module's types; 5.1.3 vectors; 5.2.3 floats: their bits, the lowest byte first;
+-- 5.4.1 br_table: the labels, and the default; call_indirect: the type, and the table; blocks: a type's index as a number with a sign, of 33 bits; 5.4.6
+-- memory arguments: the exponent of the alignment, and the offset
+abbrev pub argument_bytes : List FunctionType → Argument → List ℕ
+argument_bytes types argument.Nothing = []
+argument_bytes types (argument.Index n) = unsigned_leb128 n
+argument_bytes types (argument.Labels b) = list_encoding unsigned_leb128 b.labels ++ unsigned_leb128 b.default
+argument_bytes types (argument.Indirect c) = unsigned_leb128 (unnamed_index types c.uses) ++ unsigned_leb128 c.table
+argument_bytes types (argument.I32 n) = signed_leb128 n
+argument_bytes types (argument.I64 n) = signed_leb128 n
+argument_bytes types (argument.F32 bits) = to_le_bytes w32 bits
+argument_bytes types (argument.F64 bits) = to_le_bytes w64 bits
+argument_bytes types (argument.Block t) = block_byte t ∷ []
+argument_bytes types (argument.BlockUse u) = signed_leb128 (pos (unnamed_index types u))
+argument_bytes types (argument.Memory align offset) = unsigned_leb128 align ++ unsigned_leb128 offset
+argument_bytes types argument.Zero = 0 ∷ []
+
+abbrev pub instruction_bytes : List FunctionType → Instruction → List ℕ
+instruction_bytes types i = i.opcode ∷ argument_bytes types i.argument
 
 -- 5.5.6: the index of the function's type
 abbrev pub function_bytes : List FunctionType → Function → List ℕ
@@ -151,12 +152,12 @@ abbrev pub import_bytes : List FunctionType → ImportEntry → List ℕ
 import_bytes types i = (text_encoding i.from ++ text_encoding i.name) ++ extern_bytes types i.what
 
 -- 5.4.9 expressions: the instructions, and 0x0B
-abbrev pub expression_bytes : List Instruction → List ℕ
-expression_bytes is = flat_map instruction_bytes is ++ 0x0B ∷ []
+abbrev pub expression_bytes : List FunctionType → List Instruction → List ℕ
+expression_bytes types is = flat_map (instruction_bytes types) is ++ 0x0B ∷ []
 
 -- 5.5.9: the type of a global, and its first value
-abbrev pub global_bytes : GlobalType × List Instruction → List ℕ
-global_bytes g = global_type_bytes g.0 ++ expression_bytes g.1
+abbrev pub global_bytes : List FunctionType → GlobalType × List Instruction → List ℕ
+global_bytes types g = global_type_bytes g.0 ++ expression_bytes types g.1
 
 -- 5.5.10: an export of the item of an index
 pub record Export : Type 0 where
@@ -219,12 +220,12 @@ abbrev pub run_bytes : Run → List ℕ
 run_bytes r = unsigned_leb128 r.count ++ r.byte ∷ []
 
 -- 5.5.13: the local variables in runs, and the instructions
-unfoldable pub code : Function → List ℕ
-code f = list_encoding run_bytes (runs_of (map variable_byte f.locals)) ++ expression_bytes f.body
+unfoldable pub code : List FunctionType → Function → List ℕ
+code types f = list_encoding run_bytes (runs_of (map variable_byte f.locals)) ++ expression_bytes types f.body
 
 -- an entry of the code section: after its size
-abbrev pub code_bytes : Function → List ℕ
-code_bytes f = text_encoding (code f)
+abbrev pub code_bytes : List FunctionType → Function → List ℕ
+code_bytes types f = text_encoding (code types f)
 
 -- 5.5.2: a section: its number, its size and its content, which are written as a vector of bytes is
 abbrev pub section : ℕ → List ℕ → List ℕ
@@ -282,7 +283,7 @@ abbrev pub memory_section : List Field → List ℕ
 memory_section fs = list_section 5 limits_bytes (flat_map memory_of fs)
 
 abbrev pub global_section : List Field → List ℕ
-global_section fs = list_section 6 global_bytes (flat_map global_of fs)
+global_section fs = list_section 6 (global_bytes (types_of fs)) (flat_map global_of fs)
 
 abbrev pub export_section : List Field → List ℕ
 export_section fs = list_section 7 export_bytes (exports_of fs)
@@ -296,7 +297,7 @@ abbrev pub start_section : List Field → List ℕ
 start_section fs = start_by (starts_of fs)
 
 abbrev pub code_section : List Field → List ℕ
-code_section fs = list_section 10 code_bytes (functions_of fs)
+code_section fs = list_section 10 (code_bytes (types_of fs)) (functions_of fs)
 
 -- 5.5.16: a module of these fields
 unfoldable pub module_bytes : List Field → List ℕ

@@ -2,8 +2,7 @@
 -- 6.6.7 memories, 6.6.8 globals, 6.6.9 exports, 6.6.10 start function, 6.6.13 modules; 6.4 (types). Over the tokens that count. A rule takes tokens from a
 -- place on, and leaves the rest. Left out of the standard: the fields `elem` and `data`, inline elements and data, v128, funcref and externref as value
 -- types, a module without its parentheses, and a type use by the index of a type that no field `type` defines (one that a type use brings, 6.6.3); and what
--- Table and Grammar of `wat_instructions` leave out: types of blocks by their index, and those that bring parameters or more than one result, br_table,
--- call_indirect, select with types, references, tables, bulk memory, saturating conversions, vectors.
+-- Table and Grammar of `wat_instructions` leave out: select with types, references, tables, bulk memory, saturating conversions, vectors.
 use Rattle.std.specs.Prelude.{◌≡◌, ◌&&◌, ◌^◌, ◌≤◌, ℕ, Bool, true, false, List, [], ◌∷◌, ◌++◌, length, map, codes, bytes_eq, nat_lt, slice_get, Option, Some, None, if◌then◌else◌}
 use Rattle.std.specs.List.{flat_map}
 use Rattle.std.specs.Str.{is_utf8}
@@ -13,6 +12,7 @@ use Rattle.wat_instructions.specs.declared.pieces.ValueType.{ValueType}
 use Rattle.wat_instructions.specs.Grammar.{Body, Context, is_name, label_of, position, value_type}
 use Rattle.wat_instructions.specs.Names.{are_distinct}
 use Rattle.wat_instructions.specs.Terminals.{Terminal, Open, Close, Word, Id, Integer, Text, Label}
+use Rattle.wat_instructions.specs.Types.{FunctionType, Types, from_to}
 use Rattle.wat_fields.specs.declared.fields.GlobalType.{GlobalType}
 use Rattle.wat_fields.specs.declared.fields.IndexSpace.{IndexSpace}
 use Rattle.wat_fields.specs.declared.fields.IndexSpace.TheVariants as space
@@ -38,13 +38,9 @@ name_of v = v.name
 abbrev pub type_of : Variable → ValueType
 type_of v = v.type
 
--- 6.4.5: a function type, the types of the parameters and of the results
-pub record FunctionType : Type 0 where
-  pub params : List ValueType
-  pub results : List ValueType
-
+-- 6.4.5: the function type of parameters and results
 abbrev pub function_type : List Variable → List Variable → FunctionType
-function_type params results = record { params = map type_of params; results = map type_of results }
+function_type params results = from_to (map type_of params) (map type_of results)
 
 -- 6.6.3: a type use, which may say the index of its type, and its parameters and results
 pub record TypeUse : Type 0 where
@@ -122,9 +118,10 @@ abbrev pub names_in : IndexSpace → List Binding → List Label
 names_in s [] = []
 names_in s (h ∷ hs) = if is_space s h.space then h.name ∷ names_in s hs else names_in s hs
 
--- 6.1.3: the context of these items
-abbrev pub context_of : List Binding → Context
-context_of hs = record {
+-- 6.1.3: the context of these types and items
+abbrev pub context_of : Types → List Binding → Context
+context_of types hs = record {
+  types = types;
   locals = [];
   funcs = names_in space.Func hs;
   tables = names_in space.Table hs;
@@ -142,6 +139,7 @@ names_of context space.Global = context.globals
 -- 6.1.3, 6.6.5: the parameters come before the local variables
 abbrev pub with_locals : Context → List Variable → Context
 with_locals context variables = record {
+  types = context.types;
   locals = map name_of variables;
   funcs = context.funcs;
   tables = context.tables;
@@ -164,17 +162,13 @@ definition_of f = []
 abbrev pub definitions_of : List Field → List Definition
 definitions_of fs = flat_map definition_of fs
 
--- 6.1.3: the types of the context, by name and by index
-pub record Types : Type 0 where
-  pub names : List Label
-  pub types : List FunctionType
-
 abbrev pub definition_name : Definition → Label
 definition_name d = d.name
 
 abbrev pub definition_type : Definition → FunctionType
 definition_type d = d.type
 
+-- 6.1.3: the types of the context
 abbrev pub types_in : List Definition → Types
 types_in ds = record { names = map definition_name ds; types = map definition_type ds }
 
@@ -314,5 +308,6 @@ pub data FieldIs (types : Types) (context : Context) : List Terminal → List Fi
 -- is one start function at most.
 pub data Module : List Terminal → List Field → Type 0 where
   by_module : {w : List ℕ} {ts : List Terminal} {fs : List Field}
-      → w ≡ codes "module" → Many (FieldIs (types_in (definitions_of fs)) (context_of (bindings_of fs))) (label_of ts).1 fs (Close ∷ []) → all_distinct (types_in (definitions_of fs)) (context_of (bindings_of fs)) ≡ true
+      → w ≡ codes "module" → Many (FieldIs (types_in (definitions_of fs)) (context_of (types_in (definitions_of fs)) (bindings_of fs))) (label_of ts).1 fs (Close ∷ [])
+      → all_distinct (types_in (definitions_of fs)) (context_of (types_in (definitions_of fs)) (bindings_of fs)) ≡ true
       → imports_first fs ≡ true → length (starts_of fs) ≤ 1 → Module (Open ∷ Word w ∷ ts) fs

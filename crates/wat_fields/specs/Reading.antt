@@ -7,6 +7,7 @@ use Rattle.wat_instructions.specs.declared.pieces.FaultKind.TheVariants.{Unexpec
 use Rattle.wat_instructions.specs.declared.pieces.ValueType.{ValueType}
 use Rattle.wat_instructions.specs.Grammar.{Context, Fault, index, label_of, small, value_type}
 use Rattle.wat_instructions.specs.Machine.{body}
+use Rattle.wat_instructions.specs.Types.{FunctionType, Types, same_type}
 use Rattle.wat_instructions.specs.Terminals.{Terminal, Open, Close, Word, Id, Integer, Text, Label}
 use Rattle.wat_fields.specs.declared.fields.GlobalType.{GlobalType}
 use Rattle.wat_fields.specs.declared.fields.IndexSpace.{IndexSpace}
@@ -14,8 +15,7 @@ use Rattle.wat_fields.specs.declared.fields.IndexSpace.TheVariants as space
 use Rattle.wat_fields.specs.declared.fields.Limits.{Limits}
 use Rattle.wat_fields.specs.declared.fields.ReferenceType.{ReferenceType}
 use Rattle.wat_fields.specs.declared.fields.TableType.{TableType}
-use Rattle.wat_fields.specs.Binary.{same_type}
-use Rattle.wat_fields.specs.Fields.{Field, Func, Table, Memory, Global, Export, Import, TypeField, Start, Function, FunctionType, TypeUse, ExternType, FuncType, OfTable, OfMemory, OfGlobal, Types, Definition, Binding, Variable, binding, definition, function_type, type_use, variable, unnamed, name_of, names_of, context_of, types_in, with_locals, all_distinct, imports_first, reference_type, space_of, starts_of}
+use Rattle.wat_fields.specs.Fields.{Field, Func, Table, Memory, Global, Export, Import, TypeField, Start, Function, TypeUse, ExternType, FuncType, OfTable, OfMemory, OfGlobal, Definition, Binding, Variable, binding, definition, function_type, type_use, variable, unnamed, name_of, names_of, context_of, types_in, with_locals, all_distinct, imports_first, reference_type, space_of, starts_of}
 use Rattle.wat_instructions.specs.Names.{are_distinct}
 
 -- a value and the tokens after it, or the fault
@@ -404,7 +404,7 @@ abbrev pub fields_of : Types → Context → List Terminal → Result (List Fiel
 fields_of types context ts = if all_distinct types context then ordered ts (ended (all (field_item types context) ts)) else Err (Duplicate, ts)
 
 abbrev pub fields_from : List (List Terminal) → List Terminal → Result (List Field) Fault
-fields_from ss ts = fields_of (types_in (flat_map definition_at ss)) (context_of (flat_map binding_at ss)) ts
+fields_from ss ts = fields_of (types_in (flat_map definition_at ss)) (context_of (types_in (flat_map definition_at ss)) (flat_map binding_at ss)) ts
 
 abbrev pub fields_at : List Terminal → Result (List Field) Fault
 fields_at ts = fields_from (starts Before [] ts) ts

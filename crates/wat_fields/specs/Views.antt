@@ -6,12 +6,13 @@ use Rattle.wat_instructions.specs.declared.pieces.Refusal.TheVariants as refusal
 use Rattle.wat_instructions.specs.Parts.{fault_of}
 use Rattle.wat_instructions.specs.Grammar.{Context}
 use Rattle.wat_instructions.specs.Terminals.{Terminal, Label, label, terminal}
+use Rattle.wat_instructions.specs.Types.{Types}
+use Rattle.wat_instructions.specs.Views.{type_of}
 use Rattle.wat_fields.specs.declared.fields.Variable as declared_variable
 use Rattle.wat_fields.specs.declared.fields.Definition as declared_definition
 use Rattle.wat_fields.specs.declared.fields.Import as declared_import
 use Rattle.wat_fields.specs.declared.fields.ExternType as declared_extern
 use Rattle.wat_fields.specs.declared.fields.ExternType.TheVariants as externs
-use Rattle.wat_fields.specs.declared.fields.FunctionType as declared_type
 use Rattle.wat_fields.specs.declared.fields.TypeUse as declared_use
 use Rattle.wat_fields.specs.declared.fields.Function as declared_function
 use Rattle.wat_fields.specs.declared.fields.Export as declared_export
@@ -28,7 +29,7 @@ use Rattle.wat_fields.specs.declared.names.Depth as declared_depth
 use Rattle.wat_fields.specs.declared.names.Depth.TheVariants as depths
 use Rattle.wat_lex.specs.binary.Leb128.{unsigned_leb128}
 use Rattle.wat_fields.specs.Binary.{Export, ImportEntry, Run, export, next_index, run, section}
-use Rattle.wat_fields.specs.Fields.{ExternType, FuncType, OfTable, OfMemory, OfGlobal, Field, TypeField, Import, Func, Table, Memory, Global, Start, Definition, Function, FunctionType, TypeUse, Types, Binding, Variable, binding, definition, extern_space, type_use, variable}
+use Rattle.wat_fields.specs.Fields.{ExternType, FuncType, OfTable, OfMemory, OfGlobal, Field, TypeField, Import, Func, Table, Memory, Global, Start, Definition, Function, TypeUse, Binding, Variable, binding, definition, extern_space, type_use, variable}
 use Rattle.wat_fields.specs.Fields as field
 use Rattle.wat_fields.specs.Reading.{Item, Depth, Before, Inside}
 
@@ -38,9 +39,6 @@ variable_of v = variable (label v.name) v.of
 -- the bytes of a string
 abbrev pub text_of : Bor (List ℕ) → List ℕ
 text_of n = n.now
-
-abbrev pub type_of : declared_type.FunctionType → FunctionType
-type_of t = record { params = t.params.items; results = t.results.items }
 
 abbrev pub use_of : declared_use.TypeUse → TypeUse
 use_of u = type_use u.index (map variable_of u.params.items) (map variable_of u.results.items)
@@ -86,8 +84,12 @@ fields_of fs = map field_of fs
 abbrev pub binding_of : declared_binding.Binding → Binding
 binding_of h = binding h.space (label h.name)
 
+abbrev pub types_of : declared_names.Names → Types
+types_of n = record { names = n.type_names; types = map type_of n.types.items }
+
 abbrev pub context_of : declared_names.Names → Context
 context_of n = record {
+  types = types_of n;
   locals = [];
   funcs = n.funcs;
   tables = n.tables;
@@ -95,17 +97,9 @@ context_of n = record {
   globals = n.globals;
 }
 
-abbrev pub types_of : declared_names.Names → Types
-types_of n = record { names = n.type_names; types = map type_of n.types.items }
-
 -- the same with names of local variables
 abbrev pub with_names : List Label → Context → Context
-with_names ls c = record { locals = ls; funcs = c.funcs; tables = c.tables; memories = c.memories; globals = c.globals }
-
--- no fault of the text
-abbrev pub IsMemory : Refusal → Type 0
-IsMemory (refusal.Text f) = ⊥
-IsMemory (refusal.Memory e) = Unit {0}
+with_names ls c = record { types = c.types; locals = ls; funcs = c.funcs; tables = c.tables; memories = c.memories; globals = c.globals }
 
 -- what a call that reads one item promises: none, and nothing else; or these after the others; or the fault; or memory was wanting
 abbrev pub NoItem : {V : Type 0} → Item V → List V → List V → Type 0

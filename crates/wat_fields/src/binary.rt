@@ -1,19 +1,23 @@
 //! The bytes of a module.
-ghost use Rattle.std.specs.Prelude.{◌≡◌, ◌++◌, ◌^◌, ◌∷◌, [], ℕ, List, OnOk, IfOk, MatchOption, length, map};
+ghost use Rattle.std.specs.Prelude.{◌≡◌, ◌<◌, ◌≤◌, pos, ◌++◌, ◌^◌, ◌∷◌, [], ℕ, List, OnOk, IfOk, MatchOption, length, map};
 ghost use Rattle.std.specs.List.{flat_map};
 ghost use Rattle.wat_fields.specs.Binary as binary;
 ghost use Rattle.wat_fields.specs.Fields as grammar;
-ghost use Rattle.wat_fields.specs.Views.{AreBelow, count, counted, counted_section, counts_of, export_of, exports_by, extern_of, field_of, fields_of, function_of, import_of, more, run_of, text_of, type_of, use_of, variable_of};
+ghost use Rattle.wat_fields.specs.Views.{AreBelow, count, counted, counted_section, counts_of, export_of, exports_by, extern_of, field_of, fields_of, function_of, import_of, more, run_of, text_of, use_of, variable_of};
 ghost use Rattle.wat_lex.specs.binary.Encoding.{list_encoding, text_encoding};
-ghost use Rattle.wat_lex.specs.binary.Leb128.{unsigned_leb128};
+ghost use Rattle.wat_lex.specs.binary.Leb128.{signed_leb128, unsigned_leb128};
+ghost use Rattle.wat_instructions.specs.Types.{index_or, type_byte};
+ghost use Rattle.wat_instructions.specs.Views.{type_of};
+ghost use Rattle.wat_instructions.specs.Views as unnamed;
 
 use crate::fields::{
-    Export, ExternType, Field, Function, FunctionType, GlobalType, Import, IndexSpace, Limits,
-    ReferenceType, TableType, TypeUse, Variable,
+    Export, ExternType, Field, Function, GlobalType, Import, IndexSpace, Limits, ReferenceType,
+    TableType, TypeUse, Variable,
 };
-use crate::uses::{function_type, same_type, type_byte};
+use crate::uses::function_type;
 use std::alloc::{AllocError, Global};
 use wat_instructions::pieces::{Argument, Instruction, ValueType};
+use wat_instructions::types::{FunctionType, UnnamedUse, copied, same_type, type_byte};
 use wat_lex::encode::{Encode, EncodeError};
 
 /// The magic number and the version.
@@ -53,14 +57,44 @@ fn block_byte(of: Option<ValueType>) -> u8
     }
 }
 
+/// Appends a number with a sign.
+fn put_signed(out: &mut Vec<u8>, n: usize) -> Result<(), AllocError>
+    requires { n < 2 ^ 63 }
+    ensures { OnOk result (out.new.items ≡ out.old.items ++ signed_leb128 (pos n)) }
+{
+    match (n as i64).encode(out) {
+        Ok(()) => Ok(()),
+        Err(error) => Err(refused(error)),
+    }
+}
+
+/// Appends labels after their number.
+fn put_labels(out: &mut Vec<u8>, labels: &[usize]) -> Result<(), AllocError>
+    ensures { OnOk result (out.new.items ≡ out.old.items ++ list_encoding unsigned_leb128 labels.now) }
+{
+    put(out, labels.len())?;
+    for label in labels {
+        put(out, *label)?;
+    }
+    Ok(())
+}
+
 /// Appends an instruction.
-fn put_instruction(out: &mut Vec<u8>, instruction: Instruction) -> Result<(), AllocError>
-    ensures { OnOk result (out.new.items ≡ out.old.items ++ binary.instruction_bytes instruction) }
+fn put_instruction(
+    out: &mut Vec<u8>,
+    types: &[FunctionType],
+    instruction: &Instruction,
+) -> Result<(), AllocError>
+    ensures { OnOk result (out.new.items ≡ out.old.items ++ binary.instruction_bytes (map type_of types.now) instruction.now) }
 {
     out.push(instruction.opcode)?;
-    match instruction.argument {
+    match &instruction.argument {
         Argument::Nothing => Ok(()),
-        Argument::Index(n) => put(out, n),
+        Argument::Index(n) => put(out, *n),
+        Argument::Labels(table) => {
+            put_labels(out, table.labels())?;
+            put(out, table.last())
+        }
         Argument::I32(n) => match n.encode(out) {
             Ok(()) => Ok(()),
             Err(error) => Err(refused(error)),
@@ -77,13 +111,18 @@ fn put_instruction(out: &mut Vec<u8>, instruction: Instruction) -> Result<(), Al
             out.extend_from_slice(&bits.to_le_bytes())?;
             Ok(())
         }
+        Argument::Indirect(call) => {
+            put(out, unnamed_index(types, call.uses()))?;
+            put(out, call.table())
+        }
         Argument::Block(of) => {
-            out.push(block_byte(of))?;
+            out.push(block_byte(*of))?;
             Ok(())
         }
+        Argument::BlockUse(uses) => put_signed(out, unnamed_index(types, uses.uses())),
         Argument::Memory(align, offset) => {
-            put(out, usize::from(align))?;
-            put(out, offset as usize)?;
+            put(out, usize::from(*align))?;
+            put(out, *offset as usize)?;
             Ok(())
         }
         Argument::Zero => {
@@ -94,11 +133,15 @@ fn put_instruction(out: &mut Vec<u8>, instruction: Instruction) -> Result<(), Al
 }
 
 /// Appends instructions.
-fn put_instructions(out: &mut Vec<u8>, all: &[Instruction]) -> Result<(), AllocError>
-    ensures { OnOk result (out.new.items ≡ out.old.items ++ flat_map binary.instruction_bytes all.now) }
+fn put_instructions(
+    out: &mut Vec<u8>,
+    types: &[FunctionType],
+    all: &[Instruction],
+) -> Result<(), AllocError>
+    ensures { OnOk result (out.new.items ≡ out.old.items ++ flat_map (binary.instruction_bytes (map type_of types.now)) all.now) }
 {
     for instruction in all {
-        put_instruction(out, *instruction)?;
+        put_instruction(out, types, instruction)?;
     }
     Ok(())
 }
@@ -116,7 +159,8 @@ fn variable_bytes(alloc: Global, variables: &[Variable<'_>]) -> Result<Vec<u8>, 
 
 /// The index of a type among these, which is their number where it is not among them.
 fn type_index(types: &[FunctionType], of: &FunctionType) -> usize
-    ensures { result ≡ binary.type_index (type_of of.now) (map type_of types.now) }
+    ensures within { result ≤ length types.now }
+    ensures is { result ≡ binary.type_index (type_of of.now) (map type_of types.now) }
 {
     for (i, known) in types.iter().enumerate() {
         if same_type(known, of) {
@@ -138,17 +182,6 @@ fn has_type(types: &[FunctionType], of: &FunctionType) -> bool
     false
 }
 
-/// A function type once more.
-fn copied(alloc: Global, of: &FunctionType) -> Result<FunctionType, AllocError>
-    ensures { IfOk result (λ t. type_of t ≡ type_of of.now) }
-{
-    let mut params = Vec::new(alloc);
-    params.extend_from_slice(&of.params)?;
-    let mut results = Vec::new(alloc);
-    results.extend_from_slice(&of.results)?;
-    Ok(FunctionType { params, results })
-}
-
 /// The types that fields define.
 fn defined_types(alloc: Global, fields: &[Field<'_>]) -> Result<Vec<FunctionType>, AllocError>
     ensures { IfOk result (λ types. map type_of types.items ≡ map grammar.definition_type (grammar.definitions_of (fields_of fields.now))) }
@@ -162,22 +195,86 @@ fn defined_types(alloc: Global, fields: &[Field<'_>]) -> Result<Vec<FunctionType
     Ok(types)
 }
 
-/// The type use of a field, where it has one.
-fn use_of<'f, 'p>(field: &'f Field<'p>) -> Option<&'f TypeUse<'p>>
-    ensures { MatchOption result (binary.use_of (field_of field.now) ≡ []) (λ u. binary.use_of (field_of field.now) ≡ use_of u.now ∷ []) }
+/// Appends a type where it is not among these.
+fn add_type(types: &mut Vec<FunctionType>, of: FunctionType) -> Result<(), AllocError>
+    ensures { OnOk result (map type_of types.new.items ≡ binary.with_type (map type_of types.old.items) (type_of of)) }
+{
+    if !has_type(types, &of) {
+        types.push(of)?;
+    }
+    Ok(())
+}
+
+/// The type use of an instruction, where it has one.
+fn instruction_use(instruction: &Instruction) -> Option<&UnnamedUse>
+    ensures { MatchOption result (binary.instruction_types instruction.now ≡ []) (λ u. binary.instruction_types instruction.now ≡ type_of u.now.of ∷ []) }
+{
+    match &instruction.argument {
+        Argument::Indirect(call) => Some(call.uses()),
+        Argument::BlockUse(uses) => Some(uses.uses()),
+        Argument::Nothing
+        | Argument::Index(_)
+        | Argument::Labels(_)
+        | Argument::I32(_)
+        | Argument::I64(_)
+        | Argument::F32(_)
+        | Argument::F64(_)
+        | Argument::Block(_)
+        | Argument::Memory(_, _)
+        | Argument::Zero => None,
+    }
+}
+
+/// Appends the types that instructions use.
+fn add_instructions(
+    alloc: Global,
+    types: &mut Vec<FunctionType>,
+    all: &[Instruction],
+) -> Result<(), AllocError>
+    ensures { OnOk result (map type_of types.new.items ≡ binary.types_after (map type_of types.old.items) (flat_map binary.instruction_types all.now)) }
+{
+    for instruction in all {
+        if let Some(uses) = instruction_use(instruction) {
+            if !has_type(types, &uses.of) {
+                types.push(copied(alloc, &uses.of)?)?;
+            }
+        }
+    }
+    Ok(())
+}
+
+/// Appends the type of a type use.
+fn add_use(
+    alloc: Global,
+    types: &mut Vec<FunctionType>,
+    uses: &TypeUse<'_>,
+) -> Result<(), AllocError>
+    ensures { OnOk result (map type_of types.new.items ≡ binary.with_type (map type_of types.old.items) (binary.used_type (use_of uses.now))) }
+{
+    let of = function_type(alloc, &uses.params, &uses.results)?;
+    add_type(types, of)
+}
+
+/// Appends the types that a field uses.
+fn add_field(
+    alloc: Global,
+    types: &mut Vec<FunctionType>,
+    field: &Field<'_>,
+) -> Result<(), AllocError>
+    ensures { OnOk result (map type_of types.new.items ≡ binary.types_after (map type_of types.old.items) (binary.used_by (field_of field.now))) }
 {
     match field {
-        Field::Func(function) => Some(&function.uses),
+        Field::Func(function) => {
+            add_use(alloc, types, &function.uses)?;
+            add_instructions(alloc, types, &function.body)
+        }
         Field::Import(import) => match &import.what {
-            ExternType::Func(uses) => Some(uses),
-            ExternType::Table(_) | ExternType::Memory(_) | ExternType::Global(_) => None,
+            ExternType::Func(uses) => add_use(alloc, types, uses),
+            ExternType::Table(_) | ExternType::Memory(_) | ExternType::Global(_) => Ok(()),
         },
-        Field::Type(_)
-        | Field::Table(_)
-        | Field::Memory(_)
-        | Field::Global(_)
-        | Field::Export(_)
-        | Field::Start(_) => None,
+        Field::Global(global) => add_instructions(alloc, types, &global.first),
+        Field::Type(_) | Field::Table(_) | Field::Memory(_) | Field::Export(_) | Field::Start(_) =>
+            Ok(()),
     }
 }
 
@@ -188,19 +285,25 @@ fn types_of(alloc: Global, fields: &[Field<'_>]) -> Result<Vec<FunctionType>, Al
 {
     let mut types = defined_types(alloc, fields)?;
     for field in fields {
-        if let Some(uses) = use_of(field) {
-            let of = function_type(alloc, &uses.params, &uses.results)?;
-            if !has_type(&types, &of) {
-                types.push(of)?;
-            }
-        }
+        add_field(alloc, &mut types, field)?;
     }
     Ok(types)
 }
 
+/// The index of the type that an instruction uses.
+fn unnamed_index(types: &[FunctionType], uses: &UnnamedUse) -> usize
+    ensures is { result ≡ binary.unnamed_index (map type_of types.now) (unnamed.use_of uses.now) }
+    ensures small { index_or uses.now.index 0 < 2 ^ 63 → result < 2 ^ 63 }
+{
+    match uses.index {
+        Some(index) => index,
+        None => type_index(types, &uses.of),
+    }
+}
+
 /// The index of the type that is used.
 fn use_index(alloc: Global, types: &[FunctionType], uses: &TypeUse<'_>) -> Result<usize, AllocError>
-    ensures { IfOk result (λ n. n ≡ binary.index_or (use_of uses.now).index (binary.type_index (binary.used_type (use_of uses.now)) (map type_of types.now))) }
+    ensures { IfOk result (λ n. n ≡ index_or (use_of uses.now).index (binary.type_index (binary.used_type (use_of uses.now)) (map type_of types.now))) }
 {
     match uses.index {
         Some(index) => Ok(index),
@@ -384,14 +487,18 @@ fn put_runs(out: &mut Vec<u8>, runs: &[Run]) -> Result<(), AllocError>
 
 /// The bytes of a function's local variables and instructions.
 #[tactic(auto, unfolding(crate::specs::Binary::code))]
-fn code(alloc: Global, function: &Function<'_>) -> Result<Vec<u8>, AllocError>
-    ensures { IfOk result (λ bytes. bytes.items ≡ binary.code (function_of function.now)) }
+fn code(
+    alloc: Global,
+    types: &[FunctionType],
+    function: &Function<'_>,
+) -> Result<Vec<u8>, AllocError>
+    ensures { IfOk result (λ bytes. bytes.items ≡ binary.code (map type_of types.now) (function_of function.now)) }
 {
     let locals = variable_bytes(alloc, &function.locals)?;
     let runs = runs_of(alloc, &locals)?;
     let mut bytes = Vec::new(alloc);
     put_runs(&mut bytes, &runs)?;
-    put_instructions(&mut bytes, &function.body)?;
+    put_instructions(&mut bytes, types, &function.body)?;
     bytes.push(0x0B)?;
     Ok(bytes)
 }
@@ -429,7 +536,7 @@ fn put_types(alloc: Global, out: &mut Vec<u8>, types: &[FunctionType]) -> Result
 
 /// The bytes of value types.
 fn value_bytes(alloc: Global, types: &[ValueType]) -> Result<Vec<u8>, AllocError>
-    ensures { IfOk result (λ bytes. bytes.items ≡ map binary.type_byte types.now) }
+    ensures { IfOk result (λ bytes. bytes.items ≡ map type_byte types.now) }
 {
     let mut bytes = Vec::new(alloc);
     for of in types {
@@ -616,24 +723,34 @@ fn put_global_type(out: &mut Vec<u8>, of: GlobalType) -> Result<(), AllocError>
 }
 
 /// Appends a global variable.
-fn put_global(out: &mut Vec<u8>, of: GlobalType, first: &[Instruction]) -> Result<(), AllocError>
-    ensures { OnOk result (out.new.items ≡ out.old.items ++ binary.global_bytes (of, first.now)) }
+fn put_global(
+    out: &mut Vec<u8>,
+    types: &[FunctionType],
+    of: GlobalType,
+    first: &[Instruction],
+) -> Result<(), AllocError>
+    ensures { OnOk result (out.new.items ≡ out.old.items ++ binary.global_bytes (map type_of types.now) (of, first.now)) }
 {
     put_global_type(out, of)?;
-    put_instructions(out, first)?;
+    put_instructions(out, types, first)?;
     out.push(0x0B)?;
     Ok(())
 }
 
 /// Appends the global section.
-fn put_globals(alloc: Global, out: &mut Vec<u8>, fields: &[Field<'_>]) -> Result<(), AllocError>
-    ensures { OnOk result (out.new.items ≡ out.old.items ++ binary.global_section (fields_of fields.now)) }
+fn put_globals(
+    alloc: Global,
+    out: &mut Vec<u8>,
+    types: &[FunctionType],
+    fields: &[Field<'_>],
+) -> Result<(), AllocError>
+    ensures { OnOk result (out.new.items ≡ out.old.items ++ binary.list_section 6 (binary.global_bytes (map type_of types.now)) (flat_map binary.global_of (fields_of fields.now))) }
 {
     let mut items = Vec::new(alloc);
     let mut count = 0;
     for field in fields {
         if let Field::Global(global) = field {
-            put_global(&mut items, global.of, &global.first)?;
+            put_global(&mut items, types, global.of, &global.first)?;
             count += 1;
         }
     }
@@ -693,14 +810,19 @@ fn put_start(alloc: Global, out: &mut Vec<u8>, fields: &[Field<'_>]) -> Result<(
 }
 
 /// Appends the code section.
-fn put_codes(alloc: Global, out: &mut Vec<u8>, fields: &[Field<'_>]) -> Result<(), AllocError>
-    ensures { OnOk result (out.new.items ≡ out.old.items ++ binary.code_section (fields_of fields.now)) }
+fn put_codes(
+    alloc: Global,
+    out: &mut Vec<u8>,
+    types: &[FunctionType],
+    fields: &[Field<'_>],
+) -> Result<(), AllocError>
+    ensures { OnOk result (out.new.items ≡ out.old.items ++ binary.list_section 10 (binary.code_bytes (map type_of types.now)) (binary.functions_of (fields_of fields.now))) }
 {
     let mut items = Vec::new(alloc);
     let mut count = 0;
     for field in fields {
         if let Field::Func(function) = field {
-            let code = code(alloc, function)?;
+            let code = code(alloc, types, function)?;
             put_sized(&mut items, &code)?;
             count += 1;
         }
@@ -721,10 +843,10 @@ pub(crate) fn module_bytes(alloc: Global, fields: &[Field<'_>]) -> Result<Vec<u8
     put_functions(alloc, &mut bytes, &types, fields)?;
     put_tables(alloc, &mut bytes, fields)?;
     put_memories(alloc, &mut bytes, fields)?;
-    put_globals(alloc, &mut bytes, fields)?;
+    put_globals(alloc, &mut bytes, &types, fields)?;
     let exports = exports_of(alloc, fields)?;
     put_exports(alloc, &mut bytes, &exports)?;
     put_start(alloc, &mut bytes, fields)?;
-    put_codes(alloc, &mut bytes, fields)?;
+    put_codes(alloc, &mut bytes, &types, fields)?;
     Ok(bytes)
 }

@@ -3,9 +3,9 @@ ghost use Rattle.std.specs.Prelude.{◌≡◌, [], ◌∷◌, List, Ok, Err, Som
 ghost use Rattle.wat_fields.specs.Binary.{module_bytes};
 ghost use Rattle.wat_fields.specs.Fields as grammar;
 ghost use Rattle.wat_fields.specs.Reading as reading;
-ghost use Rattle.wat_fields.specs.Views.{IsItem, IsMemory, ItemFaults, NoItem, context_of, extern_of, field_of, fields_of, text_of, types_of, use_of, variable_of, with_names};
+ghost use Rattle.wat_fields.specs.Views.{IsItem, ItemFaults, NoItem, context_of, extern_of, field_of, fields_of, text_of, types_of, use_of, variable_of, with_names};
 ghost use Rattle.wat_instructions.specs.Grammar.{label_of};
-ghost use Rattle.wat_instructions.specs.Parts.{Faults, fault_of, scope_of};
+ghost use Rattle.wat_instructions.specs.Parts.{Faults, IsMemory, fault_of, scope_of};
 ghost use Rattle.wat_instructions.specs.Terminals.{Close, label, terminal};
 
 use crate::binary::module_bytes;
@@ -18,19 +18,13 @@ use wat_instructions::machine;
 use wat_instructions::names::IndexedNames;
 use wat_instructions::pieces::{Fault, FaultKind, Instruction, Name, Piece, Refusal, ValueType};
 use wat_instructions::reading::{self, Scope};
+use wat_instructions::types::FunctionType;
 
 /// A parameter, a result or a local variable.
 #[derive(Clone, Copy)]
 pub struct Variable<'p> {
     pub name: Name<'p>,
     pub of: ValueType,
-}
-
-/// A function type.
-#[derive(Drop)]
-pub struct FunctionType {
-    pub params: Vec<ValueType>,
-    pub results: Vec<ValueType>,
 }
 
 /// A type that a field defines.
@@ -982,6 +976,8 @@ fn scope<'s, 'n>(names: &'s Names<'n>, locals: &'s IndexedNames<'n>) -> Scope<'s
     ensures { scope_of result ≡ with_names locals.now (context_of names.now) }
 {
     Scope {
+        type_names: &names.type_names,
+        types: &names.types,
         locals,
         funcs: &names.funcs,
         tables: &names.tables,

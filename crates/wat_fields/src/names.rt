@@ -4,18 +4,20 @@ ghost use Rattle.std.specs.List.{flat_map};
 ghost use Rattle.wat_fields.specs.Fields.{all_distinct, definition_name, definition_type, is_space, name_of, names_in, names_of};
 ghost use Rattle.wat_fields.specs.Fields as grammar;
 ghost use Rattle.wat_fields.specs.Reading as reading;
-ghost use Rattle.wat_fields.specs.Views.{binding_of, context_of, definition_of, depth_of, left_of, type_of, types_of, variable_of};
+ghost use Rattle.wat_fields.specs.Views.{binding_of, context_of, definition_of, depth_of, left_of, types_of, variable_of};
 ghost use Rattle.wat_instructions.specs.Grammar.{label_of};
 ghost use Rattle.wat_instructions.specs.Names.{are_distinct};
 ghost use Rattle.wat_instructions.specs.Terminals.{label, terminal};
+ghost use Rattle.wat_instructions.specs.Views.{type_of};
 
-use crate::fields::{Definition, FunctionType, IndexSpace, Left, Variable};
+use crate::fields::{Definition, IndexSpace, Left, Variable};
 use crate::types::space_of;
 use crate::uses::type_at;
 use std::alloc::{AllocError, Global};
 use wat_instructions::names::IndexedNames;
 use wat_instructions::pieces::{Name, Piece, Refusal};
 use wat_instructions::reading::label;
+use wat_instructions::types::FunctionType;
 
 /// Where a token is: before a `(` of a field, and in a field, in so many groups more.
 #[derive(Clone, Copy)]
@@ -48,9 +50,9 @@ pub(crate) fn names_of<'p, 'a>(
     alloc: Global,
     pieces: &'p [Piece<'a>],
 ) -> Result<Option<Names<'p>>, AllocError>
-    ensures context { IfOk result (λ found. IfSome found (λ names. context_of names ≡ grammar.context_of (flat_map reading.binding_at (reading.starts reading.Before [] (map terminal pieces.now))))) }
+    ensures context { IfOk result (λ found. IfSome found (λ names. context_of names ≡ grammar.context_of (grammar.types_in (flat_map reading.definition_at (reading.starts reading.Before [] (map terminal pieces.now)))) (flat_map reading.binding_at (reading.starts reading.Before [] (map terminal pieces.now))))) }
     ensures types { IfOk result (λ found. IfSome found (λ names. types_of names ≡ grammar.types_in (flat_map reading.definition_at (reading.starts reading.Before [] (map terminal pieces.now))))) }
-    ensures distinct { IfOk result (λ found. is_some found ≡ all_distinct (grammar.types_in (flat_map reading.definition_at (reading.starts reading.Before [] (map terminal pieces.now)))) (grammar.context_of (flat_map reading.binding_at (reading.starts reading.Before [] (map terminal pieces.now))))) }
+    ensures distinct { IfOk result (λ found. is_some found ≡ all_distinct (grammar.types_in (flat_map reading.definition_at (reading.starts reading.Before [] (map terminal pieces.now)))) (grammar.context_of (grammar.types_in (flat_map reading.definition_at (reading.starts reading.Before [] (map terminal pieces.now)))) (flat_map reading.binding_at (reading.starts reading.Before [] (map terminal pieces.now))))) }
 {
     let starts = starts(alloc, pieces)?;
     let bindings = bindings(alloc, &starts)?;

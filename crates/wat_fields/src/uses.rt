@@ -3,29 +3,19 @@ ghost use Rattle.std.specs.Prelude.{◌≡◌, Ok, Err, Some, None, slice_get, m
 ghost use Rattle.wat_fields.specs.Binary as binary;
 ghost use Rattle.wat_fields.specs.Fields as grammar;
 ghost use Rattle.wat_fields.specs.Reading as reading;
-ghost use Rattle.wat_fields.specs.Views.{definition_of, type_of, types_of, use_of, variable_of};
+ghost use Rattle.wat_fields.specs.Views.{definition_of, types_of, use_of, variable_of};
 ghost use Rattle.wat_instructions.specs.Parts.{Faults, fault_of};
 ghost use Rattle.wat_instructions.specs.Terminals.{label, terminal};
+ghost use Rattle.wat_instructions.specs.Views.{type_of};
 
-use crate::fields::{Definition, FunctionType, TypeUse, Variable};
+use crate::fields::{Definition, TypeUse, Variable};
 use crate::header::{after, closed, unnamed, variables};
 use crate::names::Names;
 use crate::types::twice_closed;
 use std::alloc::{AllocError, Global};
 use wat_instructions::pieces::{Fault, FaultKind, Name, Piece, Refusal, ValueType};
 use wat_instructions::reading;
-
-/// The byte of a number type.
-pub(crate) fn type_byte(of: ValueType) -> u8
-    ensures { result ≡ binary.type_byte of }
-{
-    match of {
-        ValueType::I32 => 0x7F,
-        ValueType::I64 => 0x7E,
-        ValueType::F32 => 0x7D,
-        ValueType::F64 => 0x7C,
-    }
-}
+use wat_instructions::types::{FunctionType, same_type};
 
 /// The types of variables.
 fn value_types(alloc: Global, variables: &[Variable<'_>]) -> Result<Vec<ValueType>, AllocError>
@@ -49,28 +39,6 @@ pub(crate) fn function_type(
     let params = value_types(alloc, params)?;
     let results = value_types(alloc, results)?;
     Ok(FunctionType { params, results })
-}
-
-/// Whether these are the same value types.
-fn same_values(some: &[ValueType], others: &[ValueType]) -> bool
-    ensures { result ≡ binary.same_values some.now others.now }
-{
-    if some.len() != others.len() {
-        return false;
-    }
-    for (i, of) in some.iter().enumerate() {
-        if type_byte(*of) != type_byte(others[i]) {
-            return false;
-        }
-    }
-    true
-}
-
-/// Whether these are the same function types.
-pub(crate) fn same_type(of: &FunctionType, other: &FunctionType) -> bool
-    ensures { result ≡ binary.same_type (type_of of.now) (type_of other.now) }
-{
-    same_values(&of.params, &other.params) && same_values(&of.results, &other.results)
 }
 
 /// A type use.

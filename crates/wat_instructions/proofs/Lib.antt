@@ -7,3 +7,6 @@ pub mod Digits
 pub mod Exponents
 pub mod Tables
 pub mod Distinct
+pub mod Labels
+pub mod SameTypes
+pub mod Listed

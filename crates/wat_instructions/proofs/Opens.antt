@@ -5,7 +5,7 @@ use Rattle.std.proofs.lemmas.List.{length-take}
 use Rattle.wat_instructions.specs.declared.pieces.Frame.{Frame}
 use Rattle.wat_instructions.specs.declared.pieces.Argument.{Argument}
 use Rattle.wat_instructions.specs.declared.pieces.Instruction.{Instruction}
-use Rattle.wat_instructions.specs.Grammar.{Context, after_empty, block_type, closed, instruction, is_if, plain, label_of, structured, position, is_name}
+use Rattle.wat_instructions.specs.Grammar.{Context, block_type, instruction, is_if, plain, label_of, structured, position, is_name}
 use Rattle.wat_instructions.specs.Machine.{Part, Condition, at_condition, at_group, open_block, Operands, open_by, at_operands, bound, labels_in}
 use Rattle.wat_instructions.specs.Parts.{Stepped, part, stack}
 use Rattle.wat_instructions.specs.Terminals.{Terminal, Open, Close, Word, Id, Integer, Text, Float, Other, Label}
@@ -18,12 +18,12 @@ at_operands_output context all us left w i ps qs out s k q = record {
   follows = sym (append-nil out);
 }
 
-pub at_condition_output : (o : ℕ) (us vs left : List Terminal) (a : Argument) (l : Label) (ps qs : List Part) (out : List Instruction) → o ≡ 4 → l ≡ (label_of us).0 → vs ≡ (label_of us).1 → block_type vs ≡ Ok (a, left) → qs ≡ Condition (instruction o a) l ∷ ps → Stepped (open_block o us ps) out out qs left
-at_condition_output o us vs left a l ps qs out e n r k q = record {
+pub at_condition_output : (context : Context) (o : ℕ) (us vs left : List Terminal) (a : Argument) (l : Label) (ps qs : List Part) (out : List Instruction) → o ≡ 4 → l ≡ (label_of us).0 → vs ≡ (label_of us).1 → block_type context.types vs ≡ Ok (a, left) → qs ≡ Condition (instruction o a) l ∷ ps → Stepped (open_block context o us ps) out out qs left
+at_condition_output context o us vs left a l ps qs out e n r k q = record {
   output = [];
   is =
-      ap (λ b. if b then at_condition o (label_of us).0 (block_type (label_of us).1) ps else at_group o (label_of us).0 (block_type (label_of us).1) ps) (ap is_if e)
-      ∙ ap (λ x. at_condition o (label_of us).0 x ps) (ap block_type (sym r) ∙ k) ∙ ap (λ x. Ok (record { output = []; stack = Condition (instruction o a) x ∷ ps; left = left })) (sym n) ∙ ap (λ x. Ok (record { output = []; stack = x; left = left })) (sym q);
+      ap (λ b. if b then at_condition o (label_of us).0 (block_type context.types (label_of us).1) ps else at_group o (label_of us).0 (block_type context.types (label_of us).1) ps) (ap is_if e)
+      ∙ ap (λ x. at_condition o (label_of us).0 x ps) (ap (block_type context.types) (sym r) ∙ k) ∙ ap (λ x. Ok (record { output = []; stack = Condition (instruction o a) x ∷ ps; left = left })) (sym n) ∙ ap (λ x. Ok (record { output = []; stack = x; left = left })) (sym q);
   follows = sym (append-nil out);
 }
 
@@ -53,55 +53,3 @@ pub nothing_left : (x : List ℕ) (fs : List Frame) (n : ℕ) → length fs < 1 
 unfolding stack
 nothing_left x [] n h = refl
 nothing_left x (f ∷ fs) n h = absurd (omega arith)
-
-abbrev or_none : List Terminal → Option (List Terminal) → List Terminal
-or_none ts (Some us) = us
-or_none ts None = ts
-
-abbrev IsNone : Option (List Terminal) → Type 0
-IsNone None = Unit {0}
-IsNone (Some us) = ⊥
-
-none_is_not_some : {us : List Terminal} → None ≡ Some us → ⊥
-none_is_not_some e = subst IsNone e tt
-
-some_same : {ts us : List Terminal} → Some ts ≡ Some us → ts ≡ us
-some_same {ts = ts} e = ap (or_none ts) e
-
--- an empty group is passed over
-pub one_empty : (word w : List ℕ) (ts us : List Terminal) → closed ts ≡ Some us → bytes_eq w word ≡ true → after_empty word (Open ∷ Word w ∷ ts) ≡ after_empty word us
-unfolding after_empty
-one_empty word w (Close ∷ ts) us e k = ap (λ b. if b then after_empty word ts else Open ∷ Word w ∷ Close ∷ ts) k ∙ ap (after_empty word) (some_same e)
-one_empty word w [] us e k = absurd (none_is_not_some e)
-one_empty word w (Open ∷ ts) us e k = absurd (none_is_not_some e)
-one_empty word w (Word v ∷ ts) us e k = absurd (none_is_not_some e)
-one_empty word w (Id x ∷ ts) us e k = absurd (none_is_not_some e)
-one_empty word w (Integer s n ∷ ts) us e k = absurd (none_is_not_some e)
-one_empty word w (Text v ∷ ts) us e k = absurd (none_is_not_some e)
-one_empty word w (Float narrow wide ∷ ts) us e k = absurd (none_is_not_some e)
-one_empty word w (Other ∷ ts) us e k = absurd (none_is_not_some e)
-
--- one of another word, or that lists something, is not
-pub other_word : (word w : List ℕ) (ts : List Terminal) → bytes_eq w word ≡ false → after_empty word (Open ∷ Word w ∷ ts) ≡ Open ∷ Word w ∷ ts
-unfolding after_empty
-other_word word w (Close ∷ ts) k = ap (λ b. if b then after_empty word ts else Open ∷ Word w ∷ Close ∷ ts) k
-other_word word w [] k = refl
-other_word word w (Open ∷ ts) k = refl
-other_word word w (Word v ∷ ts) k = refl
-other_word word w (Id x ∷ ts) k = refl
-other_word word w (Integer s n ∷ ts) k = refl
-other_word word w (Text v ∷ ts) k = refl
-other_word word w (Float narrow wide ∷ ts) k = refl
-other_word word w (Other ∷ ts) k = refl
-
-pub not_closed : (word w : List ℕ) (ts : List Terminal) → closed ts ≡ None → after_empty word (Open ∷ Word w ∷ ts) ≡ Open ∷ Word w ∷ ts
-unfolding after_empty
-not_closed word w (Close ∷ ts) e = absurd (none_is_not_some (sym e))
-not_closed word w [] e = refl
-not_closed word w (Open ∷ ts) e = refl
-not_closed word w (Word v ∷ ts) e = refl
-not_closed word w (Id x ∷ ts) e = refl
-not_closed word w (Integer s n ∷ ts) e = refl
-not_closed word w (Text v ∷ ts) e = refl
-not_closed word w (Float narrow wide ∷ ts) e = refl
-not_closed word w (Other ∷ ts) e = refl

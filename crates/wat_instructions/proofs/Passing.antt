@@ -1,20 +1,22 @@
 -- What a rule leaves is no longer than what it takes from, and has the same groups open.
 use Rattle.std.proofs.Common.{◌≡◌, ◌<◌, ◌≤◌, ℕ, suc, Bool, true, false, List, [], ◌∷◌, length, Option, Some, None, Result, Ok, Err, refl, subst, ◌∙◌, arith}
-use Rattle.std.specs.Prelude.{if◌then◌else◌, bytes_eq, codes, nat_lt, ◌^◌, ℤ}
+use Rattle.std.specs.Prelude.{if◌then◌else◌, bytes_eq, codes, nat_lt, slice_get, ◌||◌, ◌^◌, ℤ}
 use Rattle.std.specs.Float.{binary32, binary64}
 use Rattle.wat_floats.specs.Literals.{of_integer}
 use Rattle.wat_instructions.specs.declared.pieces.Argument.{Argument}
 use Rattle.wat_instructions.specs.declared.pieces.Argument.TheVariants as argument
 use Rattle.wat_instructions.specs.declared.pieces.Instruction.{Instruction}
-use Rattle.wat_instructions.specs.declared.pieces.FaultKind.TheVariants.{WrongLabel, OutOfRange}
+use Rattle.wat_instructions.specs.declared.pieces.FaultKind.TheVariants.{WrongLabel, OutOfRange, OtherType}
 use Rattle.wat_instructions.specs.declared.pieces.Sign.{Sign}
 use Rattle.wat_instructions.specs.declared.pieces.Sign.TheVariants as sign
 use Rattle.wat_instructions.specs.declared.pieces.ValueType.{ValueType}
 use Rattle.wat_instructions.specs.declared.table.Immediate.{Immediate}
+use Rattle.wat_instructions.specs.Branches.{Branches}
 use Rattle.wat_instructions.specs.declared.table.Immediate.TheVariants as immediate
 use Rattle.wat_instructions.specs.Table.{Mnemonic, found, mnemonics}
+use Rattle.wat_instructions.specs.Types.{FunctionType, Types, UnnamedUse, same_type, unnamed_use}
 use Rattle.wat_instructions.specs.Terminals.{Terminal, Open, Close, Word, Id, Integer, Text, Float, Other, Label}
-use Rattle.wat_instructions.specs.Grammar.{Context, Fault, Instructions, plain, label_of, end_label, after_empty, result_type, block_type}
+use Rattle.wat_instructions.specs.Grammar.{Context, Fault, Instructions, plain, label_of, end_label, block_type}
 use Rattle.wat_instructions.specs.Grammar as grammar
 use Rattle.wat_instructions.specs.Memory as memory
 use Rattle.wat_instructions.specs.Law.{InstructionsAreBalanced, InstructionsTakeTokens, past}
@@ -168,11 +170,193 @@ align_passes n (Other ∷ ts) = stay (Other ∷ ts)
 memory_keeps : (n : ℕ) (ts : List Terminal) → Passes ts (grammar.memory_of n ts).1
 memory_keeps n ts = on ts (grammar.offset_of ts).1 (grammar.align_of n (grammar.offset_of ts).1).1 (offset_passes ts) (align_passes n (grammar.offset_of ts).1)
 
+before_keeps : (n : ℕ) (q : Result (Branches × List Terminal) Fault) (all ts : List Terminal) → Passes all ts → Keeps q ts → Keeps (grammar.before_labels n q) all
+before_keeps n (Ok (b, us)) all ts h k = on all ts us h k
+before_keeps n (Err f) all ts h k = tt
+
+and_labels_keeps : (n : ℕ) (q : Result (ℕ × List Terminal) Fault) (others : ℕ → Result (Branches × List Terminal) Fault) (all ts : List Terminal) → Passes all ts → ((m : ℕ) → Keeps (others m) ts) → Keeps (grammar.and_labels n q others) all
+and_labels_keeps n (Ok (m, us)) others all ts h k = before_keeps n (others m) all ts h (k m)
+and_labels_keeps n (Err f) others all ts h k = tt
+
+labels_keeps : (ls : List Label) (n : ℕ) (ts : List Terminal) → Keeps (grammar.labels_from ls n ts) ts
+unfolding grammar.labels_from
+labels_keeps ls n (Integer s m ∷ ts) = and_labels_keeps n (grammar.small s m (Integer s m ∷ ts) ts) (λ k. grammar.labels_from ls k ts) (Integer s m ∷ ts) ts (after_integer s m ts) (λ k. labels_keeps ls k ts)
+labels_keeps ls n (Id x ∷ ts) = and_labels_keeps n (grammar.named (grammar.position 0 x ls) (Id x ∷ ts) ts) (λ k. grammar.labels_from ls k ts) (Id x ∷ ts) ts (after_id x ts) (λ k. labels_keeps ls k ts)
+labels_keeps ls n [] = stay []
+labels_keeps ls n (Open ∷ ts) = stay (Open ∷ ts)
+labels_keeps ls n (Close ∷ ts) = stay (Close ∷ ts)
+labels_keeps ls n (Word w ∷ ts) = stay (Word w ∷ ts)
+labels_keeps ls n (Text v ∷ ts) = stay (Text v ∷ ts)
+labels_keeps ls n (Float narrow wide ∷ ts) = stay (Float narrow wide ∷ ts)
+labels_keeps ls n (Other ∷ ts) = stay (Other ∷ ts)
+
+with_labels_keeps : (q : Result (Branches × List Terminal) Fault) (all ts : List Terminal) → Passes all ts → Keeps q ts → Keeps (grammar.with_labels q) all
+with_labels_keeps (Ok (b, us)) all ts h k = on all ts us h k
+with_labels_keeps (Err f) all ts h k = tt
+
+labels_by_keeps : (ls : List Label) (q : Result (ℕ × List Terminal) Fault) (ts : List Terminal) → Keeps q ts → Keeps (grammar.labels_by ls q) ts
+labels_by_keeps ls (Ok (n, us)) ts h = with_labels_keeps (grammar.labels_from ls n us) ts us h (labels_keeps ls n us)
+labels_by_keeps ls (Err f) ts h = tt
+
+-- Type uses.
+
+opened : {A : Type 0} (w : List ℕ) (q : Result (A × List Terminal) Fault) (ts : List Terminal) → Closing q ts → Keeps q (Open ∷ Word w ∷ ts)
+opened w (Ok (a, us)) ts h = record { short = omega (arith, h.short); same = h.same }
+opened w (Err f) ts h = tt
+
+shut : {A : Type 0} (q : Result (A × List Terminal) Fault) (ts : List Terminal) → Keeps q ts → Closing q (Close ∷ ts)
+shut (Ok (a, us)) ts h = record { short = omega (arith, h.short); same = h.same }
+shut (Err f) ts h = tt
+
+on_closing : {A : Type 0} (q : Result (A × List Terminal) Fault) (ts us : List Terminal) → Passes ts us → Closing q us → Closing q ts
+on_closing (Ok (a, vs)) ts us h k = record { short = omega (arith, h.short, k.short); same = λ d. h.same (suc d) ∙ k.same d }
+on_closing (Err f) ts us h k = tt
+
+abbrev ListedKeeps : Bool → Result (List ValueType × List Terminal) Fault → List Terminal → Type 0
+ListedKeeps false q ts = Keeps q ts
+ListedKeeps true q ts = Closing q ts
+
+group_keeps : (b : Bool) (w word : List ℕ) (ts : List Terminal) → Closing (grammar.listed word true ts) ts → Keeps (if b then grammar.listed word true ts else Ok ([], Open ∷ Word w ∷ ts)) (Open ∷ Word w ∷ ts)
+group_keeps true w word ts h = opened w (grammar.listed word true ts) ts h
+group_keeps false w word ts h = stay (Open ∷ Word w ∷ ts)
+
+types_end : (o : Option ValueType) (w : List ℕ) (q : Result (List ValueType × List Terminal) Fault) (ts : List Terminal) → Closing q ts → Closing (grammar.before_types o (Word w ∷ ts) q) (Word w ∷ ts)
+types_end None w q ts h = tt
+types_end (Some t) w (Ok (us, vs)) ts h = record { short = omega (arith, h.short); same = h.same }
+types_end (Some t) w (Err f) ts h = tt
+
+listed_keeps : (word : List ℕ) (inside : Bool) (ts : List Terminal) → ListedKeeps inside (grammar.listed word inside ts) ts
+unfolding grammar.listed
+listed_keeps word false (Open ∷ Word w ∷ ts) = group_keeps (bytes_eq w word) w word ts (listed_keeps word true ts)
+listed_keeps word false [] = stay []
+listed_keeps word false (Open ∷ []) = stay (Open ∷ [])
+listed_keeps word false (Open ∷ Open ∷ ts) = stay (Open ∷ Open ∷ ts)
+listed_keeps word false (Open ∷ Close ∷ ts) = stay (Open ∷ Close ∷ ts)
+listed_keeps word false (Open ∷ Id x ∷ ts) = stay (Open ∷ Id x ∷ ts)
+listed_keeps word false (Open ∷ Integer s n ∷ ts) = stay (Open ∷ Integer s n ∷ ts)
+listed_keeps word false (Open ∷ Text v ∷ ts) = stay (Open ∷ Text v ∷ ts)
+listed_keeps word false (Open ∷ Float narrow wide ∷ ts) = stay (Open ∷ Float narrow wide ∷ ts)
+listed_keeps word false (Open ∷ Other ∷ ts) = stay (Open ∷ Other ∷ ts)
+listed_keeps word false (Close ∷ ts) = stay (Close ∷ ts)
+listed_keeps word false (Word v ∷ ts) = stay (Word v ∷ ts)
+listed_keeps word false (Id x ∷ ts) = stay (Id x ∷ ts)
+listed_keeps word false (Integer s n ∷ ts) = stay (Integer s n ∷ ts)
+listed_keeps word false (Text v ∷ ts) = stay (Text v ∷ ts)
+listed_keeps word false (Float narrow wide ∷ ts) = stay (Float narrow wide ∷ ts)
+listed_keeps word false (Other ∷ ts) = stay (Other ∷ ts)
+listed_keeps word true (Word w ∷ ts) = types_end (grammar.value_type w) w (grammar.listed word true ts) ts (listed_keeps word true ts)
+listed_keeps word true (Close ∷ ts) = shut (grammar.listed word false ts) ts (listed_keeps word false ts)
+listed_keeps word true [] = tt
+listed_keeps word true (Open ∷ ts) = tt
+listed_keeps word true (Id x ∷ ts) = tt
+listed_keeps word true (Integer s n ∷ ts) = tt
+listed_keeps word true (Text v ∷ ts) = tt
+listed_keeps word true (Float narrow wide ∷ ts) = tt
+listed_keeps word true (Other ∷ ts) = tt
+
+with_results_keeps : (ps : List ValueType) (q : Result (List ValueType × List Terminal) Fault) (ts us : List Terminal) → Passes ts us → Keeps q us → Keeps (grammar.with_results ps q) ts
+with_results_keeps ps (Ok (rs, vs)) ts us h k = on ts us vs h k
+with_results_keeps ps (Err f) ts us h k = tt
+
+and_results_keeps : (q : Result (List ValueType × List Terminal) Fault) (ts : List Terminal) → Keeps q ts → Keeps (grammar.and_results q) ts
+and_results_keeps (Ok (ps, us)) ts h = with_results_keeps ps (grammar.listed (codes "result") false us) ts us h (listed_keeps (codes "result") false us)
+and_results_keeps (Err f) ts h = tt
+
+lists_keeps : (ts : List Terminal) → Keeps (grammar.lists_of ts) ts
+unfolding grammar.lists_of
+lists_keeps ts = and_results_keeps (grammar.listed (codes "param") false ts) ts (listed_keeps (codes "param") false ts)
+
+listed_use_keeps : (q : Result (FunctionType × List Terminal) Fault) (ts : List Terminal) → Keeps q ts → Keeps (grammar.listed_use q) ts
+listed_use_keeps (Ok (t, us)) ts h = h
+listed_use_keeps (Err f) ts h = tt
+
+agreed_by : (b : Bool) (i : ℕ) (t : FunctionType) (all ts us : List Terminal) → Passes ts us → Keeps (if b then Ok (unnamed_use (Some i) t, us) else Err (OtherType, all)) ts
+agreed_by true i t all ts us h = h
+agreed_by false i t all ts us h = tt
+
+agreed_keeps : (i : ℕ) (t : FunctionType) (all : List Terminal) (q : Result (FunctionType × List Terminal) Fault) (ts : List Terminal) → Keeps q ts → Keeps (grammar.agreed i t all q) ts
+agreed_keeps i t all (Ok (u, us)) ts h = agreed_by (grammar.list_nothing u.params u.results || same_type u t) i t all ts us h
+agreed_keeps i t all (Err f) ts h = tt
+
+indexed_by_keeps : (i : ℕ) (o : Option FunctionType) (all ts : List Terminal) → Keeps (grammar.indexed_by i o all ts) ts
+indexed_by_keeps i None all ts = tt
+indexed_by_keeps i (Some t) all ts = agreed_keeps i t all (grammar.lists_of ts) ts (lists_keeps ts)
+
+closed_index_ends : (types : List FunctionType) (i : ℕ) (all ts : List Terminal) → Closing (grammar.closed_index types i all ts) ts
+closed_index_ends types i all (Close ∷ ts) = shut (grammar.indexed_by i (slice_get types i) all ts) ts (indexed_by_keeps i (slice_get types i) all ts)
+closed_index_ends types i all [] = tt
+closed_index_ends types i all (Open ∷ ts) = tt
+closed_index_ends types i all (Word w ∷ ts) = tt
+closed_index_ends types i all (Id x ∷ ts) = tt
+closed_index_ends types i all (Integer s n ∷ ts) = tt
+closed_index_ends types i all (Text v ∷ ts) = tt
+closed_index_ends types i all (Float narrow wide ∷ ts) = tt
+closed_index_ends types i all (Other ∷ ts) = tt
+
+indexed_ends : (types : Types) (all : List Terminal) (q : Result (ℕ × List Terminal) Fault) (ts : List Terminal) → Keeps q ts → Closing (grammar.indexed_use types all q) ts
+indexed_ends types all (Ok (i, us)) ts h = on_closing (grammar.closed_index types.types i all us) ts us h (closed_index_ends types.types i all us)
+indexed_ends types all (Err f) ts h = tt
+
+listed_alone : (types : Types) (ts : List Terminal) → Keeps (grammar.use_by types None ts) ts
+listed_alone types ts = listed_use_keeps (grammar.lists_of ts) ts (lists_keeps ts)
+
+use_word : (types : Types) (b : Bool) (w : List ℕ) (ts : List Terminal) → Keeps (grammar.use_by types (if b then Some ts else None) (Open ∷ Word w ∷ ts)) (Open ∷ Word w ∷ ts)
+use_word types true w ts = opened w (grammar.indexed_use types ts (grammar.index types.names ts)) ts (indexed_ends types ts (grammar.index types.names ts) ts (index_keeps types.names ts))
+use_word types false w ts = listed_alone types (Open ∷ Word w ∷ ts)
+
+use_keeps : (types : Types) (ts : List Terminal) → Keeps (grammar.use_of types ts) ts
+unfolding grammar.use_of
+use_keeps types (Open ∷ Word w ∷ ts) = use_word types (bytes_eq w (codes "type")) w ts
+use_keeps types [] = listed_alone types []
+use_keeps types (Open ∷ []) = listed_alone types (Open ∷ [])
+use_keeps types (Open ∷ Open ∷ ts) = listed_alone types (Open ∷ Open ∷ ts)
+use_keeps types (Open ∷ Close ∷ ts) = listed_alone types (Open ∷ Close ∷ ts)
+use_keeps types (Open ∷ Id x ∷ ts) = listed_alone types (Open ∷ Id x ∷ ts)
+use_keeps types (Open ∷ Integer s n ∷ ts) = listed_alone types (Open ∷ Integer s n ∷ ts)
+use_keeps types (Open ∷ Text v ∷ ts) = listed_alone types (Open ∷ Text v ∷ ts)
+use_keeps types (Open ∷ Float narrow wide ∷ ts) = listed_alone types (Open ∷ Float narrow wide ∷ ts)
+use_keeps types (Open ∷ Other ∷ ts) = listed_alone types (Open ∷ Other ∷ ts)
+use_keeps types (Close ∷ ts) = listed_alone types (Close ∷ ts)
+use_keeps types (Word v ∷ ts) = listed_alone types (Word v ∷ ts)
+use_keeps types (Id x ∷ ts) = listed_alone types (Id x ∷ ts)
+use_keeps types (Integer s n ∷ ts) = listed_alone types (Integer s n ∷ ts)
+use_keeps types (Text v ∷ ts) = listed_alone types (Text v ∷ ts)
+use_keeps types (Float narrow wide ∷ ts) = listed_alone types (Float narrow wide ∷ ts)
+use_keeps types (Other ∷ ts) = listed_alone types (Other ∷ ts)
+
+block_by_keeps : (q : Result (UnnamedUse × List Terminal) Fault) (ts : List Terminal) → Keeps q ts → Keeps (grammar.block_by q) ts
+block_by_keeps (Ok (u, us)) ts h = h
+block_by_keeps (Err f) ts h = tt
+
+block_type_keeps : (types : Types) (ts : List Terminal) → Keeps (block_type types ts) ts
+block_type_keeps types ts = block_by_keeps (grammar.use_of types ts) ts (use_keeps types ts)
+
+table_keeps : (ls : List Label) (ts : List Terminal) → Keeps (grammar.table_of ls ts) ts
+table_keeps ls (Integer s n ∷ ts) = small_keeps s n (Integer s n ∷ ts) ts (after_integer s n ts)
+table_keeps ls (Id x ∷ ts) = named_keeps (grammar.position 0 x ls) (Id x ∷ ts) ts (after_id x ts)
+table_keeps ls [] = stay []
+table_keeps ls (Open ∷ ts) = stay (Open ∷ ts)
+table_keeps ls (Close ∷ ts) = stay (Close ∷ ts)
+table_keeps ls (Word w ∷ ts) = stay (Word w ∷ ts)
+table_keeps ls (Text v ∷ ts) = stay (Text v ∷ ts)
+table_keeps ls (Float narrow wide ∷ ts) = stay (Float narrow wide ∷ ts)
+table_keeps ls (Other ∷ ts) = stay (Other ∷ ts)
+
+with_use_keeps : (n : ℕ) (q : Result (UnnamedUse × List Terminal) Fault) (ts us : List Terminal) → Passes ts us → Keeps q us → Keeps (grammar.with_use n q) ts
+with_use_keeps n (Ok (u, vs)) ts us h k = on ts us vs h k
+with_use_keeps n (Err f) ts us h k = tt
+
+indirect_keeps : (types : Types) (q : Result (ℕ × List Terminal) Fault) (ts : List Terminal) → Keeps q ts → Keeps (grammar.indirect_by types q) ts
+indirect_keeps types (Ok (n, us)) ts h = with_use_keeps n (grammar.use_of types us) ts us h (use_keeps types us)
+indirect_keeps types (Err f) ts h = tt
+
 immediate_keeps : (context : Context) (ls : List Label) (k : Immediate) (ts : List Terminal) → Keeps (grammar.immediate_of context ls k ts) ts
 immediate_keeps context ls immediate.No ts = stay ts
 immediate_keeps context ls immediate.Local ts = with_index_keeps (grammar.index context.locals ts) ts (index_keeps context.locals ts)
 immediate_keeps context ls immediate.Label ts = with_index_keeps (grammar.index ls ts) ts (index_keeps ls ts)
+immediate_keeps context ls immediate.Labels ts = labels_by_keeps ls (grammar.index ls ts) ts (index_keeps ls ts)
 immediate_keeps context ls immediate.Func ts = with_index_keeps (grammar.index context.funcs ts) ts (index_keeps context.funcs ts)
+immediate_keeps context ls immediate.Indirect ts = indirect_keeps context.types (grammar.table_of context.tables ts) ts (table_keeps context.tables ts)
 immediate_keeps context ls immediate.Global ts = with_index_keeps (grammar.index context.globals ts) ts (index_keeps context.globals ts)
 immediate_keeps context ls immediate.I32 ts = i32_keeps ts
 immediate_keeps context ls immediate.I64 ts = i64_keeps ts
@@ -251,132 +435,34 @@ end_keeps l (Other ∷ ts) = stay (Other ∷ ts)
 pub end_passes : (l : Label) (ts us : List Terminal) → end_label l ts ≡ Ok us → Passes ts us
 end_passes l ts us e = let K : Result (List Terminal) Fault → Type 0 = λ q. KeepsAll q ts in subst K e (end_keeps l ts)
 
-empty_by : (b : Bool) (word w : List ℕ) (ts : List Terminal) → Passes ts (after_empty word ts) → Passes (Open ∷ Word w ∷ Close ∷ ts) (if b then after_empty word ts else Open ∷ Word w ∷ Close ∷ ts)
-empty_by true word w ts h = record { short = omega (arith, h.short); same = h.same }
-empty_by false word w ts h = stay (Open ∷ Word w ∷ Close ∷ ts)
-
-pub empty_passes : (word : List ℕ) (ts : List Terminal) → Passes ts (after_empty word ts)
-unfolding after_empty
-empty_passes word (Open ∷ Word w ∷ Close ∷ ts) = empty_by (bytes_eq w word) word w ts (empty_passes word ts)
-empty_passes word [] = stay []
-empty_passes word (Open ∷ Word w ∷ []) = stay (Open ∷ Word w ∷ [])
-empty_passes word (Open ∷ Word w ∷ Open ∷ ts) = stay (Open ∷ Word w ∷ Open ∷ ts)
-empty_passes word (Open ∷ Word w ∷ Word v ∷ ts) = stay (Open ∷ Word w ∷ Word v ∷ ts)
-empty_passes word (Open ∷ Word w ∷ Id x ∷ ts) = stay (Open ∷ Word w ∷ Id x ∷ ts)
-empty_passes word (Open ∷ Word w ∷ Integer s n ∷ ts) = stay (Open ∷ Word w ∷ Integer s n ∷ ts)
-empty_passes word (Open ∷ Word w ∷ Text v ∷ ts) = stay (Open ∷ Word w ∷ Text v ∷ ts)
-empty_passes word (Open ∷ Word w ∷ Float narrow wide ∷ ts) = stay (Open ∷ Word w ∷ Float narrow wide ∷ ts)
-empty_passes word (Open ∷ Word w ∷ Other ∷ ts) = stay (Open ∷ Word w ∷ Other ∷ ts)
-empty_passes word (Open ∷ []) = stay (Open ∷ [])
-empty_passes word (Open ∷ Open ∷ ts) = stay (Open ∷ Open ∷ ts)
-empty_passes word (Open ∷ Close ∷ ts) = stay (Open ∷ Close ∷ ts)
-empty_passes word (Open ∷ Id x ∷ ts) = stay (Open ∷ Id x ∷ ts)
-empty_passes word (Open ∷ Integer s n ∷ ts) = stay (Open ∷ Integer s n ∷ ts)
-empty_passes word (Open ∷ Text v ∷ ts) = stay (Open ∷ Text v ∷ ts)
-empty_passes word (Open ∷ Float narrow wide ∷ ts) = stay (Open ∷ Float narrow wide ∷ ts)
-empty_passes word (Open ∷ Other ∷ ts) = stay (Open ∷ Other ∷ ts)
-empty_passes word (Close ∷ ts) = stay (Close ∷ ts)
-empty_passes word (Word v ∷ ts) = stay (Word v ∷ ts)
-empty_passes word (Id x ∷ ts) = stay (Id x ∷ ts)
-empty_passes word (Integer s n ∷ ts) = stay (Integer s n ∷ ts)
-empty_passes word (Text v ∷ ts) = stay (Text v ∷ ts)
-empty_passes word (Float narrow wide ∷ ts) = stay (Float narrow wide ∷ ts)
-empty_passes word (Other ∷ ts) = stay (Other ∷ ts)
-
-close_type_ends : (t : ValueType) (ts : List Terminal) → Closing (grammar.close_type t ts) ts
-close_type_ends t (Close ∷ ts) = let h = empty_passes (codes "result") ts in record { short = omega (arith, h.short); same = h.same }
-close_type_ends t [] = tt
-close_type_ends t (Open ∷ ts) = tt
-close_type_ends t (Word v ∷ ts) = tt
-close_type_ends t (Id x ∷ ts) = tt
-close_type_ends t (Integer s n ∷ ts) = tt
-close_type_ends t (Text v ∷ ts) = tt
-close_type_ends t (Float narrow wide ∷ ts) = tt
-close_type_ends t (Other ∷ ts) = tt
-
-word_ends : (w : List ℕ) (q : Result (Argument × List Terminal) Fault) (ts : List Terminal) → Closing q ts → Closing q (Word w ∷ ts)
-word_ends w (Ok (a, us)) ts h = record { short = omega (arith, h.short); same = h.same }
-word_ends w (Err f) ts h = tt
-
-closed_type_ends : (o : Option ValueType) (w : List ℕ) (ts : List Terminal) → Closing (grammar.closed_type o (Word w ∷ ts) ts) (Word w ∷ ts)
-closed_type_ends (Some t) w ts = word_ends w (grammar.close_type t ts) ts (close_type_ends t ts)
-closed_type_ends None w ts = tt
-
-one_type_ends : (ts : List Terminal) → Closing (grammar.one_type ts) ts
-one_type_ends (Word w ∷ ts) = closed_type_ends (grammar.value_type w) w ts
-one_type_ends [] = tt
-one_type_ends (Open ∷ ts) = tt
-one_type_ends (Close ∷ ts) = tt
-one_type_ends (Id x ∷ ts) = tt
-one_type_ends (Integer s n ∷ ts) = tt
-one_type_ends (Text v ∷ ts) = tt
-one_type_ends (Float narrow wide ∷ ts) = tt
-one_type_ends (Other ∷ ts) = tt
-
-opened : (w : List ℕ) (q : Result (Argument × List Terminal) Fault) (ts : List Terminal) → Closing q ts → Keeps q (Open ∷ Word w ∷ ts)
-opened w (Ok (a, us)) ts h = record { short = omega (arith, h.short); same = h.same }
-opened w (Err f) ts h = tt
-
-result_keeps : (b : Bool) (w : List ℕ) (ts : List Terminal) → Keeps (if b then grammar.one_type ts else Ok (argument.Block None, Open ∷ Word w ∷ ts)) (Open ∷ Word w ∷ ts)
-result_keeps true w ts = opened w (grammar.one_type ts) ts (one_type_ends ts)
-result_keeps false w ts = stay (Open ∷ Word w ∷ ts)
-
-type_by_keeps : (ts : List Terminal) → Keeps (grammar.type_by ts (Open ∷ ts)) (Open ∷ ts)
-type_by_keeps (Word w ∷ ts) = result_keeps (bytes_eq w (codes "result")) w ts
-type_by_keeps [] = stay (Open ∷ [])
-type_by_keeps (Open ∷ ts) = stay (Open ∷ Open ∷ ts)
-type_by_keeps (Close ∷ ts) = stay (Open ∷ Close ∷ ts)
-type_by_keeps (Id x ∷ ts) = stay (Open ∷ Id x ∷ ts)
-type_by_keeps (Integer s n ∷ ts) = stay (Open ∷ Integer s n ∷ ts)
-type_by_keeps (Text v ∷ ts) = stay (Open ∷ Text v ∷ ts)
-type_by_keeps (Float narrow wide ∷ ts) = stay (Open ∷ Float narrow wide ∷ ts)
-type_by_keeps (Other ∷ ts) = stay (Open ∷ Other ∷ ts)
-
-result_type_keeps : (ts : List Terminal) → Keeps (result_type ts) ts
-unfolding result_type
-result_type_keeps (Open ∷ ts) = type_by_keeps ts
-result_type_keeps [] = stay []
-result_type_keeps (Close ∷ ts) = stay (Close ∷ ts)
-result_type_keeps (Word w ∷ ts) = stay (Word w ∷ ts)
-result_type_keeps (Id x ∷ ts) = stay (Id x ∷ ts)
-result_type_keeps (Integer s n ∷ ts) = stay (Integer s n ∷ ts)
-result_type_keeps (Text v ∷ ts) = stay (Text v ∷ ts)
-result_type_keeps (Float narrow wide ∷ ts) = stay (Float narrow wide ∷ ts)
-result_type_keeps (Other ∷ ts) = stay (Other ∷ ts)
-
 on_keeps : {A : Type 0} (q : Result (A × List Terminal) Fault) (ts us : List Terminal) → Passes ts us → Keeps q us → Keeps q ts
 on_keeps (Ok (a, vs)) ts us h k = on ts us vs h k
 on_keeps (Err f) ts us h k = tt
 
-block_type_keeps : (ts : List Terminal) → Keeps (block_type ts) ts
-block_type_keeps ts =
-    let us = after_empty (codes "param") ts in
-    on_keeps (block_type ts) ts us (empty_passes (codes "param") ts) (on_keeps (block_type ts) us (after_empty (codes "result") us) (empty_passes (codes "result") us) (result_type_keeps (after_empty (codes "result") us)))
-
 -- the label and the type of a block
-pub head_keeps : (ts : List Terminal) → Keeps (block_type (label_of ts).1) ts
-head_keeps ts = on_keeps (block_type (label_of ts).1) ts (label_of ts).1 (label_passes ts) (block_type_keeps (label_of ts).1)
+pub head_keeps : (types : Types) (ts : List Terminal) → Keeps (block_type types (label_of ts).1) ts
+head_keeps types ts = on_keeps (block_type types (label_of ts).1) ts (label_of ts).1 (label_passes ts) (block_type_keeps types (label_of ts).1)
 
-pub head_passes : (ts bs : List Terminal) (a : Argument) → block_type (label_of ts).1 ≡ Ok (a, bs) → Passes ts bs
-head_passes ts bs a e = let K : Result (Argument × List Terminal) Fault → Type 0 = λ q. Keeps q ts in subst K e (head_keeps ts)
+pub head_passes : (types : Types) (ts bs : List Terminal) (a : Argument) → block_type types (label_of ts).1 ≡ Ok (a, bs) → Passes ts bs
+head_passes types ts bs a e = let K : Result (Argument × List Terminal) Fault → Type 0 = λ q. Keeps q ts in subst K e (head_keeps types ts)
 
 pub balanced : InstructionsAreBalanced
 balanced context _ _ _ _ r grammar.by_none d = refl
 balanced context _ _ _ _ r (grammar.by_plain {ls = ls} {w = w} {ts = ts} {us = us} {i = i} {is = is} s h more) d =
     (plain_passes context ls w ts i us h).same d ∙ balanced context ls false us is r more d
 balanced context _ _ _ _ r (grammar.by_block {ls = ls} {w = w} {v = v} {a = a} {ts = ts} {bs = bs} {us = us} {vs = vs} {body = body} {is = is} s n h e l more) d =
-    (head_passes ts bs a n).same d ∙ balanced context ((label_of ts).0 ∷ ls) false bs body (Word v ∷ us) h d ∙ (end_passes (label_of ts).0 us vs l).same d ∙ balanced context ls false vs is r more d
+    (head_passes context.types ts bs a n).same d ∙ balanced context ((label_of ts).0 ∷ ls) false bs body (Word v ∷ us) h d ∙ (end_passes (label_of ts).0 us vs l).same d ∙ balanced context ls false vs is r more d
 balanced context _ _ _ _ r (grammar.by_if_else {ls = ls} {w = w} {v = v} {x = x} {a = a} {ts = ts} {bs = bs} {us = us} {xs = xs} {ys = ys} {vs = vs} {body = body} {other = other} {is = is} s i n h e l k f m more) d =
-    (head_passes ts bs a n).same d ∙ balanced context ((label_of ts).0 ∷ ls) false bs body (Word v ∷ us) h d ∙ (end_passes (label_of ts).0 us xs l).same d
+    (head_passes context.types ts bs a n).same d ∙ balanced context ((label_of ts).0 ∷ ls) false bs body (Word v ∷ us) h d ∙ (end_passes (label_of ts).0 us xs l).same d
     ∙ balanced context ((label_of ts).0 ∷ ls) false xs other (Word x ∷ ys) k d ∙ (end_passes (label_of ts).0 ys vs m).same d ∙ balanced context ls false vs is r more d
 balanced context _ _ _ _ r (grammar.by_folded {ls = ls} {folded = folded} {w = w} {ts = ts} {us = us} {vs = vs} {i = i} {operands = operands} {is = is} s h inner more) d =
     (plain_passes context ls w ts i us h).same (suc d) ∙ balanced context ls true us operands (Close ∷ vs) inner (suc d) ∙ balanced context ls folded vs is r more d
 balanced context _ _ _ _ r (grammar.by_folded_block {ls = ls} {folded = folded} {w = w} {a = a} {ts = ts} {bs = bs} {vs = vs} {body = body} {is = is} s i n inner more) d =
-    (head_passes ts bs a n).same (suc d) ∙ balanced context ((label_of ts).0 ∷ ls) false bs body (Close ∷ vs) inner (suc d) ∙ balanced context ls folded vs is r more d
+    (head_passes context.types ts bs a n).same (suc d) ∙ balanced context ((label_of ts).0 ∷ ls) false bs body (Close ∷ vs) inner (suc d) ∙ balanced context ls folded vs is r more d
 balanced context _ _ _ _ r (grammar.by_folded_if {ls = ls} {folded = folded} {w = w} {t = t} {a = a} {ts = ts} {bs = bs} {cs = cs} {vs = vs} {condition = condition} {body = body} {is = is} s i n inner k g more) d =
-    (head_passes ts bs a n).same (suc d) ∙ balanced context ls true bs condition (Open ∷ Word t ∷ cs) inner (suc d) ∙ balanced context ((label_of ts).0 ∷ ls) false cs body (Close ∷ Close ∷ vs) g (suc (suc d)) ∙ balanced context ls folded vs is r more d
+    (head_passes context.types ts bs a n).same (suc d) ∙ balanced context ls true bs condition (Open ∷ Word t ∷ cs) inner (suc d) ∙ balanced context ((label_of ts).0 ∷ ls) false cs body (Close ∷ Close ∷ vs) g (suc (suc d)) ∙ balanced context ls folded vs is r more d
 balanced context _ _ _ _ r (grammar.by_folded_if_else {ls = ls} {folded = folded} {w = w} {t = t} {e = e} {a = a} {ts = ts} {bs = bs} {cs = cs} {es = es} {vs = vs} {condition = condition} {body = body} {other = other} {is = is} s i n inner k g f o more) d =
-    (head_passes ts bs a n).same (suc d) ∙ balanced context ls true bs condition (Open ∷ Word t ∷ cs) inner (suc d) ∙ balanced context ((label_of ts).0 ∷ ls) false cs body (Close ∷ Open ∷ Word e ∷ es) g (suc (suc d))
+    (head_passes context.types ts bs a n).same (suc d) ∙ balanced context ls true bs condition (Open ∷ Word t ∷ cs) inner (suc d) ∙ balanced context ((label_of ts).0 ∷ ls) false cs body (Close ∷ Open ∷ Word e ∷ es) g (suc (suc d))
     ∙ balanced context ((label_of ts).0 ∷ ls) false es other (Close ∷ Close ∷ vs) o (suc (suc d)) ∙ balanced context ls folded vs is r more d
 
 pub taken : InstructionsTakeTokens
@@ -384,9 +470,9 @@ taken context _ _ _ _ r grammar.by_none = omega arith
 taken context _ _ _ _ r (grammar.by_plain {ls = ls} {w = w} {ts = ts} {us = us} {i = i} {is = is} s h more) =
     let a = plain_short context ls w ts i us h in let z = taken context ls false us is r more in omega arith
 taken context _ _ _ _ r (grammar.by_block {ls = ls} {w = w} {v = v} {a = a} {ts = ts} {bs = bs} {us = us} {vs = vs} {body = body} {is = is} s n h e l more) =
-    let a' = (head_passes ts bs a n).short in let b = taken context ((label_of ts).0 ∷ ls) false bs body (Word v ∷ us) h in let c = (end_passes (label_of ts).0 us vs l).short in let z = taken context ls false vs is r more in omega arith
+    let a' = (head_passes context.types ts bs a n).short in let b = taken context ((label_of ts).0 ∷ ls) false bs body (Word v ∷ us) h in let c = (end_passes (label_of ts).0 us vs l).short in let z = taken context ls false vs is r more in omega arith
 taken context _ _ _ _ r (grammar.by_if_else {ls = ls} {w = w} {v = v} {x = x} {a = a} {ts = ts} {bs = bs} {us = us} {xs = xs} {ys = ys} {vs = vs} {body = body} {other = other} {is = is} s i n h e l k f m more) =
-    let a' = (head_passes ts bs a n).short in
+    let a' = (head_passes context.types ts bs a n).short in
     let b = taken context ((label_of ts).0 ∷ ls) false bs body (Word v ∷ us) h in
     let c = (end_passes (label_of ts).0 us xs l).short in
     let d = taken context ((label_of ts).0 ∷ ls) false xs other (Word x ∷ ys) k in
@@ -394,12 +480,12 @@ taken context _ _ _ _ r (grammar.by_if_else {ls = ls} {w = w} {v = v} {x = x} {a
 taken context _ _ _ _ r (grammar.by_folded {ls = ls} {folded = folded} {w = w} {ts = ts} {us = us} {vs = vs} {i = i} {operands = operands} {is = is} s h inner more) =
     let a = plain_short context ls w ts i us h in let b = taken context ls true us operands (Close ∷ vs) inner in let z = taken context ls folded vs is r more in omega arith
 taken context _ _ _ _ r (grammar.by_folded_block {ls = ls} {folded = folded} {w = w} {a = a} {ts = ts} {bs = bs} {vs = vs} {body = body} {is = is} s i n inner more) =
-    let a' = (head_passes ts bs a n).short in let b = taken context ((label_of ts).0 ∷ ls) false bs body (Close ∷ vs) inner in let z = taken context ls folded vs is r more in omega arith
+    let a' = (head_passes context.types ts bs a n).short in let b = taken context ((label_of ts).0 ∷ ls) false bs body (Close ∷ vs) inner in let z = taken context ls folded vs is r more in omega arith
 taken context _ _ _ _ r (grammar.by_folded_if {ls = ls} {folded = folded} {w = w} {t = t} {a = a} {ts = ts} {bs = bs} {cs = cs} {vs = vs} {condition = condition} {body = body} {is = is} s i n inner k g more) =
-    let a' = (head_passes ts bs a n).short in
+    let a' = (head_passes context.types ts bs a n).short in
     let b = taken context ls true bs condition (Open ∷ Word t ∷ cs) inner in let c = taken context ((label_of ts).0 ∷ ls) false cs body (Close ∷ Close ∷ vs) g in let z = taken context ls folded vs is r more in omega arith
 taken context _ _ _ _ r (grammar.by_folded_if_else {ls = ls} {folded = folded} {w = w} {t = t} {e = e} {a = a} {ts = ts} {bs = bs} {cs = cs} {es = es} {vs = vs} {condition = condition} {body = body} {other = other} {is = is} s i n inner k g f o more) =
-    let a' = (head_passes ts bs a n).short in
+    let a' = (head_passes context.types ts bs a n).short in
     let b = taken context ls true bs condition (Open ∷ Word t ∷ cs) inner in
     let c = taken context ((label_of ts).0 ∷ ls) false cs body (Close ∷ Open ∷ Word e ∷ es) g in
     let d = taken context ((label_of ts).0 ∷ ls) false es other (Close ∷ Close ∷ vs) o in let z = taken context ls folded vs is r more in omega arith

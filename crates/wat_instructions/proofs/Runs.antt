@@ -77,7 +77,7 @@ plain_back context p ps w ts k s (Ok (i, us)) e is r (b, zs, es, vs, js, h, c, r
 joined : (b c d : List Instruction) (i : Instruction) (is js : List Instruction) → is ≡ b ++ (i ∷ js) → js ≡ c ++ d → is ≡ (b ++ (i ∷ c)) ++ d
 joined b c d i is js e f = e ∙ ap (λ x. b ++ (i ∷ x)) f ∙ sym (append_assoc b (i ∷ c) d)
 
-block_back : (context : Context) (p : Part) (ps : List Part) (w : List ℕ) (ts bs : List Terminal) → only_folded p ≡ false → (o : ℕ) (a : Argument) (f : Bool) → structured w ≡ Some o → is_if o ≡ f → block_type (label_of ts).1 ≡ Ok (a, bs) → (is : List Instruction) (r : List Terminal) (b : List Instruction) (us : List Terminal) (es : List Instruction) (vs : List Terminal) (js : List Instruction)
+block_back : (context : Context) (p : Part) (ps : List Part) (w : List ℕ) (ts bs : List Terminal) → only_folded p ≡ false → (o : ℕ) (a : Argument) (f : Bool) → structured w ≡ Some o → is_if o ≡ f → block_type context.types (label_of ts).1 ≡ Ok (a, bs) → (is : List Instruction) (r : List Terminal) (b : List Instruction) (us : List Terminal) (es : List Instruction) (vs : List Terminal) (js : List Instruction)
     → Instructions context ((label_of ts).0 ∷ labels_in (p ∷ ps)) false bs b us → Closed context ((label_of ts).0 ∷ labels_in (p ∷ ps)) (Block f (label_of ts).0) us es vs → Completes context (p ∷ ps) vs js r → is ≡ b ++ (es ++ js)
     → Completes context (p ∷ ps) (Word w ∷ ts) (instruction o a ∷ is) r
 block_back context p ps w ts bs k o a f s i n is r b _ _ vs js h (by_block {us = us} e l) (b', us', es', vs', js', h', c', rest, t') t = (
@@ -103,12 +103,12 @@ block_back context p ps w ts bs k o a f s i n is r b _ _ vs js h (by_else {us = 
   ap (λ x. instruction o a ∷ x) (t ∙ ap (λ x. b ++ (otherwise ∷ x)) (append_assoc other (end ∷ []) js ∙ ap (λ x. other ++ (end ∷ x)) t' ∙ sym (append_assoc other (end ∷ b') (es' ++ js'))) ∙ sym (append_assoc b (otherwise ∷ (other ++ (end ∷ b'))) (es' ++ js'))),
 )
 
-at_block_back : (context : Context) (p : Part) (ps : List Part) (w : List ℕ) (ts : List Terminal) → only_folded p ≡ false → (o : ℕ) → structured w ≡ Some o → (q : Result (Argument × List Terminal) Fault) → block_type (label_of ts).1 ≡ q → Back context p ps (Word w ∷ ts) (at_block o (label_of ts).0 q (p ∷ ps))
+at_block_back : (context : Context) (p : Part) (ps : List Part) (w : List ℕ) (ts : List Terminal) → only_folded p ≡ false → (o : ℕ) → structured w ≡ Some o → (q : Result (Argument × List Terminal) Fault) → block_type context.types (label_of ts).1 ≡ q → Back context p ps (Word w ∷ ts) (at_block o (label_of ts).0 q (p ∷ ps))
 at_block_back context p ps w ts k o e (Err f) n is r h = absurd h
 at_block_back context p ps w ts k o e (Ok (a, bs)) n is r (b, us, es, vs, js, h, c, rest, t) = block_back context p ps w ts bs k o a (is_if o) e refl n is r b us es vs js h c rest t
 
 word_back : (context : Context) (p : Part) (ps : List Part) (w : List ℕ) (ts : List Terminal) → only_folded p ≡ false → (o : Option ℕ) → structured w ≡ o → Back context p ps (Word w ∷ ts) (word_by context o (Word w ∷ ts) ts (p ∷ ps))
-word_back context p ps w ts k (Some o) e is r h = at_block_back context p ps w ts k o e (block_type (label_of ts).1) refl is r h
+word_back context p ps w ts k (Some o) e is r h = at_block_back context p ps w ts k o e (block_type context.types (label_of ts).1) refl is r h
 word_back context p ps w ts k None e is r h = plain_back context p ps w ts k e (plain context (labels_in (p ∷ ps)) (Word w ∷ ts)) refl is r h
 
 else_word_back : (context : Context) (b : Bool) (l : Label) (ps : List Part) (w : List ℕ) (ts : List Terminal) (e : Bool) → is_else w ≡ e → Back context (Block b l) ps (Word w ∷ ts) (if b && e then turned l (end_label l ts) ps else word_by context (structured w) (Word w ∷ ts) ts (Block b l ∷ ps))
@@ -131,17 +131,17 @@ folded_plain_back : (context : Context) (p : Part) (ps : List Part) (w : List �
 folded_plain_back context p ps w ts s (Err f) e is r h = absurd h
 folded_plain_back context p ps w ts s (Ok (i, us)) e is r (b, zs, es, vs, js, h, c, rest, t) = operands_back context p ps w ts us i s e is r b zs es vs js h c rest t
 
-group_back : (context : Context) (p : Part) (ps : List Part) (w : List ℕ) (ts bs : List Terminal) (o : ℕ) (a : Argument) → structured w ≡ Some o → is_if o ≡ false → block_type (label_of ts).1 ≡ Ok (a, bs) → (is : List Instruction) (r : List Terminal) (b : List Instruction) (us : List Terminal) (es : List Instruction) (vs : List Terminal) (js : List Instruction)
+group_back : (context : Context) (p : Part) (ps : List Part) (w : List ℕ) (ts bs : List Terminal) (o : ℕ) (a : Argument) → structured w ≡ Some o → is_if o ≡ false → block_type context.types (label_of ts).1 ≡ Ok (a, bs) → (is : List Instruction) (r : List Terminal) (b : List Instruction) (us : List Terminal) (es : List Instruction) (vs : List Terminal) (js : List Instruction)
     → Instructions context ((label_of ts).0 ∷ labels_in (p ∷ ps)) false bs b us → Closed context ((label_of ts).0 ∷ labels_in (p ∷ ps)) (Group (label_of ts).0) us es vs → Completes context (p ∷ ps) vs js r → is ≡ b ++ (es ++ js)
     → Completes context (p ∷ ps) (Open ∷ Word w ∷ ts) (instruction o a ∷ is) r
 group_back context p ps w ts bs o a s i n is r b _ _ vs js h by_group (b', us', es', vs', js', h', c', rest, t') t =
     (instruction o a ∷ (b ++ (end ∷ b')), us', es', vs', js', grammar.by_folded_block s i n h h', c', rest, ap (λ x. instruction o a ∷ x) (joined b b' (es' ++ js') end is js t t'))
 
-at_group_back : (context : Context) (p : Part) (ps : List Part) (w : List ℕ) (ts : List Terminal) (o : ℕ) → structured w ≡ Some o → is_if o ≡ false → (q : Result (Argument × List Terminal) Fault) → block_type (label_of ts).1 ≡ q → Back context p ps (Open ∷ Word w ∷ ts) (at_group o (label_of ts).0 q (p ∷ ps))
+at_group_back : (context : Context) (p : Part) (ps : List Part) (w : List ℕ) (ts : List Terminal) (o : ℕ) → structured w ≡ Some o → is_if o ≡ false → (q : Result (Argument × List Terminal) Fault) → block_type context.types (label_of ts).1 ≡ q → Back context p ps (Open ∷ Word w ∷ ts) (at_group o (label_of ts).0 q (p ∷ ps))
 at_group_back context p ps w ts o e i (Err f) n is r h = absurd h
 at_group_back context p ps w ts o e i (Ok (a, bs)) n is r (b, us, es, vs, js, h, c, rest, t) = group_back context p ps w ts bs o a e i n is r b us es vs js h c rest t
 
-condition_back : (context : Context) (p : Part) (ps : List Part) (w : List ℕ) (ts bs : List Terminal) (o : ℕ) (a : Argument) → structured w ≡ Some o → is_if o ≡ true → block_type (label_of ts).1 ≡ Ok (a, bs) → (is : List Instruction) (r : List Terminal) (b : List Instruction) (us : List Terminal) (es : List Instruction) (vs : List Terminal) (js : List Instruction)
+condition_back : (context : Context) (p : Part) (ps : List Part) (w : List ℕ) (ts bs : List Terminal) (o : ℕ) (a : Argument) → structured w ≡ Some o → is_if o ≡ true → block_type context.types (label_of ts).1 ≡ Ok (a, bs) → (is : List Instruction) (r : List Terminal) (b : List Instruction) (us : List Terminal) (es : List Instruction) (vs : List Terminal) (js : List Instruction)
     → Instructions context (labels_in (p ∷ ps)) true bs b us → Closed context (labels_in (p ∷ ps)) (Condition (instruction o a) (label_of ts).0) us es vs → Completes context (p ∷ ps) vs js r → is ≡ b ++ (es ++ js)
     → Completes context (p ∷ ps) (Open ∷ Word w ∷ ts) is r
 condition_back context p ps w ts bs o a s d n is r b _ _ vs js h (by_condition {body = body} k g) (b', us', es', vs', js', h', c', rest, t') t = (
@@ -173,14 +173,14 @@ condition_back context p ps w ts bs o a s d n is r b _ _ vs js h (by_condition_e
       ∙ sym (append_assoc b (instruction o a ∷ (body ++ (otherwise ∷ (other ++ (end ∷ b'))))) (es' ++ js')),
 )
 
-at_condition_back : (context : Context) (p : Part) (ps : List Part) (w : List ℕ) (ts : List Terminal) (o : ℕ) → structured w ≡ Some o → is_if o ≡ true → (q : Result (Argument × List Terminal) Fault) → block_type (label_of ts).1 ≡ q → Back context p ps (Open ∷ Word w ∷ ts) (at_condition o (label_of ts).0 q (p ∷ ps))
+at_condition_back : (context : Context) (p : Part) (ps : List Part) (w : List ℕ) (ts : List Terminal) (o : ℕ) → structured w ≡ Some o → is_if o ≡ true → (q : Result (Argument × List Terminal) Fault) → block_type context.types (label_of ts).1 ≡ q → Back context p ps (Open ∷ Word w ∷ ts) (at_condition o (label_of ts).0 q (p ∷ ps))
 at_condition_back context p ps w ts o e i (Err f) n is r h = absurd h
 at_condition_back context p ps w ts o e i (Ok (a, bs)) n is r (b, us, es, vs, js, h, c, rest, t) = condition_back context p ps w ts bs o a e i n is r b us es vs js h c rest t
 
 open_block_back : (context : Context) (p : Part) (ps : List Part) (w : List ℕ) (ts : List Terminal) (o : ℕ) → structured w ≡ Some o → (f : Bool) → is_if o ≡ f
-    → Back context p ps (Open ∷ Word w ∷ ts) (if f then at_condition o (label_of ts).0 (block_type (label_of ts).1) (p ∷ ps) else at_group o (label_of ts).0 (block_type (label_of ts).1) (p ∷ ps))
-open_block_back context p ps w ts o e true i is r h = at_condition_back context p ps w ts o e i (block_type (label_of ts).1) refl is r h
-open_block_back context p ps w ts o e false i is r h = at_group_back context p ps w ts o e i (block_type (label_of ts).1) refl is r h
+    → Back context p ps (Open ∷ Word w ∷ ts) (if f then at_condition o (label_of ts).0 (block_type context.types (label_of ts).1) (p ∷ ps) else at_group o (label_of ts).0 (block_type context.types (label_of ts).1) (p ∷ ps))
+open_block_back context p ps w ts o e true i is r h = at_condition_back context p ps w ts o e i (block_type context.types (label_of ts).1) refl is r h
+open_block_back context p ps w ts o e false i is r h = at_group_back context p ps w ts o e i (block_type context.types (label_of ts).1) refl is r h
 
 open_word_back : (context : Context) (p : Part) (ps : List Part) (w : List ℕ) (ts : List Terminal) (o : Option ℕ) → structured w ≡ o → Back context p ps (Open ∷ Word w ∷ ts) (open_by context o (Word w ∷ ts) ts (p ∷ ps))
 open_word_back context p ps w ts (Some o) e is r h = open_block_back context p ps w ts o e (is_if o) refl is r h
@@ -332,7 +332,7 @@ turned_takes l (Ok us) ps ts h = omega (arith, h.short)
 turned_takes l (Err f) ps ts h = tt
 
 word_takes : (context : Context) (o : Option ℕ) (w : List ℕ) (ts : List Terminal) (ps : List Part) → Left (word_by context o (Word w ∷ ts) ts ps) (suc (length ts))
-word_takes context (Some o) w ts ps = at_block_takes o (label_of ts).0 (block_type (label_of ts).1) ps ts (head_keeps ts)
+word_takes context (Some o) w ts ps = at_block_takes o (label_of ts).0 (block_type context.types (label_of ts).1) ps ts (head_keeps context.types ts)
 word_takes context None w ts ps = at_plain_takes (plain context (labels_in ps) (Word w ∷ ts)) ps (Word w ∷ ts) (plain_takes context (labels_in ps) w ts)
 
 else_word_takes : (context : Context) (b : Bool) (l : Label) (w : List ℕ) (ts : List Terminal) (ps : List Part) (e : Bool) → Left (if e then turned l (end_label l ts) ps else word_by context (structured w) (Word w ∷ ts) ts (Block b l ∷ ps)) (suc (length ts))
@@ -353,12 +353,12 @@ any_word_takes context (Block b l) w ts ps = block_word_takes context b l w ts p
 any_word_takes context (Operands i) w ts ps = tt
 any_word_takes context (Condition i l) w ts ps = tt
 
-open_block_takes : (f : Bool) (o : ℕ) (ts : List Terminal) (ps : List Part) → Left (if f then at_condition o (label_of ts).0 (block_type (label_of ts).1) ps else at_group o (label_of ts).0 (block_type (label_of ts).1) ps) (suc (suc (length ts)))
-open_block_takes true o ts ps = at_condition_takes o (label_of ts).0 (block_type (label_of ts).1) ps ts (head_keeps ts)
-open_block_takes false o ts ps = at_group_takes o (label_of ts).0 (block_type (label_of ts).1) ps ts (head_keeps ts)
+open_block_takes : (context : Context) (f : Bool) (o : ℕ) (ts : List Terminal) (ps : List Part) → Left (if f then at_condition o (label_of ts).0 (block_type context.types (label_of ts).1) ps else at_group o (label_of ts).0 (block_type context.types (label_of ts).1) ps) (suc (suc (length ts)))
+open_block_takes context true o ts ps = at_condition_takes o (label_of ts).0 (block_type context.types (label_of ts).1) ps ts (head_keeps context.types ts)
+open_block_takes context false o ts ps = at_group_takes o (label_of ts).0 (block_type context.types (label_of ts).1) ps ts (head_keeps context.types ts)
 
 open_by_takes : (context : Context) (o : Option ℕ) (w : List ℕ) (ts : List Terminal) (ps : List Part) → Left (open_by context o (Word w ∷ ts) ts ps) (suc (suc (length ts)))
-open_by_takes context (Some o) w ts ps = open_block_takes (is_if o) o ts ps
+open_by_takes context (Some o) w ts ps = open_block_takes context (is_if o) o ts ps
 open_by_takes context None w ts ps = at_operands_takes (plain context (labels_in ps) (Word w ∷ ts)) ps (Word w ∷ ts) (plain_takes context (labels_in ps) w ts)
 
 then_takes : (context : Context) (d : Bool) (i : Instruction) (l : Label) (w : List ℕ) (ts : List Terminal) (ps : List Part)
@@ -579,12 +579,12 @@ plain_forth context p ps w ts us i js r k s e h =
     (subst (λ q. Goes context (at_plain q (p ∷ ps)) (i ∷ js) r (suc (length ts))) (sym e)
     (js, refl, h, omega (arith, plain_short context (labels_in (p ∷ ps)) w ts i us e))))
 
-block_forth : (context : Context) (p : Part) (ps : List Part) (w : List ℕ) (ts bs : List Terminal) (o : ℕ) (a : Argument) (js : List Instruction) (r : List Terminal) → only_folded p ≡ false → structured w ≡ Some o → block_type (label_of ts).1 ≡ Ok (a, bs) → Completes context (Block (is_if o) (label_of ts).0 ∷ p ∷ ps) bs js r → Goal context p ps (Word w ∷ ts) (instruction o a ∷ js) r
+block_forth : (context : Context) (p : Part) (ps : List Part) (w : List ℕ) (ts bs : List Terminal) (o : ℕ) (a : Argument) (js : List Instruction) (r : List Terminal) → only_folded p ≡ false → structured w ≡ Some o → block_type context.types (label_of ts).1 ≡ Ok (a, bs) → Completes context (Block (is_if o) (label_of ts).0 ∷ p ∷ ps) bs js r → Goal context p ps (Word w ∷ ts) (instruction o a ∷ js) r
 block_forth context p ps w ts bs o a js r k s n h =
     at_word context p ps w ts (instruction o a ∷ js) r k (no_end_structured w o s (is_end w) refl) (no_else_structured w o s (is_else w) refl)
     (subst (λ q. Goes context (word_by context q (Word w ∷ ts) ts (p ∷ ps)) (instruction o a ∷ js) r (suc (length ts))) (sym s)
     (subst (λ q. Goes context (at_block o (label_of ts).0 q (p ∷ ps)) (instruction o a ∷ js) r (suc (length ts))) (sym n)
-    (js, refl, h, omega (arith, (head_passes ts bs a n).short))))
+    (js, refl, h, omega (arith, (head_passes context.types ts bs a n).short))))
 
 operands_forth : (context : Context) (p : Part) (ps : List Part) (w : List ℕ) (ts us : List Terminal) (i : Instruction) (js : List Instruction) (r : List Terminal) → structured w ≡ None → plain context (labels_in (p ∷ ps)) (Word w ∷ ts) ≡ Ok (i, us) → Completes context (Operands i ∷ p ∷ ps) us js r → Goal context p ps (Open ∷ Word w ∷ ts) js r
 operands_forth context p ps w ts us i js r s e h =
@@ -593,21 +593,21 @@ operands_forth context p ps w ts us i js r s e h =
     (subst (λ q. Goes context (at_operands q (p ∷ ps)) js r (suc (suc (length ts)))) (sym e)
     (js, refl, h, omega (arith, plain_short context (labels_in (p ∷ ps)) w ts i us e))))
 
-group_forth : (context : Context) (p : Part) (ps : List Part) (w : List ℕ) (ts bs : List Terminal) (o : ℕ) (a : Argument) (js : List Instruction) (r : List Terminal) → structured w ≡ Some o → is_if o ≡ false → block_type (label_of ts).1 ≡ Ok (a, bs) → Completes context (Group (label_of ts).0 ∷ p ∷ ps) bs js r → Goal context p ps (Open ∷ Word w ∷ ts) (instruction o a ∷ js) r
+group_forth : (context : Context) (p : Part) (ps : List Part) (w : List ℕ) (ts bs : List Terminal) (o : ℕ) (a : Argument) (js : List Instruction) (r : List Terminal) → structured w ≡ Some o → is_if o ≡ false → block_type context.types (label_of ts).1 ≡ Ok (a, bs) → Completes context (Group (label_of ts).0 ∷ p ∷ ps) bs js r → Goal context p ps (Open ∷ Word w ∷ ts) (instruction o a ∷ js) r
 group_forth context p ps w ts bs o a js r s i n h =
     at_folded context p ps w ts (instruction o a ∷ js) r (no_then_structured w o s (is_then w) refl)
     (subst (λ q. Goes context (open_by context q (Word w ∷ ts) ts (p ∷ ps)) (instruction o a ∷ js) r (suc (suc (length ts)))) (sym s)
-    (subst (λ f. Goes context (if f then at_condition o (label_of ts).0 (block_type (label_of ts).1) (p ∷ ps) else at_group o (label_of ts).0 (block_type (label_of ts).1) (p ∷ ps)) (instruction o a ∷ js) r (suc (suc (length ts)))) (sym i)
+    (subst (λ f. Goes context (if f then at_condition o (label_of ts).0 (block_type context.types (label_of ts).1) (p ∷ ps) else at_group o (label_of ts).0 (block_type context.types (label_of ts).1) (p ∷ ps)) (instruction o a ∷ js) r (suc (suc (length ts)))) (sym i)
     (subst (λ q. Goes context (at_group o (label_of ts).0 q (p ∷ ps)) (instruction o a ∷ js) r (suc (suc (length ts)))) (sym n)
-    (js, refl, h, omega (arith, (head_passes ts bs a n).short)))))
+    (js, refl, h, omega (arith, (head_passes context.types ts bs a n).short)))))
 
-condition_forth : (context : Context) (p : Part) (ps : List Part) (w : List ℕ) (ts bs : List Terminal) (o : ℕ) (a : Argument) (js : List Instruction) (r : List Terminal) → structured w ≡ Some o → is_if o ≡ true → block_type (label_of ts).1 ≡ Ok (a, bs) → Completes context (Condition (instruction o a) (label_of ts).0 ∷ p ∷ ps) bs js r → Goal context p ps (Open ∷ Word w ∷ ts) js r
+condition_forth : (context : Context) (p : Part) (ps : List Part) (w : List ℕ) (ts bs : List Terminal) (o : ℕ) (a : Argument) (js : List Instruction) (r : List Terminal) → structured w ≡ Some o → is_if o ≡ true → block_type context.types (label_of ts).1 ≡ Ok (a, bs) → Completes context (Condition (instruction o a) (label_of ts).0 ∷ p ∷ ps) bs js r → Goal context p ps (Open ∷ Word w ∷ ts) js r
 condition_forth context p ps w ts bs o a js r s i n h =
     at_folded context p ps w ts js r (no_then_structured w o s (is_then w) refl)
     (subst (λ q. Goes context (open_by context q (Word w ∷ ts) ts (p ∷ ps)) js r (suc (suc (length ts)))) (sym s)
-    (subst (λ f. Goes context (if f then at_condition o (label_of ts).0 (block_type (label_of ts).1) (p ∷ ps) else at_group o (label_of ts).0 (block_type (label_of ts).1) (p ∷ ps)) js r (suc (suc (length ts)))) (sym i)
+    (subst (λ f. Goes context (if f then at_condition o (label_of ts).0 (block_type context.types (label_of ts).1) (p ∷ ps) else at_group o (label_of ts).0 (block_type context.types (label_of ts).1) (p ∷ ps)) js r (suc (suc (length ts)))) (sym i)
     (subst (λ q. Goes context (at_condition o (label_of ts).0 q (p ∷ ps)) js r (suc (suc (length ts)))) (sym n)
-    (js, refl, h, omega (arith, (head_passes ts bs a n).short)))))
+    (js, refl, h, omega (arith, (head_passes context.types ts bs a n).short)))))
 
 parted : (b c d : List Instruction) (i : Instruction) (is : List Instruction) → is ≡ (b ++ (i ∷ c)) ++ d → is ≡ b ++ (i ∷ (c ++ d))
 parted b c d i is e = e ∙ append_assoc b (i ∷ c) d

@@ -2,30 +2,33 @@
 -- 6.5.10 folded instructions. Over the tokens that count. A rule takes tokens from a place on, and leaves the rest. What is spelled is a list of instructions as
 -- the binary format has them (5.4): `end` and `else` are among them, and a folded instruction comes after its operands.
 -- Which fault a text has that the grammar does not spell is no part of the standard: a rule of our own.
-use Rattle.std.specs.Prelude.{◌≡◌, ℕ, suc, Bool, true, false, List, [], ◌∷◌, ◌++◌, codes, Option, Some, None, Result, Ok, Err, bytes_eq, nat_lt, nat_le, ◌^◌, ◌*◌, ◌==◌, if◌then◌else◌, ℤ, pos, ◌-ℤ◌}
+use Rattle.std.specs.Prelude.{◌≡◌, ℕ, suc, Bool, true, false, List, [], ◌∷◌, ◌++◌, codes, Option, Some, None, Result, Ok, Err, bytes_eq, nat_lt, nat_le, ◌^◌, ◌*◌, ◌==◌, ◌||◌, if◌then◌else◌, slice_get, ℤ, pos, ◌-ℤ◌}
 use Rattle.std.specs.Float.{binary32, binary64}
 use Rattle.wat_floats.specs.Literals.{of_integer}
 use Rattle.wat_instructions.specs.declared.pieces.Argument.{Argument}
 use Rattle.wat_instructions.specs.declared.pieces.Argument.TheVariants as argument
 use Rattle.wat_instructions.specs.declared.pieces.Instruction.{Instruction}
 use Rattle.wat_instructions.specs.declared.pieces.FaultKind.{FaultKind}
-use Rattle.wat_instructions.specs.declared.pieces.FaultKind.TheVariants.{Unexpected, UnknownWord, UnknownName, WrongLabel, OutOfRange}
+use Rattle.wat_instructions.specs.declared.pieces.FaultKind.TheVariants.{Unexpected, UnknownWord, UnknownName, WrongLabel, OutOfRange, OtherType}
 use Rattle.wat_instructions.specs.declared.pieces.Sign.{Sign}
 use Rattle.wat_instructions.specs.declared.pieces.Sign.TheVariants as sign
 use Rattle.wat_instructions.specs.declared.pieces.ValueType.{ValueType}
 use Rattle.wat_instructions.specs.declared.pieces.ValueType.TheVariants as value
 use Rattle.wat_instructions.specs.declared.table.Immediate.{Immediate}
 use Rattle.wat_instructions.specs.declared.table.Immediate.TheVariants as immediate
+use Rattle.wat_instructions.specs.Branches.{Branches, branches}
 use Rattle.wat_instructions.specs.Memory.{offset, align}
 use Rattle.wat_instructions.specs.Table.{Mnemonic, found, mnemonics}
 use Rattle.wat_instructions.specs.Terminals.{Terminal, Open, Close, Word, Id, Integer, Float, Label}
+use Rattle.wat_instructions.specs.Types.{FunctionType, Types, UnnamedUse, from_to, indirect_call, same_type, unnamed_use}
 
 -- what is wrong, and the tokens from the one where it is
 abbrev pub Fault : Type 0
 Fault = FaultKind × List Terminal
 
--- 6.1.3 contexts: the names of the items of five index spaces, each in the order of their indices
+-- 6.1.3 contexts: the types; and the names of the items of five index spaces, each in the order of their indices
 pub record Context : Type 0 where
+  pub types : Types
   pub locals : List Label
   pub funcs : List Label
   pub tables : List Label
@@ -125,11 +128,134 @@ align_of natural ts = (natural, ts)
 abbrev pub memory_of : ℕ → List Terminal → Argument × List Terminal
 memory_of natural ts = (argument.Memory (align_of natural (offset_of ts).1).0 (offset_of ts).0, (align_of natural (offset_of ts).1).1)
 
+-- 6.5.2: br_table's labels, one or more, of which the last is the default
+
+-- a label before others
+abbrev pub before_labels : ℕ → Result (Branches × List Terminal) Fault → Result (Branches × List Terminal) Fault
+before_labels n (Ok (b, ts)) = Ok (branches (n ∷ b.labels) b.default, ts)
+before_labels n (Err f) = Err f
+
+-- after a label: what follows it, where another comes
+abbrev pub and_labels : ℕ → Result (ℕ × List Terminal) Fault → (ℕ → Result (Branches × List Terminal) Fault) → Result (Branches × List Terminal) Fault
+and_labels n (Ok (m, ts)) others = before_labels n (others m)
+and_labels n (Err f) others = Err f
+
+-- a label that was read, and those that follow it
+unfoldable pub labels_from : List Label → ℕ → List Terminal → Result (Branches × List Terminal) Fault
+labels_from ls n (Integer s m ∷ ts) = and_labels n (small s m (Integer s m ∷ ts) ts) (λ k. labels_from ls k ts)
+labels_from ls n (Id x ∷ ts) = and_labels n (named (position 0 x ls) (Id x ∷ ts) ts) (λ k. labels_from ls k ts)
+labels_from ls n ts = Ok (branches [] n, ts)
+
+abbrev pub with_labels : Result (Branches × List Terminal) Fault → Result (Argument × List Terminal) Fault
+with_labels (Ok (b, ts)) = Ok (argument.Labels b, ts)
+with_labels (Err f) = Err f
+
+abbrev pub labels_by : List Label → Result (ℕ × List Terminal) Fault → Result (Argument × List Terminal) Fault
+labels_by ls (Ok (n, ts)) = with_labels (labels_from ls n ts)
+labels_by ls (Err f) = Err f
+
+-- 6.4.1 number types
+abbrev pub value_type : List ℕ → Option ValueType
+value_type w =
+    if bytes_eq w (codes "i32") then Some value.I32 else if bytes_eq w (codes "i64") then Some value.I64 else if bytes_eq w (codes "f32") then Some value.F32 else if bytes_eq w (codes "f64") then Some value.F64 else None
+
+-- 6.4.5: groups `(` word valtype* `)` one after another, of parameters without names or of results
+
+-- a type before others
+abbrev pub before_type : ValueType → Result (List ValueType × List Terminal) Fault → Result (List ValueType × List Terminal) Fault
+before_type t (Ok (us, ts)) = Ok (t ∷ us, ts)
+before_type t (Err f) = Err f
+
+abbrev pub before_types : Option ValueType → List Terminal → Result (List ValueType × List Terminal) Fault → Result (List ValueType × List Terminal) Fault
+before_types None all q = Err (UnknownWord, all)
+before_types (Some t) all q = before_type t q
+
+-- what the groups list that begin here; or, in a group, what it lists from here on, and the groups after it
+unfoldable pub listed : List ℕ → Bool → List Terminal → Result (List ValueType × List Terminal) Fault
+listed word false (Open ∷ Word w ∷ ts) = if bytes_eq w word then listed word true ts else Ok ([], Open ∷ Word w ∷ ts)
+listed word false ts = Ok ([], ts)
+listed word true (Word w ∷ ts) = before_types (value_type w) (Word w ∷ ts) (listed word true ts)
+listed word true (Close ∷ ts) = listed word false ts
+listed word true ts = Err (Unexpected, ts)
+
+abbrev pub with_results : List ValueType → Result (List ValueType × List Terminal) Fault → Result (FunctionType × List Terminal) Fault
+with_results ps (Ok (rs, ts)) = Ok (from_to ps rs, ts)
+with_results ps (Err f) = Err f
+
+abbrev pub and_results : Result (List ValueType × List Terminal) Fault → Result (FunctionType × List Terminal) Fault
+and_results (Ok (ps, ts)) = with_results ps (listed (codes "result") false ts)
+and_results (Err f) = Err f
+
+-- param* result*
+unfoldable pub lists_of : List Terminal → Result (FunctionType × List Terminal) Fault
+lists_of ts = and_results (listed (codes "param") false ts)
+
+abbrev pub list_nothing : List ValueType → List ValueType → Bool
+list_nothing [] [] = true
+list_nothing ps rs = false
+
+-- 6.6.3: typeuse = param* result*; or `(` type index `)` param* result*, where the lists are those of the type, or list nothing
+
+abbrev pub listed_use : Result (FunctionType × List Terminal) Fault → Result (UnnamedUse × List Terminal) Fault
+listed_use (Ok (t, ts)) = Ok (unnamed_use None t, ts)
+listed_use (Err f) = Err f
+
+-- the type of an index with what is listed, where these tokens begin with the index
+abbrev pub agreed : ℕ → FunctionType → List Terminal → Result (FunctionType × List Terminal) Fault → Result (UnnamedUse × List Terminal) Fault
+agreed i t all (Ok (u, ts)) = if list_nothing u.params u.results || same_type u t then Ok (unnamed_use (Some i) t, ts) else Err (OtherType, all)
+agreed i t all (Err f) = Err f
+
+abbrev pub indexed_by : ℕ → Option FunctionType → List Terminal → List Terminal → Result (UnnamedUse × List Terminal) Fault
+indexed_by i None all ts = Err (UnknownName, all)
+indexed_by i (Some t) all ts = agreed i t all (lists_of ts)
+
+abbrev pub closed_index : List FunctionType → ℕ → List Terminal → List Terminal → Result (UnnamedUse × List Terminal) Fault
+closed_index types i all (Close ∷ ts) = indexed_by i (slice_get types i) all ts
+closed_index types i all ts = Err (Unexpected, ts)
+
+-- after `(` type
+abbrev pub indexed_use : Types → List Terminal → Result (ℕ × List Terminal) Fault → Result (UnnamedUse × List Terminal) Fault
+indexed_use types all (Ok (i, ts)) = closed_index types.types i all ts
+indexed_use types all (Err f) = Err f
+
+-- the tokens after `(` and a word, where these begin so
+abbrev pub after_word : List ℕ → List Terminal → Option (List Terminal)
+after_word word (Word w ∷ ts) = if bytes_eq w word then Some ts else None
+after_word word ts = None
+
+abbrev pub after : List ℕ → List Terminal → Option (List Terminal)
+after word (Open ∷ ts) = after_word word ts
+after word ts = None
+
+abbrev pub use_by : Types → Option (List Terminal) → List Terminal → Result (UnnamedUse × List Terminal) Fault
+use_by types None all = listed_use (lists_of all)
+use_by types (Some ts) all = indexed_use types ts (index types.names ts)
+
+unfoldable pub use_of : Types → List Terminal → Result (UnnamedUse × List Terminal) Fault
+use_of types ts = use_by types (after (codes "type") ts) ts
+
+-- 6.5.2: call_indirect's table: an index, or none, which is 0
+abbrev pub table_of : List Label → List Terminal → Result (ℕ × List Terminal) Fault
+table_of ls (Integer s n ∷ ts) = small s n (Integer s n ∷ ts) ts
+table_of ls (Id x ∷ ts) = named (position 0 x ls) (Id x ∷ ts) ts
+table_of ls ts = Ok (0, ts)
+
+abbrev pub with_use : ℕ → Result (UnnamedUse × List Terminal) Fault → Result (Argument × List Terminal) Fault
+with_use n (Ok (u, ts)) = Ok (argument.Indirect (indirect_call n u), ts)
+with_use n (Err f) = Err f
+
+-- 6.5.2: a table, and a type use
+abbrev pub indirect_by : Types → Result (ℕ × List Terminal) Fault → Result (Argument × List Terminal) Fault
+indirect_by types (Ok (n, ts)) = with_use n (use_of types ts)
+indirect_by types (Err f) = Err f
+
 -- the immediate of a kind, where these labels are bound, the innermost first
 abbrev pub immediate_of : Context → List Label → Immediate → List Terminal → Result (Argument × List Terminal) Fault
 immediate_of context ls immediate.No ts = Ok (argument.Nothing, ts)
 immediate_of context ls immediate.Local ts = with_index (index context.locals ts)
 immediate_of context ls immediate.Label ts = with_index (index ls ts)
+immediate_of context ls immediate.Labels ts = labels_by ls (index ls ts)
+immediate_of context ls immediate.Indirect ts = indirect_by context.types (table_of context.tables ts)
 immediate_of context ls immediate.Func ts = with_index (index context.funcs ts)
 immediate_of context ls immediate.Global ts = with_index (index context.globals ts)
 immediate_of context ls immediate.I32 ts = i32 ts
@@ -182,49 +308,19 @@ is_then w = bytes_eq w (codes "then")
 abbrev pub is_if : ℕ → Bool
 is_if o = o == 0x04
 
--- 6.4.1 number types
-abbrev pub value_type : List ℕ → Option ValueType
-value_type w =
-    if bytes_eq w (codes "i32") then Some value.I32 else if bytes_eq w (codes "i64") then Some value.I64 else if bytes_eq w (codes "f32") then Some value.F32 else if bytes_eq w (codes "f64") then Some value.F64 else None
+-- 6.5.2: blocktype = (result valtype) or nothing; or a type use (6.6.3), whose parameters have no names. The first where both may be: a type use by its
+-- lists alone, with no parameter and one result at most, is no type use.
+abbrev pub block_of : Option ℕ → List ValueType → List ValueType → UnnamedUse → Argument
+block_of None [] [] u = argument.Block None
+block_of None [] (t ∷ []) u = argument.Block (Some t)
+block_of i ps rs u = argument.BlockUse u
 
--- the tokens after `)`, where these begin with it
-abbrev pub closed : List Terminal → Option (List Terminal)
-closed (Close ∷ ts) = Some ts
-closed ts = None
+abbrev pub block_by : Result (UnnamedUse × List Terminal) Fault → Result (Argument × List Terminal) Fault
+block_by (Ok (u, ts)) = Ok (block_of u.index u.type.params u.type.results u, ts)
+block_by (Err f) = Err f
 
--- 6.4.5: a group of this word that lists nothing is an abbreviation of nothing. The tokens after all such groups
-unfoldable pub after_empty : List ℕ → List Terminal → List Terminal
-after_empty word (Open ∷ Word w ∷ Close ∷ ts) = if bytes_eq w word then after_empty word ts else Open ∷ Word w ∷ Close ∷ ts
-after_empty word ts = ts
-
--- `)` after a value type
-abbrev pub close_type : ValueType → List Terminal → Result (Argument × List Terminal) Fault
-close_type t (Close ∷ ts) = Ok (argument.Block (Some t), after_empty (codes "result") ts)
-close_type t ts = Err (Unexpected, ts)
-
-abbrev pub closed_type : Option ValueType → List Terminal → List Terminal → Result (Argument × List Terminal) Fault
-closed_type None all ts = Err (UnknownWord, all)
-closed_type (Some t) all ts = close_type t ts
-
--- one value type and `)`
-abbrev pub one_type : List Terminal → Result (Argument × List Terminal) Fault
-one_type (Word w ∷ ts) = closed_type (value_type w) (Word w ∷ ts) ts
-one_type ts = Err (Unexpected, ts)
-
--- after `(`, where these tokens begin with it
-abbrev pub type_by : List Terminal → List Terminal → Result (Argument × List Terminal) Fault
-type_by (Word w ∷ ts) all = if bytes_eq w (codes "result") then one_type ts else Ok (argument.Block None, all)
-type_by ts all = Ok (argument.Block None, all)
-
--- one result, or none; and groups of results that list nothing
-unfoldable pub result_type : List Terminal → Result (Argument × List Terminal) Fault
-result_type (Open ∷ ts) = type_by ts (Open ∷ ts)
-result_type ts = Ok (argument.Block None, ts)
-
--- 6.5.2: blocktype = (result valtype) or nothing, or a type use (6.6.3), which is param* result*. Those that bring no parameter and at most one result:
--- others, and types by their index, are left out here.
-abbrev pub block_type : List Terminal → Result (Argument × List Terminal) Fault
-block_type ts = result_type (after_empty (codes "result") (after_empty (codes "param") ts))
+abbrev pub block_type : Types → List Terminal → Result (Argument × List Terminal) Fault
+block_type types ts = block_by (use_of types ts)
 
 abbrev pub end : Instruction
 end = instruction 0x0B argument.Nothing
@@ -242,11 +338,11 @@ pub data Instructions (context : Context) : List Label → Bool → List Termina
   -- 6.5.2: block, loop or if, up to `end`. An `if` without `else` is one whose second part is empty. 5.4.1 has
   -- bytes for it with and without `else`: it is written as the text has it, which is a choice of our own.
   by_block : {ls : List Label} {w v : List ℕ} {o : ℕ} {a : Argument} {ts bs us vs r : List Terminal} {body is : List Instruction}
-      → structured w ≡ Some o → block_type (label_of ts).1 ≡ Ok (a, bs) → Instructions context ((label_of ts).0 ∷ ls) false bs body (Word v ∷ us) → is_end v ≡ true → end_label (label_of ts).0 us ≡ Ok vs → Instructions context ls false vs is r
+      → structured w ≡ Some o → block_type context.types (label_of ts).1 ≡ Ok (a, bs) → Instructions context ((label_of ts).0 ∷ ls) false bs body (Word v ∷ us) → is_end v ≡ true → end_label (label_of ts).0 us ≡ Ok vs → Instructions context ls false vs is r
       → Instructions context ls false (Word w ∷ ts) (instruction o a ∷ (body ++ (end ∷ is))) r
   -- 6.5.2: if, up to `else`, up to `end`
   by_if_else : {ls : List Label} {w v x : List ℕ} {o : ℕ} {a : Argument} {ts bs us xs ys vs r : List Terminal} {body other is : List Instruction}
-      → structured w ≡ Some o → is_if o ≡ true → block_type (label_of ts).1 ≡ Ok (a, bs) → Instructions context ((label_of ts).0 ∷ ls) false bs body (Word v ∷ us) → is_else v ≡ true → end_label (label_of ts).0 us ≡ Ok xs
+      → structured w ≡ Some o → is_if o ≡ true → block_type context.types (label_of ts).1 ≡ Ok (a, bs) → Instructions context ((label_of ts).0 ∷ ls) false bs body (Word v ∷ us) → is_else v ≡ true → end_label (label_of ts).0 us ≡ Ok xs
       → Instructions context ((label_of ts).0 ∷ ls) false xs other (Word x ∷ ys) → is_end x ≡ true → end_label (label_of ts).0 ys ≡ Ok vs → Instructions context ls false vs is r
       → Instructions context ls false (Word w ∷ ts) (instruction o a ∷ (body ++ (otherwise ∷ (other ++ (end ∷ is))))) r
   -- 6.5.10: `(` plaininstr foldedinstr* `)` is foldedinstr* plaininstr
@@ -255,16 +351,16 @@ pub data Instructions (context : Context) : List Label → Bool → List Termina
       → Instructions context ls folded (Open ∷ Word w ∷ ts) (operands ++ (i ∷ is)) r
   -- 6.5.10: `(` block label blocktype instr* `)` is block label blocktype instr* end, and so is loop
   by_folded_block : {ls : List Label} {folded : Bool} {w : List ℕ} {o : ℕ} {a : Argument} {ts bs vs r : List Terminal} {body is : List Instruction}
-      → structured w ≡ Some o → is_if o ≡ false → block_type (label_of ts).1 ≡ Ok (a, bs) → Instructions context ((label_of ts).0 ∷ ls) false bs body (Close ∷ vs) → Instructions context ls folded vs is r
+      → structured w ≡ Some o → is_if o ≡ false → block_type context.types (label_of ts).1 ≡ Ok (a, bs) → Instructions context ((label_of ts).0 ∷ ls) false bs body (Close ∷ vs) → Instructions context ls folded vs is r
       → Instructions context ls folded (Open ∷ Word w ∷ ts) (instruction o a ∷ (body ++ (end ∷ is))) r
   -- 6.5.10: `(` if label blocktype foldedinstr* `(` then instr* `)` `)` is foldedinstr* if label blocktype instr* end
   by_folded_if : {ls : List Label} {folded : Bool} {w t : List ℕ} {o : ℕ} {a : Argument} {ts bs cs vs r : List Terminal} {condition body is : List Instruction}
-      → structured w ≡ Some o → is_if o ≡ true → block_type (label_of ts).1 ≡ Ok (a, bs) → Instructions context ls true bs condition (Open ∷ Word t ∷ cs) → is_then t ≡ true
+      → structured w ≡ Some o → is_if o ≡ true → block_type context.types (label_of ts).1 ≡ Ok (a, bs) → Instructions context ls true bs condition (Open ∷ Word t ∷ cs) → is_then t ≡ true
       → Instructions context ((label_of ts).0 ∷ ls) false cs body (Close ∷ Close ∷ vs) → Instructions context ls folded vs is r
       → Instructions context ls folded (Open ∷ Word w ∷ ts) (condition ++ (instruction o a ∷ (body ++ (end ∷ is)))) r
   -- 6.5.10: the same with `(` else instr* `)` after it is foldedinstr* if label blocktype instr* else instr* end
   by_folded_if_else : {ls : List Label} {folded : Bool} {w t e : List ℕ} {o : ℕ} {a : Argument} {ts bs cs es vs r : List Terminal} {condition body other is : List Instruction}
-      → structured w ≡ Some o → is_if o ≡ true → block_type (label_of ts).1 ≡ Ok (a, bs) → Instructions context ls true bs condition (Open ∷ Word t ∷ cs) → is_then t ≡ true
+      → structured w ≡ Some o → is_if o ≡ true → block_type context.types (label_of ts).1 ≡ Ok (a, bs) → Instructions context ls true bs condition (Open ∷ Word t ∷ cs) → is_then t ≡ true
       → Instructions context ((label_of ts).0 ∷ ls) false cs body (Close ∷ Open ∷ Word e ∷ es) → is_else e ≡ true
       → Instructions context ((label_of ts).0 ∷ ls) false es other (Close ∷ Close ∷ vs) → Instructions context ls folded vs is r
       → Instructions context ls folded (Open ∷ Word w ∷ ts) (condition ++ (instruction o a ∷ (body ++ (otherwise ∷ (other ++ (end ∷ is)))))) r

@@ -1,4 +1,6 @@
 pub mod Terminals
+pub mod Branches
+pub mod Types
 pub mod Memory
 pub mod Table
 pub mod Grammar
@@ -6,4 +8,5 @@ pub mod Names
 pub mod Indices
 pub mod Machine
 pub mod Law
+pub mod Views
 pub mod Parts

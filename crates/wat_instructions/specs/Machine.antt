@@ -80,7 +80,7 @@ turned l (Err f) ps = Err f
 
 -- a word where instructions may be; these tokens begin with it
 abbrev pub word_by : Context → Option ℕ → List Terminal → List Terminal → List Part → Result Step Fault
-word_by context (Some o) all ts ps = at_block o (label_of ts).0 (block_type (label_of ts).1) ps
+word_by context (Some o) all ts ps = at_block o (label_of ts).0 (block_type context.types (label_of ts).1) ps
 word_by context None all ts ps = at_plain (plain context (labels_in ps) all) ps
 
 abbrev pub word_step : Context → Part → List ℕ → List Terminal → List Terminal → List Part → Result Step Fault
@@ -94,12 +94,12 @@ word_step context (Operands i) w all ts ps = Err (Unexpected, all)
 word_step context (Condition i l) w all ts ps = Err (Unexpected, all)
 
 -- a structured instruction after `(` and its word
-abbrev pub open_block : ℕ → List Terminal → List Part → Result Step Fault
-open_block o ts ps = if is_if o then at_condition o (label_of ts).0 (block_type (label_of ts).1) ps else at_group o (label_of ts).0 (block_type (label_of ts).1) ps
+abbrev pub open_block : Context → ℕ → List Terminal → List Part → Result Step Fault
+open_block context o ts ps = if is_if o then at_condition o (label_of ts).0 (block_type context.types (label_of ts).1) ps else at_group o (label_of ts).0 (block_type context.types (label_of ts).1) ps
 
 -- a word after `(`; these tokens begin with it
 abbrev pub open_by : Context → Option ℕ → List Terminal → List Terminal → List Part → Result Step Fault
-open_by context (Some o) all ts ps = open_block o ts ps
+open_by context (Some o) all ts ps = open_block context o ts ps
 open_by context None all ts ps = at_operands (plain context (labels_in ps) all) ps
 
 -- the same in a part: `then` after a condition, or an instruction

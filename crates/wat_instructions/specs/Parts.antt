@@ -1,15 +1,18 @@
 -- What the code's stack, names and faults are in the definitions.
-use Rattle.std.specs.Prelude.{◌≡◌, ◌<◌, ℕ, length, List, [], ◌∷◌, ◌++◌, map, Result, Ok, Err}
+use Rattle.std.specs.Prelude.{Bool, ◌≡◌, ◌<◌, ℕ, length, List, [], ◌∷◌, ◌++◌, map, Result, Ok, Err}
 use Rattle.wat_instructions.specs.declared.pieces.Fault as declared
 use Rattle.wat_instructions.specs.declared.pieces.Instruction.{Instruction}
 use Rattle.wat_instructions.specs.declared.pieces.Refusal.{Refusal}
 use Rattle.wat_instructions.specs.declared.pieces.Refusal.TheVariants.{Text, Memory}
 use Rattle.wat_instructions.specs.declared.pieces.Frame.{Frame}
 use Rattle.wat_instructions.specs.declared.pieces.Frame.TheVariants as frame
+use Rattle.wat_instructions.specs.declared.pieces.ValueType.{ValueType}
 use Rattle.wat_instructions.specs.declared.reading.Scope.{Scope}
-use Rattle.wat_instructions.specs.Grammar.{Context, Fault}
+use Rattle.wat_instructions.specs.Views.{type_of}
+use Rattle.wat_instructions.specs.Grammar.{Context, Fault, before_labels, before_type, labels_from, listed}
+use Rattle.wat_instructions.specs.Branches.{branches}
 use Rattle.wat_instructions.specs.Machine.{Part, Body, Block, Group, Operands, Condition, Then, Else, Step, run}
-use Rattle.wat_instructions.specs.Terminals.{Terminal, terminal, label}
+use Rattle.wat_instructions.specs.Terminals.{Terminal, Label, terminal, label}
 
 abbrev pub part : Frame → Part
 part frame.Body = Body
@@ -30,6 +33,7 @@ stack fs = stack_on fs []
 
 abbrev pub scope_of : Scope → Context
 scope_of s = record {
+  types = record { names = s.type_names.now; types = map type_of s.types.now };
   locals = s.locals.now;
   funcs = s.funcs.now;
   tables = s.tables.now;
@@ -44,6 +48,32 @@ fault_of f = (f.kind, map terminal f.left.now)
 abbrev pub Faults : {A : Type 0} → Result A Fault → Refusal → Type 0
 Faults q (Text f) = q ≡ Err (fault_of f)
 Faults q (Memory e) = Unit {0}
+
+-- want of memory
+abbrev pub IsMemory : Refusal → Type 0
+IsMemory (Text f) = ⊥
+IsMemory (Memory e) = Unit {0}
+
+-- no label follows one; or one does, and that is put after others
+abbrev pub NoLabel : List Label → ℕ → List Terminal → List ℕ → List ℕ → Type 0
+NoLabel ls n ts before after = (labels_from ls n ts ≡ Ok (branches [] n, ts)) × (after ≡ before)
+
+abbrev pub IsLabel : List Label → ℕ → List Terminal → List ℕ → List ℕ → ℕ → List Terminal → Type 0
+IsLabel ls n ts before after m us = (labels_from ls n ts ≡ before_labels n (labels_from ls m us)) × (after ≡ before ++ n ∷ [])
+
+-- types before those that are listed
+abbrev pub before_all : List ValueType → Result (List ValueType × List Terminal) Fault → Result (List ValueType × List Terminal) Fault
+before_all [] q = q
+before_all (u ∷ us) q = before_type u (before_all us q)
+
+-- no group begins here; or a token is passed, and these types come after others
+abbrev pub NotListed : List ℕ → Bool → List Terminal → List ValueType → List ValueType → Type 0
+NotListed word inside ts before after = (listed word inside ts ≡ Ok ([], ts)) × (after ≡ before)
+
+pub record IsListed (word : List ℕ) (inside : Bool) (ts : List Terminal) (before after : List ValueType) (still : Bool) (left : List Terminal) : Type 0 where
+  pub types : List ValueType
+  pub is : listed word inside ts ≡ before_all types (listed word still left)
+  pub follow : after ≡ before ++ types
 
 -- a step that was made: its instructions after what was, the stack, and the tokens that are left
 pub record Stepped (q : Result Step Fault) (before after : List Instruction) (frames : List Part) (left : List Terminal) : Type 0 where

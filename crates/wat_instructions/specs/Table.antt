@@ -1,11 +1,11 @@
 -- WebAssembly 2.0 specification, 6.5 (text format, instructions: 6.5.2 control, 6.5.4 parametric, 6.5.5 variable, 6.5.7 memory, 6.5.8 numeric) and 5.4
 -- (binary format, instructions). The plain instructions: the word, the first byte, and which immediate they have. Words whose bytes follow one another are
--- one line. Left out of 2.0: br_table, call_indirect, select with types, references, tables, bulk memory, saturating
+-- one line. Left out of 2.0: select with types, references, tables, bulk memory, saturating
 -- conversions, vectors.
 use Rattle.std.specs.Prelude.{ℕ, suc, List, [], ◌∷◌, ◌++◌, ◌==◌, codes, Option, Some, None, bytes_eq, if◌then◌else◌}
 use Rattle.wat_instructions.specs.declared.table.Row.{Row}
 use Rattle.wat_instructions.specs.declared.table.Immediate.{Immediate}
-use Rattle.wat_instructions.specs.declared.table.Immediate.TheVariants.{No, Local, Label, Func, Global, I32, I64, F32, F64, Memory, Zero}
+use Rattle.wat_instructions.specs.declared.table.Immediate.TheVariants.{No, Local, Label, Labels, Func, Indirect, Global, I32, I64, F32, F64, Memory, Zero}
 
 pub record Mnemonic : Type 0 where
   pub word : List ℕ
@@ -41,8 +41,10 @@ unfoldable pub low : List Mnemonic
 low =
     from 0x00 No (codes "unreachable nop") ++
     from 0x0C Label (codes "br br_if") ++
+    from 0x0E Labels (codes "br_table") ++
     from 0x0F No (codes "return") ++
     from 0x10 Func (codes "call") ++
+    from 0x11 Indirect (codes "call_indirect") ++
     from 0x1A No (codes "drop select") ++
     from 0x20 Local (codes "local.get local.set local.tee") ++
     from 0x23 Global (codes "global.get global.set") ++

@@ -3,6 +3,7 @@
 //! labels; folded instructions are laid out after their operands.
 #![tactic(auto)]
 
+pub mod branches;
 mod floats;
 pub mod laws;
 pub mod machine;
@@ -11,3 +12,5 @@ pub mod names;
 pub mod pieces;
 pub mod reading;
 pub mod table;
+pub mod types;
+mod uses;

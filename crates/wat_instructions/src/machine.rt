@@ -9,6 +9,7 @@ ghost use Rattle.std.specs.Prelude.{◌≡◌, ◌∷◌, map, Ok, Err, MatchRes
 
 use crate::pieces::{Argument, Fault, FaultKind, Frame, Instruction, Name, Piece, Refusal};
 use crate::reading::{self, Scope};
+use crate::uses;
 use std::alloc::Global;
 
 /// The first byte of `if`.
@@ -37,7 +38,7 @@ pub fn instructions<'p, 'a>(
     let mut out = Vec::new(alloc);
     let mut frames = Vec::new(alloc);
     frames.push(Frame::Body)?;
-    match steps(scope, &mut frames, &mut out, pieces) {
+    match steps(alloc, scope, &mut frames, &mut out, pieces) {
         Ok(rest) => Ok((out, rest)),
         Err(refusal) => Err(refusal),
     }
@@ -45,6 +46,7 @@ pub fn instructions<'p, 'a>(
 
 /// The same, until nothing is open. In a loop: no depth of the text is a depth of the stack.
 fn steps<'p, 'a>(
+    alloc: Global,
     scope: &Scope<'_, 'p>,
     frames: &mut Vec<Frame<'p>>,
     out: &mut Vec<Instruction>,
@@ -57,7 +59,7 @@ fn steps<'p, 'a>(
     let mut left = Left { pieces };
     'open: loop {
         match frames.pop() {
-            Some(frame) => match step_on(scope, frame, frames, out, left) {
+            Some(frame) => match step_on(alloc, scope, frame, frames, out, left) {
                 Ok(next) => {
                     left = next;
                 }
@@ -76,6 +78,7 @@ struct Left<'p, 'a> {
 
 /// A step.
 fn step_on<'p, 'a>(
+    alloc: Global,
     scope: &Scope<'_, 'p>,
     frame: Frame<'p>,
     frames: &mut Vec<Frame<'p>>,
@@ -86,7 +89,7 @@ fn step_on<'p, 'a>(
         (λ r. Stepped (spec.step (scope_of scope.now) (part frame.entry) (stack frames.old.items) (map terminal left.entry.pieces.now)) out.old.items out.new.items (stack frames.new.items) (map terminal r.pieces.now))
         (λ e. Faults (spec.step (scope_of scope.now) (part frame.entry) (stack frames.old.items) (map terminal left.entry.pieces.now)) e) }
 {
-    match step(scope, frame, frames, out, left.pieces) {
+    match step(alloc, scope, frame, frames, out, left.pieces) {
         Ok(pieces) => Ok(Left { pieces }),
         Err(refusal) => Err(refusal),
     }
@@ -95,6 +98,7 @@ fn step_on<'p, 'a>(
 /// One step: what comes next in what is open, or what closes it. It takes a token.
 #[tactic(auto, unfolding(crate::specs::Machine::step))]
 fn step<'p, 'a>(
+    alloc: Global,
     scope: &Scope<'_, 'p>,
     frame: Frame<'p>,
     frames: &mut Vec<Frame<'p>>,
@@ -106,9 +110,11 @@ fn step<'p, 'a>(
         (λ e. Faults (spec.step (scope_of scope.now) (part frame.entry) (stack frames.old.items) (map terminal pieces.now)) e) }
 {
     match pieces {
-        [Piece::Open, rest @ ..] => folded(scope, frame, frames, out, rest),
+        [Piece::Open, rest @ ..] => folded(alloc, scope, frame, frames, out, rest),
         [Piece::Close, rest @ ..] => closed(frame, frames, out, pieces, rest),
-        [Piece::Word(word), rest @ ..] => at_word(scope, frame, frames, out, word, pieces, rest),
+        [Piece::Word(word), rest @ ..] => at_word(
+            alloc, scope, frame, frames, out, word, pieces, rest,
+        ),
         [
             Piece::Id(_)
             | Piece::Integer(_, _)
@@ -295,6 +301,7 @@ fn turned<'p, 'a>(
 
 /// After `(`, in a part.
 fn folded<'p, 'a>(
+    alloc: Global,
     scope: &Scope<'_, 'p>,
     frame: Frame<'p>,
     frames: &mut Vec<Frame<'p>>,
@@ -307,7 +314,7 @@ fn folded<'p, 'a>(
 {
     match pieces {
         [Piece::Word(word), rest @ ..] => folded_word(
-            scope, frame, frames, out, word, pieces, rest,
+            alloc, scope, frame, frames, out, word, pieces, rest,
         ),
         [
             Piece::Open
@@ -332,6 +339,7 @@ fn folded<'p, 'a>(
 /// At a word after `(`: `then`, or a folded instruction.
 #[tactic(auto, using(crate::proofs::Stacks::stack_push))]
 fn folded_word<'p, 'a>(
+    alloc: Global,
     scope: &Scope<'_, 'p>,
     frame: Frame<'p>,
     frames: &mut Vec<Frame<'p>>,
@@ -351,8 +359,8 @@ fn folded_word<'p, 'a>(
                 out.push(instruction)?;
                 return Ok(rest);
             }
-            frames.push(frame)?;
-            folded_instruction(scope, frames, out, word, pieces, rest)
+            frames.push(Frame::Condition(instruction, label))?;
+            folded_instruction(alloc, scope, frames, out, word, pieces, rest)
         }
         Frame::Body
         | Frame::Block(_, _)
@@ -361,7 +369,7 @@ fn folded_word<'p, 'a>(
         | Frame::Then(_)
         | Frame::Else(_) => {
             frames.push(frame)?;
-            folded_instruction(scope, frames, out, word, pieces, rest)
+            folded_instruction(alloc, scope, frames, out, word, pieces, rest)
         }
     }
 }
@@ -369,6 +377,7 @@ fn folded_word<'p, 'a>(
 /// A folded instruction, which begins with a word.
 #[tactic(auto, using(crate::proofs::Stacks::stack_push))]
 fn folded_instruction<'p, 'a>(
+    alloc: Global,
     scope: &Scope<'_, 'p>,
     frames: &mut Vec<Frame<'p>>,
     out: &mut Vec<Instruction>,
@@ -381,9 +390,9 @@ fn folded_instruction<'p, 'a>(
         (λ e. Faults (spec.open_by (scope_of scope.now) (structured word.now) (map terminal pieces.now) (map terminal rest.now) (stack frames.old.items)) e) }
 {
     match reading::structured(word) {
-        Some(opcode) => folded_block(frames, out, opcode, rest),
+        Some(opcode) => folded_block(alloc, scope, frames, out, opcode, rest),
         None => {
-            let (instruction, rest) = reading::plain(scope, frames, pieces)?;
+            let (instruction, rest) = reading::plain(alloc, scope, frames, pieces)?;
             frames.push(Frame::Operands(instruction))?;
             Ok(rest)
         }
@@ -393,17 +402,19 @@ fn folded_instruction<'p, 'a>(
 /// A folded block, after its word.
 #[tactic(auto, using(crate::proofs::Stacks::stack_push))]
 fn folded_block<'p, 'a>(
+    alloc: Global,
+    scope: &Scope<'_, 'p>,
     frames: &mut Vec<Frame<'p>>,
     out: &mut Vec<Instruction>,
     opcode: u8,
     pieces: &'p [Piece<'a>],
 ) -> Result<&'p [Piece<'a>], Refusal<'p, 'a>>
     ensures { MatchResult result
-        (λ r. Stepped (spec.open_block opcode (map terminal pieces.now) (stack frames.old.items)) out.old.items out.new.items (stack frames.new.items) (map terminal r.now))
-        (λ e. Faults (spec.open_block opcode (map terminal pieces.now) (stack frames.old.items)) e) }
+        (λ r. Stepped (spec.open_block (scope_of scope.now) opcode (map terminal pieces.now) (stack frames.old.items)) out.old.items out.new.items (stack frames.new.items) (map terminal r.now))
+        (λ e. Faults (spec.open_block (scope_of scope.now) opcode (map terminal pieces.now) (stack frames.old.items)) e) }
 {
     let (label, rest) = reading::label(pieces);
-    let (argument, rest) = reading::block_type(rest)?;
+    let (argument, rest) = uses::block_type(alloc, scope, rest)?;
     let instruction = Instruction { opcode, argument };
     if opcode == IF {
         frames.push(Frame::Condition(instruction, label))?;
@@ -417,6 +428,7 @@ fn folded_block<'p, 'a>(
 /// At a word: `end`, `else`, or an instruction.
 #[tactic(auto, using(crate::proofs::Stacks::stack_push))]
 fn at_word<'p, 'a>(
+    alloc: Global,
     scope: &Scope<'_, 'p>,
     frame: Frame<'p>,
     frames: &mut Vec<Frame<'p>>,
@@ -450,12 +462,12 @@ fn at_word<'p, 'a>(
                 out.push(ELSE)?;
                 return Ok(rest);
             }
-            frames.push(frame)?;
-            instruction(scope, frames, out, word, pieces, rest)
+            frames.push(Frame::Block(may_turn, label))?;
+            instruction(alloc, scope, frames, out, word, pieces, rest)
         }
         Frame::Body | Frame::Group(_) | Frame::Then(_) | Frame::Else(_) => {
             frames.push(frame)?;
-            instruction(scope, frames, out, word, pieces, rest)
+            instruction(alloc, scope, frames, out, word, pieces, rest)
         }
     }
 }
@@ -463,6 +475,7 @@ fn at_word<'p, 'a>(
 /// An instruction that is not folded, which begins with a word.
 #[tactic(auto, using(crate::proofs::Stacks::stack_push))]
 fn instruction<'p, 'a>(
+    alloc: Global,
     scope: &Scope<'_, 'p>,
     frames: &mut Vec<Frame<'p>>,
     out: &mut Vec<Instruction>,
@@ -477,13 +490,13 @@ fn instruction<'p, 'a>(
     match reading::structured(word) {
         Some(opcode) => {
             let (label, rest) = reading::label(rest);
-            let (argument, rest) = reading::block_type(rest)?;
+            let (argument, rest) = uses::block_type(alloc, scope, rest)?;
             frames.push(Frame::Block(opcode == IF, label))?;
             out.push(Instruction { opcode, argument })?;
             Ok(rest)
         }
         None => {
-            let (instruction, rest) = reading::plain(scope, frames, pieces)?;
+            let (instruction, rest) = reading::plain(alloc, scope, frames, pieces)?;
             out.push(instruction)?;
             Ok(rest)
         }

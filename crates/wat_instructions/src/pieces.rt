@@ -3,6 +3,8 @@ ghost use Rattle.std.specs.Prelude.{◌≡◌};
 ghost use Rattle.wat_instructions.specs.Grammar.{is_name};
 ghost use Rattle.wat_instructions.specs.Terminals.{label};
 
+use crate::branches::BranchTable;
+use crate::types::{BoxedUse, IndirectCall};
 use std::alloc::{AllocError, AllocFailed};
 
 /// The sign that an integer begins with.
@@ -60,18 +62,25 @@ pub enum ValueType {
     F64,
 }
 
-/// The immediate of an instruction.
-#[derive(Clone, Copy)]
+/// The immediate of an instruction. What takes more than 8 bytes is boxed: a text has millions of
+/// instructions, of which few have that.
+#[derive(Drop)]
 pub enum Argument {
     Nothing,
     Index(usize),
+    /// The labels of `br_table`.
+    Labels(BranchTable),
     I32(i32),
     I64(i64),
     /// The bits of a float.
     F32(u32),
     F64(u64),
+    /// A table and a type.
+    Indirect(IndirectCall),
     /// The type of a block: one result, or none.
     Block(Option<ValueType>),
+    /// The type of a block by a type use.
+    BlockUse(BoxedUse),
     /// A memory argument: the exponent of its alignment, and its offset.
     Memory(u8, u32),
     /// A byte 0.
@@ -79,7 +88,7 @@ pub enum Argument {
 }
 
 /// An instruction of the binary format, where `end` and `else` are two.
-#[derive(Clone, Copy)]
+#[derive(Drop)]
 pub struct Instruction {
     pub opcode: u8,
     pub argument: Argument,
@@ -88,7 +97,7 @@ pub struct Instruction {
 /// What is open: the body; `block .. end`, and whether `else` may come in it; `(block ..)`; an
 /// instruction that waits for its operands; an `if` that waits for its condition; and its two parts
 /// in parentheses.
-#[derive(Clone, Copy)]
+#[derive(Drop)]
 pub enum Frame<'p> {
     Body,
     Block(bool, Name<'p>),

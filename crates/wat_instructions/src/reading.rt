@@ -1,18 +1,26 @@
 //! Plain instructions and their immediates, names and labels.
-ghost use Rattle.std.specs.Prelude.{◌≡◌, ◌<◌, ◌^◌, [], ◌∷◌, IfSome, None, Ok, Err, Some, length, map, MatchOption, MatchResult};
-ghost use Rattle.wat_instructions.specs.Grammar.{after_empty, block_type, close_type, closed, end_label, i32, i64, immediate_of, index, is_else, is_end, is_then, label_of, one_type, plain, position, result_type, signed, structured, type_by, value_type, with_index};
+ghost use Rattle.std.specs.Prelude.{◌≡◌, ◌<◌, ◌^◌, ◌++◌, ℕ, [], ◌∷◌, IfOk, IfSome, None, Ok, Err, Some, length, map, MatchOption, MatchResult};
+ghost use Rattle.wat_instructions.specs.Grammar.{before_labels, end_label, i32, i64, immediate_of, index, is_else, is_end, is_then, label_of, labels_by, labels_from, plain, position, signed, structured, value_type, with_index, with_labels};
 ghost use Rattle.wat_instructions.specs.Machine.{bound, labels_in};
-ghost use Rattle.wat_instructions.specs.Parts.{fault_of, part, scope_of, stack};
+ghost use Rattle.wat_instructions.specs.Branches.{branches};
+ghost use Rattle.wat_instructions.specs.Parts.{Faults, IsLabel, IsMemory, NoLabel, fault_of, part, scope_of, stack};
 ghost use Rattle.wat_instructions.specs.Terminals.{Open, Word, label, terminal};
 
+use crate::branches::BranchTable;
 use crate::names::IndexedNames;
-use crate::pieces::{Argument, Fault, FaultKind, Frame, Instruction, Name, Piece, Sign, ValueType};
+use crate::pieces::{
+    Argument, Fault, FaultKind, Frame, Instruction, Name, Piece, Refusal, Sign, ValueType,
+};
 use crate::table::{self, Immediate};
-use crate::{floats, memory};
+use crate::types::FunctionType;
+use crate::{floats, memory, uses};
+use std::alloc::Global;
 
-/// The names of the items of five index spaces, each in the order of their indices.
+/// The types, and the names of the items of five index spaces, each in the order of their indices.
 #[derive(Clone, Copy)]
 pub struct Scope<'s, 'n> {
+    pub type_names: &'s IndexedNames<'n>,
+    pub types: &'s [FunctionType],
     pub locals: &'s IndexedNames<'n>,
     pub funcs: &'s IndexedNames<'n>,
     pub tables: &'s IndexedNames<'n>,
@@ -176,6 +184,84 @@ fn label_argument<'p, 'a>(
     Ok((Argument::Index(n), rest))
 }
 
+/// A label of `br_table`, and what comes after it.
+#[derive(Clone, Copy)]
+struct LastLabel<'p, 'a> {
+    label: usize,
+    pieces: &'p [Piece<'a>],
+}
+
+/// The labels of `br_table`, of which the last is the default.
+fn labels_argument<'p, 'a>(
+    alloc: Global,
+    frames: &[Frame<'_>],
+    pieces: &'p [Piece<'a>],
+) -> Result<(Argument, &'p [Piece<'a>]), Refusal<'p, 'a>>
+    ensures { MatchResult result
+        (λ r. labels_by (labels_in (stack frames.now)) (index (labels_in (stack frames.now)) (map terminal pieces.now)) ≡ Ok (r.0, map terminal r.1.now))
+        (λ e. Faults (labels_by (labels_in (stack frames.now)) (index (labels_in (stack frames.now)) (map terminal pieces.now))) e) }
+{
+    let (label, pieces) = label_number(frames, pieces)?;
+    let mut labels = Vec::new(alloc);
+    let mut last = LastLabel { label, pieces };
+    'labels: loop {
+        match next_label(frames, &mut labels, last) {
+            Ok(Some(next)) => {
+                last = next;
+            }
+            Ok(None) => return branch_table(alloc, labels, last),
+            Err(refusal) => return Err(refusal),
+        }
+    }
+}
+
+/// These labels, of which the last is the default.
+fn branch_table<'p, 'a>(
+    alloc: Global,
+    labels: Vec<usize>,
+    last: LastLabel<'p, 'a>,
+) -> Result<(Argument, &'p [Piece<'a>]), Refusal<'p, 'a>>
+    ensures { MatchResult result
+        (λ r. with_labels (Ok (branches labels.items last.entry.label, map terminal last.entry.pieces.now)) ≡ Ok (r.0, map terminal r.1.now))
+        IsMemory }
+{
+    let table = BranchTable::new(alloc, labels, last.label)?;
+    Ok((Argument::Labels(table), last.pieces))
+}
+
+/// The label after one, which is appended to others where there is another.
+#[tactic(auto, unfolding(crate::specs::Grammar::labels_from))]
+fn next_label<'p, 'a>(
+    frames: &[Frame<'_>],
+    labels: &mut Vec<usize>,
+    last: LastLabel<'p, 'a>,
+) -> Result<Option<LastLabel<'p, 'a>>, Refusal<'p, 'a>>
+    ensures is { MatchResult result
+        (λ o. MatchOption o
+        (NoLabel (labels_in (stack frames.now)) last.entry.label (map terminal last.entry.pieces.now) labels.old.items labels.new.items)
+        (λ l. IsLabel (labels_in (stack frames.now)) last.entry.label (map terminal last.entry.pieces.now) labels.old.items labels.new.items l.label (map terminal l.pieces.now)))
+        (λ e. Faults (labels_from (labels_in (stack frames.now)) last.entry.label (map terminal last.entry.pieces.now)) e) }
+    ensures shorter { IfOk result (λ o. IfSome o (λ l. length l.pieces.now < length last.entry.pieces.now)) }
+{
+    match last.pieces {
+        [Piece::Integer(_, _) | Piece::Id(_), ..] => {
+            let (label, pieces) = label_number(frames, last.pieces)?;
+            labels.push(last.label)?;
+            Ok(Some(LastLabel { label, pieces }))
+        }
+        [
+            Piece::Open
+            | Piece::Close
+            | Piece::Word(_)
+            | Piece::Text(_)
+            | Piece::Float(_, _)
+            | Piece::Other,
+            ..
+        ] => Ok(None),
+        [] => Ok(None),
+    }
+}
+
 /// The number of 32 bits that an integer denotes, as one with a sign.
 fn signed_32(sign: Sign, size: u64) -> Option<i32>
     ensures { result ≡ signed (2 ^ 31) sign size }
@@ -306,25 +392,28 @@ fn number_64<'p, 'a>(pieces: &'p [Piece<'a>]) -> Result<(Argument, &'p [Piece<'a
 
 /// The immediate of a kind.
 fn immediate<'p, 'a>(
+    alloc: Global,
     scope: &Scope<'_, '_>,
     frames: &[Frame<'_>],
     kind: Immediate,
     pieces: &'p [Piece<'a>],
-) -> Result<(Argument, &'p [Piece<'a>]), Fault<'p, 'a>>
+) -> Result<(Argument, &'p [Piece<'a>]), Refusal<'p, 'a>>
     ensures { MatchResult result
         (λ r. immediate_of (scope_of scope.now) (labels_in (stack frames.now)) kind (map terminal pieces.now) ≡ Ok (r.0, map terminal r.1.now))
-        (λ f. immediate_of (scope_of scope.now) (labels_in (stack frames.now)) kind (map terminal pieces.now) ≡ Err (fault_of f)) }
+        (λ e. Faults (immediate_of (scope_of scope.now) (labels_in (stack frames.now)) kind (map terminal pieces.now)) e) }
 {
     match kind {
         Immediate::No => Ok((Argument::Nothing, pieces)),
-        Immediate::Local => name_argument(scope.locals, pieces),
-        Immediate::Label => label_argument(frames, pieces),
-        Immediate::Func => name_argument(scope.funcs, pieces),
-        Immediate::Global => name_argument(scope.globals, pieces),
-        Immediate::I32 => number_32(pieces),
-        Immediate::I64 => number_64(pieces),
-        Immediate::F32 => floats::float_32(pieces),
-        Immediate::F64 => floats::float_64(pieces),
+        Immediate::Local => Ok(name_argument(scope.locals, pieces)?),
+        Immediate::Label => Ok(label_argument(frames, pieces)?),
+        Immediate::Labels => labels_argument(alloc, frames, pieces),
+        Immediate::Func => Ok(name_argument(scope.funcs, pieces)?),
+        Immediate::Indirect => uses::indirect_call(alloc, scope, pieces),
+        Immediate::Global => Ok(name_argument(scope.globals, pieces)?),
+        Immediate::I32 => Ok(number_32(pieces)?),
+        Immediate::I64 => Ok(number_64(pieces)?),
+        Immediate::F32 => Ok(floats::float_32(pieces)?),
+        Immediate::F64 => Ok(floats::float_64(pieces)?),
         Immediate::Memory(natural) => Ok(memory::argument(natural, pieces)),
         Immediate::Zero => Ok((Argument::Zero, pieces)),
     }
@@ -333,25 +422,26 @@ fn immediate<'p, 'a>(
 /// A plain instruction, which begins with its word.
 #[tactic(auto, unfolding(crate::specs::Grammar::plain))]
 pub fn plain<'p, 'a>(
+    alloc: Global,
     scope: &Scope<'_, '_>,
     frames: &[Frame<'_>],
     pieces: &'p [Piece<'a>],
-) -> Result<(Instruction, &'p [Piece<'a>]), Fault<'p, 'a>>
+) -> Result<(Instruction, &'p [Piece<'a>]), Refusal<'p, 'a>>
     ensures { MatchResult result
         (λ r. plain (scope_of scope.now) (labels_in (stack frames.now)) (map terminal pieces.now) ≡ Ok (r.0, map terminal r.1.now))
-        (λ f. plain (scope_of scope.now) (labels_in (stack frames.now)) (map terminal pieces.now) ≡ Err (fault_of f)) }
+        (λ e. Faults (plain (scope_of scope.now) (labels_in (stack frames.now)) (map terminal pieces.now)) e) }
 {
     match pieces {
         [Piece::Word(word), rest @ ..] => match table::find(word) {
             Some(row) => {
-                let (argument, rest) = immediate(scope, frames, row.immediate, rest)?;
+                let (argument, rest) = immediate(alloc, scope, frames, row.immediate, rest)?;
                 let opcode = row.opcode;
                 Ok((Instruction { opcode, argument }, rest))
             }
-            None => Err(Fault {
+            None => Err(Refusal::Text(Fault {
                 kind: FaultKind::UnknownWord,
                 left: pieces,
-            }),
+            })),
         },
         [
             Piece::Open
@@ -362,14 +452,14 @@ pub fn plain<'p, 'a>(
             | Piece::Float(_, _)
             | Piece::Other,
             ..
-        ] => Err(Fault {
+        ] => Err(Refusal::Text(Fault {
             kind: FaultKind::Unexpected,
             left: pieces,
-        }),
-        [] => Err(Fault {
+        })),
+        [] => Err(Refusal::Text(Fault {
             kind: FaultKind::Unexpected,
             left: pieces,
-        }),
+        })),
     }
 }
 
@@ -478,255 +568,5 @@ pub fn value_type(word: &str) -> Option<ValueType>
         Some(ValueType::F64)
     } else {
         None
-    }
-}
-
-/// What is left to read.
-#[derive(Clone, Copy)]
-struct Left<'p, 'a> {
-    pieces: &'p [Piece<'a>],
-}
-
-/// What comes after the groups of a word that list nothing.
-#[tactic(auto, unfolding(crate::specs::Grammar::after_empty))]
-fn after_empty<'p, 'a>(word: &str, pieces: &'p [Piece<'a>]) -> &'p [Piece<'a>]
-    ensures { map terminal result.now ≡ after_empty word.now (map terminal pieces.now) }
-{
-    let mut left = Left { pieces };
-    'groups: loop {
-        match next_empty(word, left) {
-            Some(next) => {
-                left = next;
-            }
-            None => return left.pieces,
-        }
-    }
-}
-
-/// What comes after one such group, where there is one.
-fn next_empty<'p, 'a>(word: &str, left: Left<'p, 'a>) -> Option<Left<'p, 'a>>
-    ensures is { MatchOption result
-        (after_empty word.now (map terminal left.entry.pieces.now) ≡ map terminal left.entry.pieces.now)
-        (λ l. after_empty word.now (map terminal left.entry.pieces.now) ≡ after_empty word.now (map terminal l.pieces.now)) }
-    ensures shorter { IfSome result (λ l. length l.pieces.now < length left.entry.pieces.now) }
-{
-    match empty_group(word, left.pieces) {
-        Some(pieces) => Some(Left { pieces }),
-        None => None,
-    }
-}
-
-/// The same of tokens.
-#[tactic(auto, unfolding(crate::specs::Grammar::after_empty))]
-fn empty_group<'p, 'a>(word: &str, pieces: &'p [Piece<'a>]) -> Option<&'p [Piece<'a>]>
-    ensures is { MatchOption result
-        (after_empty word.now (map terminal pieces.now) ≡ map terminal pieces.now)
-        (λ r. after_empty word.now (map terminal pieces.now) ≡ after_empty word.now (map terminal r.now)) }
-    ensures shorter { IfSome result (λ r. length r.now < length pieces.now) }
-{
-    match pieces {
-        [Piece::Open, rest @ ..] => empty_word(word, rest),
-        [
-            Piece::Close
-            | Piece::Word(_)
-            | Piece::Id(_)
-            | Piece::Integer(_, _)
-            | Piece::Text(_)
-            | Piece::Float(_, _)
-            | Piece::Other,
-            ..
-        ] => None,
-        [] => None,
-    }
-}
-
-/// The same after `(`.
-#[tactic(auto, unfolding(crate::specs::Grammar::after_empty))]
-fn empty_word<'p, 'a>(word: &str, pieces: &'p [Piece<'a>]) -> Option<&'p [Piece<'a>]>
-    ensures is { MatchOption result
-        (after_empty word.now (Open ∷ map terminal pieces.now) ≡ Open ∷ map terminal pieces.now)
-        (λ r. after_empty word.now (Open ∷ map terminal pieces.now) ≡ after_empty word.now (map terminal r.now)) }
-    ensures shorter { IfSome result (λ r. length r.now < length pieces.now) }
-{
-    match pieces {
-        [Piece::Word(given), rest @ ..] => empty_rest(word, *given, rest),
-        [
-            Piece::Open
-            | Piece::Close
-            | Piece::Id(_)
-            | Piece::Integer(_, _)
-            | Piece::Text(_)
-            | Piece::Float(_, _)
-            | Piece::Other,
-            ..
-        ] => None,
-        [] => None,
-    }
-}
-
-/// The same after `(` and the word that is given.
-#[tactic(auto, using(crate::proofs::Opens::one_empty, crate::proofs::Opens::other_word, crate::proofs::Opens::not_closed))]
-fn empty_rest<'p, 'a>(word: &str, given: &str, pieces: &'p [Piece<'a>]) -> Option<&'p [Piece<'a>]>
-    ensures is { MatchOption result
-        (after_empty word.now (Open ∷ Word given.now ∷ map terminal pieces.now) ≡ Open ∷ Word given.now ∷ map terminal pieces.now)
-        (λ r. after_empty word.now (Open ∷ Word given.now ∷ map terminal pieces.now) ≡ after_empty word.now (map terminal r.now)) }
-    ensures shorter { IfSome result (λ r. length r.now < length pieces.now) }
-{
-    match after_close(pieces) {
-        Some(rest) => { if given == word { Some(rest) } else { None } }
-        None => None,
-    }
-}
-
-/// What comes after `)`, where the tokens begin with it.
-fn after_close<'p, 'a>(pieces: &'p [Piece<'a>]) -> Option<&'p [Piece<'a>]>
-    ensures is { MatchOption result (closed (map terminal pieces.now) ≡ None) (λ r. closed (map terminal pieces.now) ≡ Some (map terminal r.now)) }
-    ensures shorter { IfSome result (λ r. length r.now < length pieces.now) }
-{
-    match pieces {
-        [Piece::Close, rest @ ..] => Some(rest),
-        [
-            Piece::Open
-            | Piece::Word(_)
-            | Piece::Id(_)
-            | Piece::Integer(_, _)
-            | Piece::Text(_)
-            | Piece::Float(_, _)
-            | Piece::Other,
-            ..
-        ] => None,
-        [] => None,
-    }
-}
-
-/// The type of a block: one result, or none, among groups that list nothing.
-pub fn block_type<'p, 'a>(
-    pieces: &'p [Piece<'a>],
-) -> Result<(Argument, &'p [Piece<'a>]), Fault<'p, 'a>>
-    ensures { MatchResult result
-        (λ r. block_type (map terminal pieces.now) ≡ Ok (r.0, map terminal r.1.now))
-        (λ f. block_type (map terminal pieces.now) ≡ Err (fault_of f)) }
-{
-    result_type(after_empty("result", after_empty("param", pieces)))
-}
-
-/// The same after the first groups that list nothing.
-#[tactic(auto, unfolding(crate::specs::Grammar::result_type))]
-fn result_type<'p, 'a>(
-    pieces: &'p [Piece<'a>],
-) -> Result<(Argument, &'p [Piece<'a>]), Fault<'p, 'a>>
-    ensures { MatchResult result
-        (λ r. result_type (map terminal pieces.now) ≡ Ok (r.0, map terminal r.1.now))
-        (λ f. result_type (map terminal pieces.now) ≡ Err (fault_of f)) }
-{
-    match pieces {
-        [Piece::Open, rest @ ..] => type_after(rest, pieces),
-        [
-            Piece::Close
-            | Piece::Word(_)
-            | Piece::Id(_)
-            | Piece::Integer(_, _)
-            | Piece::Text(_)
-            | Piece::Float(_, _)
-            | Piece::Other,
-            ..
-        ] => Ok((Argument::Block(None), pieces)),
-        [] => Ok((Argument::Block(None), pieces)),
-    }
-}
-
-/// The same after `(`, where these tokens begin with it.
-fn type_after<'p, 'a>(
-    pieces: &'p [Piece<'a>],
-    all: &'p [Piece<'a>],
-) -> Result<(Argument, &'p [Piece<'a>]), Fault<'p, 'a>>
-    ensures { MatchResult result
-        (λ r. type_by (map terminal pieces.now) (map terminal all.now) ≡ Ok (r.0, map terminal r.1.now))
-        (λ f. type_by (map terminal pieces.now) (map terminal all.now) ≡ Err (fault_of f)) }
-{
-    match pieces {
-        [Piece::Word(word), rest @ ..] => {
-            if *word == "result" {
-                one_type(rest)
-            } else {
-                Ok((Argument::Block(None), all))
-            }
-        }
-        [
-            Piece::Open
-            | Piece::Close
-            | Piece::Id(_)
-            | Piece::Integer(_, _)
-            | Piece::Text(_)
-            | Piece::Float(_, _)
-            | Piece::Other,
-            ..
-        ] => Ok((Argument::Block(None), all)),
-        [] => Ok((Argument::Block(None), all)),
-    }
-}
-
-/// One value type and `)`.
-fn one_type<'p, 'a>(pieces: &'p [Piece<'a>]) -> Result<(Argument, &'p [Piece<'a>]), Fault<'p, 'a>>
-    ensures { MatchResult result
-        (λ r. one_type (map terminal pieces.now) ≡ Ok (r.0, map terminal r.1.now))
-        (λ f. one_type (map terminal pieces.now) ≡ Err (fault_of f)) }
-{
-    match pieces {
-        [Piece::Word(word), rest @ ..] => match value_type(word) {
-            Some(of) => close_type(of, rest),
-            None => Err(Fault {
-                kind: FaultKind::UnknownWord,
-                left: pieces,
-            }),
-        },
-        [
-            Piece::Open
-            | Piece::Close
-            | Piece::Id(_)
-            | Piece::Integer(_, _)
-            | Piece::Text(_)
-            | Piece::Float(_, _)
-            | Piece::Other,
-            ..
-        ] => Err(Fault {
-            kind: FaultKind::Unexpected,
-            left: pieces,
-        }),
-        [] => Err(Fault {
-            kind: FaultKind::Unexpected,
-            left: pieces,
-        }),
-    }
-}
-
-/// `)` after a value type.
-fn close_type<'p, 'a>(
-    of: ValueType,
-    pieces: &'p [Piece<'a>],
-) -> Result<(Argument, &'p [Piece<'a>]), Fault<'p, 'a>>
-    ensures { MatchResult result
-        (λ r. close_type of (map terminal pieces.now) ≡ Ok (r.0, map terminal r.1.now))
-        (λ f. close_type of (map terminal pieces.now) ≡ Err (fault_of f)) }
-{
-    match pieces {
-        [Piece::Close, rest @ ..] => Ok((Argument::Block(Some(of)), after_empty("result", rest))),
-        [
-            Piece::Open
-            | Piece::Word(_)
-            | Piece::Id(_)
-            | Piece::Integer(_, _)
-            | Piece::Text(_)
-            | Piece::Float(_, _)
-            | Piece::Other,
-            ..
-        ] => Err(Fault {
-            kind: FaultKind::Unexpected,
-            left: pieces,
-        }),
-        [] => Err(Fault {
-            kind: FaultKind::Unexpected,
-            left: pieces,
-        }),
     }
 }

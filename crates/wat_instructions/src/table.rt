@@ -8,7 +8,11 @@ pub enum Immediate {
     No,
     Local,
     Label,
+    /// The labels of `br_table`, the last of which is the default.
+    Labels,
     Func,
+    /// The table and the type of `call_indirect`.
+    Indirect,
     Global,
     I32,
     I64,
@@ -38,13 +42,15 @@ macro_rules! row {
     };
 }
 
-const LOW: [Row; 101] = [
+const LOW: [Row; 103] = [
     row!("unreachable", 0x00, Immediate::No),
     row!("nop", 0x01, Immediate::No),
     row!("br", 0x0C, Immediate::Label),
     row!("br_if", 0x0D, Immediate::Label),
+    row!("br_table", 0x0E, Immediate::Labels),
     row!("return", 0x0F, Immediate::No),
     row!("call", 0x10, Immediate::Func),
+    row!("call_indirect", 0x11, Immediate::Indirect),
     row!("drop", 0x1A, Immediate::No),
     row!("select", 0x1B, Immediate::No),
     row!("local.get", 0x20, Immediate::Local),

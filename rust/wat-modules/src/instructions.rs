@@ -3,6 +3,7 @@
 //! binary format has them. Plain instructions come from a table; `block`, `loop` and `if` bind
 //! labels; folded instructions are laid out after their operands.
 use wat_lex::shim::prelude::*;
+pub mod branches;
 mod floats;
 pub mod laws;
 pub mod machine;
@@ -11,3 +12,5 @@ pub mod names;
 pub mod pieces;
 pub mod reading;
 pub mod table;
+pub mod types;
+mod uses;

@@ -12,18 +12,13 @@ use crate::instructions::machine;
 use crate::instructions::names::IndexedNames;
 use crate::instructions::pieces::{Fault, FaultKind, Instruction, Name, Piece, Refusal, ValueType};
 use crate::instructions::reading::{self, Scope};
+use crate::instructions::types::FunctionType;
 
 /// A parameter, a result or a local variable.
 #[derive(Clone, Copy)]
 pub struct Variable<'p> {
     pub name: Name<'p>,
     pub of: ValueType,
-}
-
-/// A function type.
-pub struct FunctionType {
-    pub params: Vec<ValueType>,
-    pub results: Vec<ValueType>,
 }
 
 /// A type that a field defines.
@@ -1103,6 +1098,8 @@ fn start_at<'p, 'a>(
 /// ```
 fn scope<'s, 'n>(names: &'s Names<'n>, locals: &'s IndexedNames<'n>) -> Scope<'s, 'n> {
     Scope {
+        type_names: &names.type_names,
+        types: &names.types,
         locals,
         funcs: &names.funcs,
         tables: &names.tables,

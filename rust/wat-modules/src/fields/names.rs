@@ -2,13 +2,14 @@
 //! The items that fields define, before the fields are read; and whether names are distinct.
 
 use wat_lex::shim::prelude::*;
-use crate::fields::fields::{Definition, FunctionType, IndexSpace, Left, Variable};
+use crate::fields::fields::{Definition, IndexSpace, Left, Variable};
 use crate::fields::types::space_of;
 use crate::fields::uses::type_at;
 use wat_lex::shim::alloc::{AllocError, Global};
 use crate::instructions::names::IndexedNames;
 use crate::instructions::pieces::{Name, Piece, Refusal};
 use crate::instructions::reading::label;
+use crate::instructions::types::FunctionType;
 
 /// Where a token is: before a `(` of a field, and in a field, in so many groups more.
 #[derive(Clone, Copy)]
@@ -40,9 +41,9 @@ pub(crate) struct Names<'p> {
 /// # Proved
 ///
 /// ```text
-/// ensures context { IfOk result (λ found. IfSome found (λ names. context_of names ≡ grammar.context_of (flat_map reading.binding_at (reading.starts reading.Before [] (map terminal pieces.now))))) }
+/// ensures context { IfOk result (λ found. IfSome found (λ names. context_of names ≡ grammar.context_of (grammar.types_in (flat_map reading.definition_at (reading.starts reading.Before [] (map terminal pieces.now)))) (flat_map reading.binding_at (reading.starts reading.Before [] (map terminal pieces.now))))) }
 /// ensures types { IfOk result (λ found. IfSome found (λ names. types_of names ≡ grammar.types_in (flat_map reading.definition_at (reading.starts reading.Before [] (map terminal pieces.now))))) }
-/// ensures distinct { IfOk result (λ found. is_some found ≡ all_distinct (grammar.types_in (flat_map reading.definition_at (reading.starts reading.Before [] (map terminal pieces.now)))) (grammar.context_of (flat_map reading.binding_at (reading.starts reading.Before [] (map terminal pieces.now))))) }
+/// ensures distinct { IfOk result (λ found. is_some found ≡ all_distinct (grammar.types_in (flat_map reading.definition_at (reading.starts reading.Before [] (map terminal pieces.now)))) (grammar.context_of (grammar.types_in (flat_map reading.definition_at (reading.starts reading.Before [] (map terminal pieces.now)))) (flat_map reading.binding_at (reading.starts reading.Before [] (map terminal pieces.now))))) }
 /// ```
 pub(crate) fn names_of<'p, 'a>(
     alloc: Global,

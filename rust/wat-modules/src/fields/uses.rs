@@ -2,29 +2,14 @@
 //! Function types, and their uses.
 
 use wat_lex::shim::prelude::*;
-use crate::fields::fields::{Definition, FunctionType, TypeUse, Variable};
+use crate::fields::fields::{Definition, TypeUse, Variable};
 use crate::fields::header::{after, closed, unnamed, variables};
 use crate::fields::names::Names;
 use crate::fields::types::twice_closed;
 use wat_lex::shim::alloc::{AllocError, Global};
 use crate::instructions::pieces::{Fault, FaultKind, Name, Piece, Refusal, ValueType};
 use crate::instructions::reading;
-
-/// The byte of a number type.
-///
-/// # Proved
-///
-/// ```text
-/// ensures { result ≡ binary.type_byte of }
-/// ```
-pub(crate) fn type_byte(of: ValueType) -> u8 {
-    match of {
-        ValueType::I32 => 0x7F,
-        ValueType::I64 => 0x7E,
-        ValueType::F32 => 0x7D,
-        ValueType::F64 => 0x7C,
-    }
-}
+use crate::instructions::types::{FunctionType, same_type};
 
 /// The types of variables.
 ///
@@ -56,36 +41,6 @@ pub(crate) fn function_type(
     let params = value_types(alloc, params)?;
     let results = value_types(alloc, results)?;
     Ok(FunctionType { params, results })
-}
-
-/// Whether these are the same value types.
-///
-/// # Proved
-///
-/// ```text
-/// ensures { result ≡ binary.same_values some.now others.now }
-/// ```
-fn same_values(some: &[ValueType], others: &[ValueType]) -> bool {
-    if some.len() != others.len() {
-        return false;
-    }
-    for (i, of) in some.iter().enumerate() {
-        if type_byte(*of) != type_byte(others[i]) {
-            return false;
-        }
-    }
-    true
-}
-
-/// Whether these are the same function types.
-///
-/// # Proved
-///
-/// ```text
-/// ensures { result ≡ binary.same_type (type_of of.now) (type_of other.now) }
-/// ```
-pub(crate) fn same_type(of: &FunctionType, other: &FunctionType) -> bool {
-    same_values(&of.params, &other.params) && same_values(&of.results, &other.results)
 }
 
 /// A type use.

@@ -6,6 +6,7 @@ use crate::instructions::pieces::{
     Argument, Fault, FaultKind, Frame, Instruction, Name, Piece, Refusal,
 };
 use crate::instructions::reading::{self, Scope};
+use crate::instructions::uses;
 use wat_lex::shim::alloc::Global;
 
 /// The first byte of `if`.
@@ -38,7 +39,7 @@ pub fn instructions<'p, 'a>(
     let mut out = Vec::new(alloc);
     let mut frames = Vec::new(alloc);
     frames.push(Frame::Body)?;
-    match steps(scope, &mut frames, &mut out, pieces) {
+    match steps(alloc, scope, &mut frames, &mut out, pieces) {
         Ok(rest) => Ok((out, rest)),
         Err(refusal) => Err(refusal),
     }
@@ -54,6 +55,7 @@ pub fn instructions<'p, 'a>(
 /// (λ e. RunsInto (scope_of scope.now) (stack frames.old.items) (map terminal pieces.now) e) }
 /// ```
 fn steps<'p, 'a>(
+    alloc: Global,
     scope: &Scope<'_, 'p>,
     frames: &mut Vec<Frame<'p>>,
     out: &mut Vec<Instruction>,
@@ -62,7 +64,7 @@ fn steps<'p, 'a>(
     let mut left = Left { pieces };
     'open: loop {
         match frames.pop() {
-            Some(frame) => match step_on(scope, frame, frames, out, left) {
+            Some(frame) => match step_on(alloc, scope, frame, frames, out, left) {
                 Ok(next) => {
                     left = next;
                 }
@@ -89,13 +91,14 @@ struct Left<'p, 'a> {
 /// (λ e. Faults (spec.step (scope_of scope.now) (part frame.entry) (stack frames.old.items) (map terminal left.entry.pieces.now)) e) }
 /// ```
 fn step_on<'p, 'a>(
+    alloc: Global,
     scope: &Scope<'_, 'p>,
     frame: Frame<'p>,
     frames: &mut Vec<Frame<'p>>,
     out: &mut Vec<Instruction>,
     left: Left<'p, 'a>,
 ) -> Result<Left<'p, 'a>, Refusal<'p, 'a>> {
-    match step(scope, frame, frames, out, left.pieces) {
+    match step(alloc, scope, frame, frames, out, left.pieces) {
         Ok(pieces) => Ok(Left { pieces }),
         Err(refusal) => Err(refusal),
     }
@@ -111,6 +114,7 @@ fn step_on<'p, 'a>(
 /// (λ e. Faults (spec.step (scope_of scope.now) (part frame.entry) (stack frames.old.items) (map terminal pieces.now)) e) }
 /// ```
 fn step<'p, 'a>(
+    alloc: Global,
     scope: &Scope<'_, 'p>,
     frame: Frame<'p>,
     frames: &mut Vec<Frame<'p>>,
@@ -118,9 +122,11 @@ fn step<'p, 'a>(
     pieces: &'p [Piece<'a>],
 ) -> Result<&'p [Piece<'a>], Refusal<'p, 'a>> {
     match pieces {
-        [Piece::Open, rest @ ..] => folded(scope, frame, frames, out, rest),
+        [Piece::Open, rest @ ..] => folded(alloc, scope, frame, frames, out, rest),
         [Piece::Close, rest @ ..] => closed(frame, frames, out, pieces, rest),
-        [Piece::Word(word), rest @ ..] => at_word(scope, frame, frames, out, word, pieces, rest),
+        [Piece::Word(word), rest @ ..] => {
+            at_word(alloc, scope, frame, frames, out, word, pieces, rest)
+        }
         [
             Piece::Id(_)
             | Piece::Integer(_, _)
@@ -333,6 +339,7 @@ fn turned<'p, 'a>(
 /// (λ e. Faults (spec.open_step (scope_of scope.now) (part frame.entry) (map terminal pieces.now) (stack frames.old.items)) e) }
 /// ```
 fn folded<'p, 'a>(
+    alloc: Global,
     scope: &Scope<'_, 'p>,
     frame: Frame<'p>,
     frames: &mut Vec<Frame<'p>>,
@@ -341,7 +348,7 @@ fn folded<'p, 'a>(
 ) -> Result<&'p [Piece<'a>], Refusal<'p, 'a>> {
     match pieces {
         [Piece::Word(word), rest @ ..] => {
-            folded_word(scope, frame, frames, out, word, pieces, rest)
+            folded_word(alloc, scope, frame, frames, out, word, pieces, rest)
         }
         [
             Piece::Open
@@ -373,6 +380,7 @@ fn folded<'p, 'a>(
 /// (λ e. Faults (spec.folded_by (scope_of scope.now) (part frame.entry) word.now (map terminal pieces.now) (map terminal rest.now) (stack frames.old.items)) e) }
 /// ```
 fn folded_word<'p, 'a>(
+    alloc: Global,
     scope: &Scope<'_, 'p>,
     frame: Frame<'p>,
     frames: &mut Vec<Frame<'p>>,
@@ -388,8 +396,8 @@ fn folded_word<'p, 'a>(
                 out.push(instruction)?;
                 return Ok(rest);
             }
-            frames.push(frame)?;
-            folded_instruction(scope, frames, out, word, pieces, rest)
+            frames.push(Frame::Condition(instruction, label))?;
+            folded_instruction(alloc, scope, frames, out, word, pieces, rest)
         }
         Frame::Body
         | Frame::Block(_, _)
@@ -398,7 +406,7 @@ fn folded_word<'p, 'a>(
         | Frame::Then(_)
         | Frame::Else(_) => {
             frames.push(frame)?;
-            folded_instruction(scope, frames, out, word, pieces, rest)
+            folded_instruction(alloc, scope, frames, out, word, pieces, rest)
         }
     }
 }
@@ -413,6 +421,7 @@ fn folded_word<'p, 'a>(
 /// (λ e. Faults (spec.open_by (scope_of scope.now) (structured word.now) (map terminal pieces.now) (map terminal rest.now) (stack frames.old.items)) e) }
 /// ```
 fn folded_instruction<'p, 'a>(
+    alloc: Global,
     scope: &Scope<'_, 'p>,
     frames: &mut Vec<Frame<'p>>,
     out: &mut Vec<Instruction>,
@@ -421,9 +430,9 @@ fn folded_instruction<'p, 'a>(
     rest: &'p [Piece<'a>],
 ) -> Result<&'p [Piece<'a>], Refusal<'p, 'a>> {
     match reading::structured(word) {
-        Some(opcode) => folded_block(frames, out, opcode, rest),
+        Some(opcode) => folded_block(alloc, scope, frames, out, opcode, rest),
         None => {
-            let (instruction, rest) = reading::plain(scope, frames, pieces)?;
+            let (instruction, rest) = reading::plain(alloc, scope, frames, pieces)?;
             frames.push(Frame::Operands(instruction))?;
             Ok(rest)
         }
@@ -436,17 +445,19 @@ fn folded_instruction<'p, 'a>(
 ///
 /// ```text
 /// ensures { MatchResult result
-/// (λ r. Stepped (spec.open_block opcode (map terminal pieces.now) (stack frames.old.items)) out.old.items out.new.items (stack frames.new.items) (map terminal r.now))
-/// (λ e. Faults (spec.open_block opcode (map terminal pieces.now) (stack frames.old.items)) e) }
+/// (λ r. Stepped (spec.open_block (scope_of scope.now) opcode (map terminal pieces.now) (stack frames.old.items)) out.old.items out.new.items (stack frames.new.items) (map terminal r.now))
+/// (λ e. Faults (spec.open_block (scope_of scope.now) opcode (map terminal pieces.now) (stack frames.old.items)) e) }
 /// ```
 fn folded_block<'p, 'a>(
+    alloc: Global,
+    scope: &Scope<'_, 'p>,
     frames: &mut Vec<Frame<'p>>,
     out: &mut Vec<Instruction>,
     opcode: u8,
     pieces: &'p [Piece<'a>],
 ) -> Result<&'p [Piece<'a>], Refusal<'p, 'a>> {
     let (label, rest) = reading::label(pieces);
-    let (argument, rest) = reading::block_type(rest)?;
+    let (argument, rest) = uses::block_type(alloc, scope, rest)?;
     let instruction = Instruction { opcode, argument };
     if opcode == IF {
         frames.push(Frame::Condition(instruction, label))?;
@@ -467,6 +478,7 @@ fn folded_block<'p, 'a>(
 /// (λ e. Faults (spec.word_step (scope_of scope.now) (part frame.entry) word.now (map terminal pieces.now) (map terminal rest.now) (stack frames.old.items)) e) }
 /// ```
 fn at_word<'p, 'a>(
+    alloc: Global,
     scope: &Scope<'_, 'p>,
     frame: Frame<'p>,
     frames: &mut Vec<Frame<'p>>,
@@ -496,12 +508,12 @@ fn at_word<'p, 'a>(
                 out.push(ELSE)?;
                 return Ok(rest);
             }
-            frames.push(frame)?;
-            instruction(scope, frames, out, word, pieces, rest)
+            frames.push(Frame::Block(may_turn, label))?;
+            instruction(alloc, scope, frames, out, word, pieces, rest)
         }
         Frame::Body | Frame::Group(_) | Frame::Then(_) | Frame::Else(_) => {
             frames.push(frame)?;
-            instruction(scope, frames, out, word, pieces, rest)
+            instruction(alloc, scope, frames, out, word, pieces, rest)
         }
     }
 }
@@ -516,6 +528,7 @@ fn at_word<'p, 'a>(
 /// (λ e. Faults (spec.word_by (scope_of scope.now) (structured word.now) (map terminal pieces.now) (map terminal rest.now) (stack frames.old.items)) e) }
 /// ```
 fn instruction<'p, 'a>(
+    alloc: Global,
     scope: &Scope<'_, 'p>,
     frames: &mut Vec<Frame<'p>>,
     out: &mut Vec<Instruction>,
@@ -526,13 +539,13 @@ fn instruction<'p, 'a>(
     match reading::structured(word) {
         Some(opcode) => {
             let (label, rest) = reading::label(rest);
-            let (argument, rest) = reading::block_type(rest)?;
+            let (argument, rest) = uses::block_type(alloc, scope, rest)?;
             frames.push(Frame::Block(opcode == IF, label))?;
             out.push(Instruction { opcode, argument })?;
             Ok(rest)
         }
         None => {
-            let (instruction, rest) = reading::plain(scope, frames, pieces)?;
+            let (instruction, rest) = reading::plain(alloc, scope, frames, pieces)?;
             out.push(instruction)?;
             Ok(rest)
         }

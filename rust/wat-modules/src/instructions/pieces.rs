@@ -2,6 +2,8 @@
 //! What is read, and what comes of it.
 
 use wat_lex::shim::prelude::*;
+use crate::instructions::branches::BranchTable;
+use crate::instructions::types::{BoxedUse, IndirectCall};
 use wat_lex::shim::alloc::{AllocError, AllocFailed};
 
 /// The sign that an integer begins with.
@@ -63,18 +65,24 @@ pub enum ValueType {
     F64,
 }
 
-/// The immediate of an instruction.
-#[derive(Clone, Copy)]
+/// The immediate of an instruction. What takes more than 8 bytes is boxed: a text has millions of
+/// instructions, of which few have that.
 pub enum Argument {
     Nothing,
     Index(usize),
+    /// The labels of `br_table`.
+    Labels(BranchTable),
     I32(i32),
     I64(i64),
     /// The bits of a float.
     F32(u32),
     F64(u64),
+    /// A table and a type.
+    Indirect(IndirectCall),
     /// The type of a block: one result, or none.
     Block(Option<ValueType>),
+    /// The type of a block by a type use.
+    BlockUse(BoxedUse),
     /// A memory argument: the exponent of its alignment, and its offset.
     Memory(u8, u32),
     /// A byte 0.
@@ -82,7 +90,6 @@ pub enum Argument {
 }
 
 /// An instruction of the binary format, where `end` and `else` are two.
-#[derive(Clone, Copy)]
 pub struct Instruction {
     pub opcode: u8,
     pub argument: Argument,
@@ -91,7 +98,6 @@ pub struct Instruction {
 /// What is open: the body; `block .. end`, and whether `else` may come in it; `(block ..)`; an
 /// instruction that waits for its operands; an `if` that waits for its condition; and its two parts
 /// in parentheses.
-#[derive(Clone, Copy)]
 pub enum Frame<'p> {
     Body,
     Block(bool, Name<'p>),

@@ -1,6 +1,7 @@
 use Rattle.std.proofs.Common.{◌≡◌, ◌++◌, map, drop}
 use Rattle.wat_fields.specs.Fields.{definition_type, definitions_of}
-use Rattle.wat_fields.specs.Views.{field_of, type_of}
+use Rattle.wat_fields.specs.Views.{field_of}
+use Rattle.wat_instructions.specs.Views.{type_of}
 use Rattle.wat_fields.proofs.binary.defined_types.Given as goal
 
 abbrev pub invariant-loop-field : goal.invariant-loop-field

@@ -1,6 +1,6 @@
 use Rattle.std.proofs.Common.{◌≡◌, map, drop}
 use Rattle.wat_fields.specs.Binary.{has_type}
-use Rattle.wat_fields.specs.Views.{type_of}
+use Rattle.wat_instructions.specs.Views.{type_of}
 use Rattle.wat_fields.proofs.binary.has_type.Given as goal
 
 abbrev pub invariant-loop-known : goal.invariant-loop-known

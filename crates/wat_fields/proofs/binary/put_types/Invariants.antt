@@ -1,7 +1,7 @@
 use Rattle.std.proofs.Common.{◌≡◌, map, take}
 use Rattle.std.specs.List.{flat_map}
 use Rattle.wat_fields.specs.Binary.{type_bytes}
-use Rattle.wat_fields.specs.Views.{type_of}
+use Rattle.wat_instructions.specs.Views.{type_of}
 use Rattle.wat_fields.proofs.binary.put_types.Given as goal
 
 abbrev pub invariant-loop-of : goal.invariant-loop-of

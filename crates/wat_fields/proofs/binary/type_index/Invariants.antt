@@ -1,6 +1,6 @@
 use Rattle.std.proofs.Common.{◌≡◌, ◌+◌, map, drop}
 use Rattle.wat_fields.specs.Binary.{type_index}
-use Rattle.wat_fields.specs.Views.{type_of}
+use Rattle.wat_instructions.specs.Views.{type_of}
 use Rattle.wat_fields.proofs.binary.type_index.Given as goal
 
 abbrev pub invariant-loop-i : goal.invariant-loop-i

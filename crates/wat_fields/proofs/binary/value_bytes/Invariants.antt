@@ -1,5 +1,5 @@
 use Rattle.std.proofs.Common.{◌≡◌, map, take}
-use Rattle.wat_fields.specs.Binary.{type_byte}
+use Rattle.wat_instructions.specs.Types.{type_byte}
 use Rattle.wat_fields.proofs.binary.value_bytes.Given as goal
 
 abbrev pub invariant-loop-of : goal.invariant-loop-of

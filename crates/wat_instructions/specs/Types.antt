@@ -1,0 +1,54 @@
+-- WebAssembly 2.0 specification, 6.4.5 (function types), 6.1.3 (contexts: types), 6.6.3 (type uses), and 5.3.1 (number types).
+use Rattle.std.specs.Prelude.{ℕ, Bool, true, false, List, [], ◌∷◌, Option, Some, None, ◌==◌, ◌&&◌}
+use Rattle.wat_instructions.specs.declared.pieces.ValueType.{ValueType}
+use Rattle.wat_instructions.specs.declared.pieces.ValueType.TheVariants as value
+use Rattle.wat_instructions.specs.Terminals.{Label}
+
+-- 6.4.5: a function type, the types of the parameters and of the results
+pub record FunctionType : Type 0 where
+  pub params : List ValueType
+  pub results : List ValueType
+
+abbrev pub from_to : List ValueType → List ValueType → FunctionType
+from_to ps rs = record { params = ps; results = rs }
+
+-- 6.1.3: the types of the context, by name and by index
+pub record Types : Type 0 where
+  pub names : List Label
+  pub types : List FunctionType
+
+-- 6.6.3: a type use of an instruction, whose parameters have no names: the index of its type, where it says one, and its type
+pub record UnnamedUse : Type 0 where
+  pub index : Option ℕ
+  pub type : FunctionType
+
+abbrev pub unnamed_use : Option ℕ → FunctionType → UnnamedUse
+unnamed_use i t = record { index = i; type = t }
+
+-- an index that is said, or another
+abbrev pub index_or : Option ℕ → ℕ → ℕ
+index_or (Some i) n = i
+index_or None n = n
+
+-- 6.5.2: what call_indirect says: the index of a table, and a type use
+pub record IndirectCall : Type 0 where
+  pub table : ℕ
+  pub uses : UnnamedUse
+
+abbrev pub indirect_call : ℕ → UnnamedUse → IndirectCall
+indirect_call n u = record { table = n; uses = u }
+
+-- 5.3.1 number types
+abbrev pub type_byte : ValueType → ℕ
+type_byte value.I32 = 0x7F
+type_byte value.I64 = 0x7E
+type_byte value.F32 = 0x7D
+type_byte value.F64 = 0x7C
+
+abbrev pub same_values : List ValueType → List ValueType → Bool
+same_values [] [] = true
+same_values (t ∷ ts) (u ∷ us) = (type_byte t == type_byte u) && same_values ts us
+same_values ts us = false
+
+abbrev pub same_type : FunctionType → FunctionType → Bool
+same_type t u = same_values t.params u.params && same_values t.results u.results

@@ -1,0 +1,163 @@
+// Made by tools/erase from crates/wat_instructions/src/types.rt; do not edit.
+//! Function types, and what instructions say of them.
+
+use wat_lex::shim::prelude::*;
+use crate::instructions::pieces::ValueType;
+use wat_lex::shim::alloc::{AllocError, Global};
+
+/// A function type.
+pub struct FunctionType {
+    pub params: Vec<ValueType>,
+    pub results: Vec<ValueType>,
+}
+
+/// A type use whose parameters have no names: the index of its type, where it says one; and its
+/// type.
+pub struct UnnamedUse {
+    pub index: Option<usize>,
+    pub of: FunctionType,
+}
+
+/// The same in a box. Its index is below 2^63, as that of all that is in memory.
+pub struct BoxedUse {
+    uses: Box<UnnamedUse>,
+}
+
+impl BoxedUse {
+    /// This type use.
+    ///
+    /// # Proved
+    ///
+    /// ```text
+    /// requires { spec.index_or uses.index 0 < 2 ^ 63 }
+    /// ensures { IfOk result (λ u. u ≡ use_of uses) }
+    /// ```
+    pub fn new(alloc: Global, uses: UnnamedUse) -> Result<BoxedUse, AllocError> {
+        match Box::new(alloc, uses) {
+            Ok(uses) => Ok(BoxedUse { uses }),
+            Err(failed) => Err(AllocError::from(failed)),
+        }
+    }
+
+    /// What it is.
+    ///
+    /// # Proved
+    ///
+    /// ```text
+    /// ensures is { use_of result.now ≡ self.now }
+    /// ensures small { spec.index_or result.now.index 0 < 2 ^ 63 }
+    /// ```
+    pub fn uses(&self) -> &UnnamedUse {
+        &self.uses
+    }
+}
+
+/// The index of a table, and a type use.
+struct Call {
+    table: usize,
+    uses: UnnamedUse,
+}
+
+/// What `call_indirect` says, in a box.
+pub struct IndirectCall {
+    call: Box<Call>,
+}
+
+impl IndirectCall {
+    /// A call by this table and this type use.
+    ///
+    /// # Proved
+    ///
+    /// ```text
+    /// ensures { IfOk result (λ c. c ≡ spec.indirect_call table (use_of uses)) }
+    /// ```
+    pub fn new(alloc: Global, table: usize, uses: UnnamedUse) -> Result<IndirectCall, AllocError> {
+        match Box::new(alloc, Call { table, uses }) {
+            Ok(call) => Ok(IndirectCall { call }),
+            Err(failed) => Err(AllocError::from(failed)),
+        }
+    }
+
+    /// The index of its table.
+    ///
+    /// # Proved
+    ///
+    /// ```text
+    /// ensures { result ≡ self.now.table }
+    /// ```
+    pub fn table(&self) -> usize {
+        self.call.table
+    }
+
+    /// Its type use.
+    ///
+    /// # Proved
+    ///
+    /// ```text
+    /// ensures { use_of result.now ≡ self.now.uses }
+    /// ```
+    pub fn uses(&self) -> &UnnamedUse {
+        &self.call.uses
+    }
+}
+
+/// The byte of a number type.
+///
+/// # Proved
+///
+/// ```text
+/// ensures { result ≡ spec.type_byte of }
+/// ```
+pub fn type_byte(of: ValueType) -> u8 {
+    match of {
+        ValueType::I32 => 0x7F,
+        ValueType::I64 => 0x7E,
+        ValueType::F32 => 0x7D,
+        ValueType::F64 => 0x7C,
+    }
+}
+
+/// Whether these are the same value types.
+///
+/// # Proved
+///
+/// ```text
+/// ensures { result ≡ spec.same_values some.now others.now }
+/// ```
+fn same_values(some: &[ValueType], others: &[ValueType]) -> bool {
+    if some.len() != others.len() {
+        return false;
+    }
+    for (i, of) in some.iter().enumerate() {
+        if type_byte(*of) != type_byte(others[i]) {
+            return false;
+        }
+    }
+    true
+}
+
+/// Whether these are the same function types.
+///
+/// # Proved
+///
+/// ```text
+/// ensures { result ≡ spec.same_type (type_of of.now) (type_of other.now) }
+/// ```
+pub fn same_type(of: &FunctionType, other: &FunctionType) -> bool {
+    same_values(&of.params, &other.params) && same_values(&of.results, &other.results)
+}
+
+/// A function type once more.
+///
+/// # Proved
+///
+/// ```text
+/// ensures { IfOk result (λ t. type_of t ≡ type_of of.now) }
+/// ```
+pub fn copied(alloc: Global, of: &FunctionType) -> Result<FunctionType, AllocError> {
+    let mut params = Vec::new(alloc);
+    params.extend_from_slice(&of.params)?;
+    let mut results = Vec::new(alloc);
+    results.extend_from_slice(&of.results)?;
+    Ok(FunctionType { params, results })
+}

@@ -1,0 +1,512 @@
+// Made by tools/erase from crates/wat_instructions/src/uses.rt; do not edit.
+//! Type uses of instructions, whose parameters have no names.
+
+use wat_lex::shim::prelude::*;
+use crate::instructions::names::IndexedNames;
+use crate::instructions::pieces::{Argument, Fault, FaultKind, Piece, Refusal, ValueType};
+use crate::instructions::reading::{Scope, index, value_type};
+use crate::instructions::types::{BoxedUse, FunctionType, IndirectCall, UnnamedUse, copied, same_type};
+use wat_lex::shim::alloc::{AllocError, Global};
+
+/// What is left to read, and whether it begins in a group.
+#[derive(Clone, Copy)]
+struct Place<'p, 'a> {
+    is_inside: bool,
+    pieces: &'p [Piece<'a>],
+}
+
+/// The value types that groups of a word list.
+///
+/// # Proved
+///
+/// ```text
+/// ensures { MatchResult result
+/// (λ r. grammar.listed word.now false (map terminal pieces.now) ≡ Ok (r.0.items, map terminal r.1.now))
+/// (λ e. Faults (grammar.listed word.now false (map terminal pieces.now)) e) }
+/// ```
+fn listed<'p, 'a>(
+    alloc: Global,
+    word: &str,
+    pieces: &'p [Piece<'a>],
+) -> Result<(Vec<ValueType>, &'p [Piece<'a>]), Refusal<'p, 'a>> {
+    let mut types = Vec::new(alloc);
+    let mut place = Place {
+        is_inside: false,
+        pieces,
+    };
+    'tokens: loop {
+        match next_place(word, &mut types, place) {
+            Ok(Some(next)) => {
+                place = next;
+            }
+            Ok(None) => return Ok((types, place.pieces)),
+            Err(refusal) => return Err(refusal),
+        }
+    }
+}
+
+/// After one token, or after `(` and the word.
+///
+/// # Proved
+///
+/// ```text
+/// ensures is { MatchResult result
+///     (λ o. MatchOption o
+///     (NotListed word.now place.entry.is_inside (map terminal place.entry.pieces.now) types.old.items types.new.items)
+///     (λ l. IsListed word.now place.entry.is_inside (map terminal place.entry.pieces.now) types.old.items types.new.items l.is_inside (map terminal l.pieces.now)))
+///     (λ e. Faults (grammar.listed word.now place.entry.is_inside (map terminal place.entry.pieces.now)) e) }
+/// ensures shorter { IfOk result (λ o. IfSome o (λ l. length l.pieces.now < length place.entry.pieces.now)) }
+/// ```
+fn next_place<'p, 'a>(
+    word: &str,
+    types: &mut Vec<ValueType>,
+    place: Place<'p, 'a>,
+) -> Result<Option<Place<'p, 'a>>, Refusal<'p, 'a>> {
+    if place.is_inside {
+        let next = in_group(word, types, place.pieces)?;
+        return Ok(Some(next));
+    }
+    Ok(group(word, place.pieces))
+}
+
+/// In a group, where there is one.
+///
+/// # Proved
+///
+/// ```text
+/// ensures is { MatchOption result
+///     (grammar.listed word.now false (map terminal pieces.now) ≡ Ok ([], map terminal pieces.now))
+///     (λ l. grammar.listed word.now false (map terminal pieces.now) ≡ grammar.listed word.now l.is_inside (map terminal l.pieces.now)) }
+/// ensures shorter { IfSome result (λ l. length l.pieces.now < length pieces.now) }
+/// ```
+fn group<'p, 'a>(word: &str, pieces: &'p [Piece<'a>]) -> Option<Place<'p, 'a>> {
+    match after(word, pieces) {
+        Some(rest) => Some(Place {
+            is_inside: true,
+            pieces: rest,
+        }),
+        None => None,
+    }
+}
+
+/// A value type in a group, or its `)`.
+///
+/// # Proved
+///
+/// ```text
+/// ensures is { MatchResult result
+///     (λ l. IsListed word.now true (map terminal pieces.now) types.old.items types.new.items l.is_inside (map terminal l.pieces.now))
+///     (λ e. Faults (grammar.listed word.now true (map terminal pieces.now)) e) }
+/// ensures shorter { IfOk result (λ l. length l.pieces.now < length pieces.now) }
+/// ```
+fn in_group<'p, 'a>(
+    word: &str,
+    types: &mut Vec<ValueType>,
+    pieces: &'p [Piece<'a>],
+) -> Result<Place<'p, 'a>, Refusal<'p, 'a>> {
+    match pieces {
+        [Piece::Word(name), rest @ ..] => match value_type(name) {
+            Some(of) => {
+                types.push(of)?;
+                Ok(Place {
+                    is_inside: true,
+                    pieces: rest,
+                })
+            }
+            None => Err(Refusal::Text(Fault {
+                kind: FaultKind::UnknownWord,
+                left: pieces,
+            })),
+        },
+        [Piece::Close, rest @ ..] => Ok(Place {
+            is_inside: false,
+            pieces: rest,
+        }),
+        [
+            Piece::Open
+            | Piece::Id(_)
+            | Piece::Integer(_, _)
+            | Piece::Text(_)
+            | Piece::Float(_, _)
+            | Piece::Other,
+            ..,
+        ] => Err(Refusal::Text(Fault {
+            kind: FaultKind::Unexpected,
+            left: pieces,
+        })),
+        [] => Err(Refusal::Text(Fault {
+            kind: FaultKind::Unexpected,
+            left: pieces,
+        })),
+    }
+}
+
+/// What comes after `(` and a word, where the tokens begin so.
+///
+/// # Proved
+///
+/// ```text
+/// ensures is { MatchOption result (grammar.after word.now (map terminal pieces.now) ≡ None) (λ r. grammar.after word.now (map terminal pieces.now) ≡ Some (map terminal r.now)) }
+/// ensures shorter { IfSome result (λ r. length r.now < length pieces.now) }
+/// ```
+fn after<'p, 'a>(word: &str, pieces: &'p [Piece<'a>]) -> Option<&'p [Piece<'a>]> {
+    match pieces {
+        [Piece::Open, rest @ ..] => after_word(word, rest),
+        [
+            Piece::Close
+            | Piece::Word(_)
+            | Piece::Id(_)
+            | Piece::Integer(_, _)
+            | Piece::Text(_)
+            | Piece::Float(_, _)
+            | Piece::Other,
+            ..,
+        ] => None,
+        [] => None,
+    }
+}
+
+/// What comes after a word, where the tokens begin with it.
+///
+/// # Proved
+///
+/// ```text
+/// ensures is { MatchOption result (grammar.after_word word.now (map terminal pieces.now) ≡ None) (λ r. grammar.after_word word.now (map terminal pieces.now) ≡ Some (map terminal r.now)) }
+/// ensures shorter { IfSome result (λ r. length r.now < length pieces.now) }
+/// ```
+fn after_word<'p, 'a>(word: &str, pieces: &'p [Piece<'a>]) -> Option<&'p [Piece<'a>]> {
+    match pieces {
+        [Piece::Word(of), rest @ ..] => {
+            if *of == word {
+                Some(rest)
+            } else {
+                None
+            }
+        }
+        [
+            Piece::Open
+            | Piece::Close
+            | Piece::Id(_)
+            | Piece::Integer(_, _)
+            | Piece::Text(_)
+            | Piece::Float(_, _)
+            | Piece::Other,
+            ..,
+        ] => None,
+        [] => None,
+    }
+}
+
+/// Parameters and results.
+///
+/// # Proved
+///
+/// ```text
+/// ensures { MatchResult result
+/// (λ r. grammar.lists_of (map terminal pieces.now) ≡ Ok (type_of r.0, map terminal r.1.now))
+/// (λ e. Faults (grammar.lists_of (map terminal pieces.now)) e) }
+/// ```
+fn lists<'p, 'a>(
+    alloc: Global,
+    pieces: &'p [Piece<'a>],
+) -> Result<(FunctionType, &'p [Piece<'a>]), Refusal<'p, 'a>> {
+    let (params, rest) = listed(alloc, "param", pieces)?;
+    let (results, rest) = listed(alloc, "result", rest)?;
+    Ok((FunctionType { params, results }, rest))
+}
+
+/// A type use.
+///
+/// # Proved
+///
+/// ```text
+/// ensures is { MatchResult result
+///     (λ r. grammar.use_of (scope_of scope.now).types (map terminal pieces.now) ≡ Ok (use_of r.0, map terminal r.1.now))
+///     (λ e. Faults (grammar.use_of (scope_of scope.now).types (map terminal pieces.now)) e) }
+/// ensures small { IfOk result (λ r. spec.index_or r.0.index 0 < 2 ^ 63) }
+/// ```
+fn type_use<'p, 'a>(
+    alloc: Global,
+    scope: &Scope<'_, '_>,
+    pieces: &'p [Piece<'a>],
+) -> Result<(UnnamedUse, &'p [Piece<'a>]), Refusal<'p, 'a>> {
+    match after("type", pieces) {
+        Some(rest) => indexed_use(alloc, scope, rest),
+        None => listed_use(alloc, pieces),
+    }
+}
+
+/// A type use that lists its type.
+///
+/// # Proved
+///
+/// ```text
+/// ensures is { MatchResult result
+///     (λ r. grammar.listed_use (grammar.lists_of (map terminal pieces.now)) ≡ Ok (use_of r.0, map terminal r.1.now))
+///     (λ e. Faults (grammar.listed_use (grammar.lists_of (map terminal pieces.now))) e) }
+/// ensures small { IfOk result (λ r. spec.index_or r.0.index 0 < 2 ^ 63) }
+/// ```
+fn listed_use<'p, 'a>(
+    alloc: Global,
+    pieces: &'p [Piece<'a>],
+) -> Result<(UnnamedUse, &'p [Piece<'a>]), Refusal<'p, 'a>> {
+    let (of, rest) = lists(alloc, pieces)?;
+    let index = None;
+    Ok((UnnamedUse { index, of }, rest))
+}
+
+/// A type use after `(type`.
+///
+/// # Proved
+///
+/// ```text
+/// ensures is { MatchResult result
+///     (λ r. grammar.indexed_use (scope_of scope.now).types (map terminal pieces.now) (grammar.index (scope_of scope.now).types.names (map terminal pieces.now)) ≡ Ok (use_of r.0, map terminal r.1.now))
+///     (λ e. Faults (grammar.indexed_use (scope_of scope.now).types (map terminal pieces.now) (grammar.index (scope_of scope.now).types.names (map terminal pieces.now))) e) }
+/// ensures small { IfOk result (λ r. spec.index_or r.0.index 0 < 2 ^ 63) }
+/// ```
+fn indexed_use<'p, 'a>(
+    alloc: Global,
+    scope: &Scope<'_, '_>,
+    pieces: &'p [Piece<'a>],
+) -> Result<(UnnamedUse, &'p [Piece<'a>]), Refusal<'p, 'a>> {
+    let (index, rest) = index(scope.type_names, pieces)?;
+    closed_use(alloc, scope.types, index, pieces, rest)
+}
+
+/// A type use after the index of its type, with which all these tokens begin.
+///
+/// # Proved
+///
+/// ```text
+/// ensures is { MatchResult result
+///     (λ r. grammar.closed_index (map type_of types.now) index (map terminal all.now) (map terminal pieces.now) ≡ Ok (use_of r.0, map terminal r.1.now))
+///     (λ e. Faults (grammar.closed_index (map type_of types.now) index (map terminal all.now) (map terminal pieces.now)) e) }
+/// ensures small { IfOk result (λ r. spec.index_or r.0.index 0 < 2 ^ 63) }
+/// ```
+fn closed_use<'p, 'a>(
+    alloc: Global,
+    types: &[FunctionType],
+    index: usize,
+    all: &'p [Piece<'a>],
+    pieces: &'p [Piece<'a>],
+) -> Result<(UnnamedUse, &'p [Piece<'a>]), Refusal<'p, 'a>> {
+    match pieces {
+        [Piece::Close, rest @ ..] => typed_use(alloc, types, index, all, rest),
+        [
+            Piece::Open
+            | Piece::Word(_)
+            | Piece::Id(_)
+            | Piece::Integer(_, _)
+            | Piece::Text(_)
+            | Piece::Float(_, _)
+            | Piece::Other,
+            ..,
+        ] => Err(Refusal::Text(Fault {
+            kind: FaultKind::Unexpected,
+            left: pieces,
+        })),
+        [] => Err(Refusal::Text(Fault {
+            kind: FaultKind::Unexpected,
+            left: pieces,
+        })),
+    }
+}
+
+/// The type of an index.
+///
+/// # Proved
+///
+/// ```text
+/// ensures small { IfSome result (λ _. index < 2 ^ 63) }
+/// ensures is { MatchOption result (slice_get (map type_of types.now) index ≡ None) (λ t. slice_get (map type_of types.now) index ≡ Some (type_of t.now)) }
+/// ```
+fn type_at_index(types: &[FunctionType], index: usize) -> Option<&FunctionType> {
+    types.get(index)
+}
+
+/// The same after `)`.
+///
+/// # Proved
+///
+/// ```text
+/// ensures is { MatchResult result
+///     (λ r. grammar.indexed_by index (slice_get (map type_of types.now) index) (map terminal all.now) (map terminal pieces.now) ≡ Ok (use_of r.0, map terminal r.1.now))
+///     (λ e. Faults (grammar.indexed_by index (slice_get (map type_of types.now) index) (map terminal all.now) (map terminal pieces.now)) e) }
+/// ensures small { IfOk result (λ r. spec.index_or r.0.index 0 < 2 ^ 63) }
+/// ```
+fn typed_use<'p, 'a>(
+    alloc: Global,
+    types: &[FunctionType],
+    index: usize,
+    all: &'p [Piece<'a>],
+    pieces: &'p [Piece<'a>],
+) -> Result<(UnnamedUse, &'p [Piece<'a>]), Refusal<'p, 'a>> {
+    match type_at_index(types, index) {
+        Some(of) => agreed(alloc, index, of, all, pieces),
+        None => Err(Refusal::Text(Fault {
+            kind: FaultKind::UnknownName,
+            left: all,
+        })),
+    }
+}
+
+/// Whether nothing is listed.
+///
+/// # Proved
+///
+/// ```text
+/// ensures { result ≡ grammar.list_nothing params.now results.now }
+/// ```
+fn list_nothing(params: &[ValueType], results: &[ValueType]) -> bool {
+    match params {
+        [] => match results {
+            [] => true,
+            [_, ..] => false,
+        },
+        [_, ..] => false,
+    }
+}
+
+/// The type of an index, and lists that are its own or nothing.
+///
+/// # Proved
+///
+/// ```text
+/// requires { index < 2 ^ 63 }
+/// ensures is { MatchResult result
+///     (λ r. grammar.agreed index (type_of of.now) (map terminal all.now) (grammar.lists_of (map terminal pieces.now)) ≡ Ok (use_of r.0, map terminal r.1.now))
+///     (λ e. Faults (grammar.agreed index (type_of of.now) (map terminal all.now) (grammar.lists_of (map terminal pieces.now))) e) }
+/// ensures small { IfOk result (λ r. spec.index_or r.0.index 0 < 2 ^ 63) }
+/// ```
+fn agreed<'p, 'a>(
+    alloc: Global,
+    index: usize,
+    of: &FunctionType,
+    all: &'p [Piece<'a>],
+    pieces: &'p [Piece<'a>],
+) -> Result<(UnnamedUse, &'p [Piece<'a>]), Refusal<'p, 'a>> {
+    let (listed, rest) = lists(alloc, pieces)?;
+    if list_nothing(&listed.params, &listed.results) || same_type(&listed, of) {
+        let of = copied(alloc, of)?;
+        let index = Some(index);
+        return Ok((UnnamedUse { index, of }, rest));
+    }
+    Err(Refusal::Text(Fault {
+        kind: FaultKind::OtherType,
+        left: all,
+    }))
+}
+
+/// The table of `call_indirect`, which is the first where no index comes.
+///
+/// # Proved
+///
+/// ```text
+/// ensures { MatchResult result
+/// (λ r. grammar.table_of tables.now (map terminal pieces.now) ≡ Ok (r.0, map terminal r.1.now))
+/// (λ f. grammar.table_of tables.now (map terminal pieces.now) ≡ Err (fault_of f)) }
+/// ```
+fn table_index<'p, 'a>(
+    tables: &IndexedNames<'_>,
+    pieces: &'p [Piece<'a>],
+) -> Result<(usize, &'p [Piece<'a>]), Fault<'p, 'a>> {
+    match pieces {
+        [Piece::Integer(_, _), ..] => index(tables, pieces),
+        [Piece::Id(_), ..] => index(tables, pieces),
+        [
+            Piece::Open
+            | Piece::Close
+            | Piece::Word(_)
+            | Piece::Text(_)
+            | Piece::Float(_, _)
+            | Piece::Other,
+            ..,
+        ] => Ok((0, pieces)),
+        [] => Ok((0, pieces)),
+    }
+}
+
+/// The immediate of `call_indirect`.
+///
+/// # Proved
+///
+/// ```text
+/// ensures { MatchResult result
+/// (λ r. grammar.indirect_by (scope_of scope.now).types (grammar.table_of (scope_of scope.now).tables (map terminal pieces.now)) ≡ Ok (r.0, map terminal r.1.now))
+/// (λ e. Faults (grammar.indirect_by (scope_of scope.now).types (grammar.table_of (scope_of scope.now).tables (map terminal pieces.now))) e) }
+/// ```
+pub(crate) fn indirect_call<'p, 'a>(
+    alloc: Global,
+    scope: &Scope<'_, '_>,
+    pieces: &'p [Piece<'a>],
+) -> Result<(Argument, &'p [Piece<'a>]), Refusal<'p, 'a>> {
+    let (table, rest) = table_index(scope.tables, pieces)?;
+    let (uses, rest) = type_use(alloc, scope, rest)?;
+    let call = IndirectCall::new(alloc, table, uses)?;
+    Ok((Argument::Indirect(call), rest))
+}
+
+/// The type of a block: one result or none; or a type use.
+///
+/// # Proved
+///
+/// ```text
+/// ensures { MatchResult result
+/// (λ r. grammar.block_type (scope_of scope.now).types (map terminal pieces.now) ≡ Ok (r.0, map terminal r.1.now))
+/// (λ e. Faults (grammar.block_type (scope_of scope.now).types (map terminal pieces.now)) e) }
+/// ```
+pub(crate) fn block_type<'p, 'a>(
+    alloc: Global,
+    scope: &Scope<'_, '_>,
+    pieces: &'p [Piece<'a>],
+) -> Result<(Argument, &'p [Piece<'a>]), Refusal<'p, 'a>> {
+    let (uses, rest) = type_use(alloc, scope, pieces)?;
+    let argument = block_argument(alloc, uses)?;
+    Ok((argument, rest))
+}
+
+/// The short form of a type use: one result or none, where it is by its lists alone.
+///
+/// # Proved
+///
+/// ```text
+/// ensures { MatchOption result
+/// ((u : spec.UnnamedUse) → grammar.block_of index params.now results.now u ≡ argument.BlockUse u)
+/// (λ of. (u : spec.UnnamedUse) → grammar.block_of index params.now results.now u ≡ argument.Block of) }
+/// ```
+fn short_form(
+    index: Option<usize>,
+    params: &[ValueType],
+    results: &[ValueType],
+) -> Option<Option<ValueType>> {
+    if index.is_some() {
+        return None;
+    }
+    match params {
+        [] => match results {
+            [] => Some(None),
+            [of] => Some(Some(*of)),
+            [_, _, ..] => None,
+        },
+        [_, ..] => None,
+    }
+}
+
+/// The type of a block.
+///
+/// # Proved
+///
+/// ```text
+/// requires { spec.index_or uses.index 0 < 2 ^ 63 }
+/// ensures { IfOk result (λ a. a ≡ grammar.block_of uses.index uses.of.params.items uses.of.results.items (use_of uses)) }
+/// ```
+fn block_argument(alloc: Global, uses: UnnamedUse) -> Result<Argument, AllocError> {
+    match short_form(uses.index, &uses.of.params, &uses.of.results) {
+        Some(of) => Ok(Argument::Block(of)),
+        None => {
+            let uses = BoxedUse::new(alloc, uses)?;
+            Ok(Argument::BlockUse(uses))
+        }
+    }
+}
