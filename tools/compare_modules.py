@@ -1,7 +1,8 @@
 #!/usr/bin/env python3
 """Compares the bytes of modules with those of `wat2wasm --no-check` (Debian's package wabt), on modules of the slice that `wat_modules` takes:
 types; imports and exports, inline and not; functions with type uses, local variables, and plain, structured and folded instructions; memories,
-tables, globals; a start function; fields in any order that has imports first; and on texts made from them by one change of a token.
+tables, globals; a start function; data and element segments, inline ones too; fields in any order that has imports first; and on texts made from them
+by one change of a token.
 
 PROGRAM reads a module from standard input and writes its bytes to standard output; where it refuses the text its status is 1. It is
 rust/wat-modules/examples/module.rs. An `else` with nothing after it is written by PROGRAM and left out by `wat2wasm`, and
@@ -10,6 +11,7 @@ rust/wat-modules/examples/module.rs. An `else` with nothing after it is written 
 is compared by what PROGRAM makes of it with the lists of the type in the place of `(type x)`.
 
 usage: compare_modules.py [--modules N] [--mutants N] [--seed N] [--show] PROGRAM [ARGUMENT..]
+       compare_modules.py --texts FOLDER PROGRAM [ARGUMENT..]       each FOLDER/**/*.wat in the place of made ones
        compare_modules.py --write FUNCTIONS [--named] [--seed N] > TEXT
 """
 import argparse
@@ -258,8 +260,78 @@ def kind_of(rng, kind):
     return sizes(rng) + ([rng.choice(["funcref", "externref"])] if kind == "table" else [])
 
 
+STRINGS = ['""', '"a"', '"\\00\\ff\\n"', '"\u00e9"', '"' + "0123456789" * 7 + '"']
+
+
+def strings(rng):
+    """Strings."""
+    return [rng.choice(STRINGS) for _ in range(rng.choice([0, 1, 1, 2, 3]))]
+
+
+def offset(rng, rows, names, word):
+    """An expression after a word, or one folded instruction."""
+    body = Body(rng, rows, names, [])
+    return rng.choice([lambda: ["(", word] + body.many(1) + [")"], lambda: body.folded(1), lambda: ["(", "i32.const", body.number(32), ")"]])()
+
+
+def used(rng, names, kind):
+    """The use of a memory or a table, which may be left out."""
+    if not names[kind] or rng.random() < 0.5:
+        return []
+    return ["(", kind, Body(rng, [], names, []).index(names[kind]), ")"]
+
+
+def data_segments(rng, rows, names):
+    """Data segments."""
+    made = []
+    for at in range(rng.choice([0, 0, 1, 2, 3])):
+        active = rng.choice([[], used(rng, names, "memory") + offset(rng, rows, names, "offset")])
+        made.append(["(", "data"] + rng.choice([[], [f"$d{at}"]]) + active + strings(rng) + [")"])
+    return made
+
+
+def functions(rng, names):
+    """Indices of functions."""
+    if not names["func"]:
+        return []
+    return [Body(rng, [], names, []).index(names["func"]) for _ in range(rng.choice([0, 1, 2, 3]))]
+
+
+def elements(rng, rows, names):
+    """Elements by their instructions. `wat2wasm` drops an `item` with nothing in it: there is none."""
+    made = []
+    for _ in range(rng.choice([0, 1, 2, 3])):
+        one = offset(rng, rows, names, "item")
+        made += ["(", "item", "nop", ")"] if one == ["(", "item", ")"] else one
+    return made
+
+
+def element_list(rng, rows, names):
+    """A list of elements."""
+    return rng.choice([lambda: ["func"] + functions(rng, names), lambda: [rng.choice(["funcref", "externref"])] + elements(rng, rows, names)])()
+
+
+def element_segments(rng, rows, names):
+    """Element segments."""
+    made = []
+    for at in range(rng.choice([0, 0, 1, 2, 3])):
+        kind = rng.randrange(4)
+        if kind == 0:
+            rest = rng.choice([[], ["declare"]]) + element_list(rng, rows, names)
+        elif kind == 1:
+            rest = offset(rng, rows, names, "offset") + functions(rng, names)
+        else:
+            rest = used(rng, names, "table") + offset(rng, rows, names, "offset") + element_list(rng, rows, names)
+        made.append(["(", "elem"] + rng.choice([[], [f"$e{at}"]]) + rest + [")"])
+    return made
+
+
 def content(rng, rows, names, types, kind):
     """The same of an item of a kind."""
+    if kind == "memory" and rng.random() < 0.3:
+        return ["(", "data"] + strings(rng) + [")"]
+    if kind == "table" and rng.random() < 0.3:
+        return [rng.choice(["funcref", "externref"]), "(", "elem"] + rng.choice([functions(rng, names), elements(rng, rows, names)]) + [")"]
     if kind == "func":
         return function(rng, rows, names, types)
     return kind_of(rng, kind) + (Body(rng, rows, names, []).many(1) if kind == "global" else [])
@@ -275,8 +347,8 @@ def an_import(rng, names, types, kind, name):
     return ["(", kind] + named + exported(rng) + ["(", "import"] + both + [")"] + what + [")"]
 
 
-def other_fields(rng, names):
-    """Exports, and a start function or none."""
+def other_fields(rng, rows, names):
+    """Exports, a start function or none, and segments."""
     made = []
     for at in range(rng.choice([0, 0, 1, 2, 3])):
         kind = rng.choice(KINDS)
@@ -284,7 +356,7 @@ def other_fields(rng, names):
         made.append(["(", "export", rng.choice(EXPORTED).format(at=at + 5), "(", kind, index, ")", ")"])
     if names["func"] and rng.random() < 0.3:
         made.append(["(", "start", Body(rng, [], names, []).index(names["func"]), ")"])
-    return made
+    return made + data_segments(rng, rows, names) + element_segments(rng, rows, names)
 
 
 def merged(rng, lists):
@@ -307,7 +379,7 @@ def module(rng, rows, names):
         lists += [[["(", kind] + ([name] if name else []) + exported(rng) + content(rng, rows, names, types, kind) + [")"] for name in names[kind][many:]]]
     defined = [["(", "type"] + ([name] if name else []) + ["(", "func"] + listed(rng, "param", of[0], "p")[0] + listed(rng, "result", of[1], "r")[0] + [")", ")"] for name, of in zip(names["type"], types)]
     first = merged(rng, imports)
-    fields = merged(rng, [first + merged(rng, lists), defined] + [[field] for field in other_fields(rng, names)])
+    fields = merged(rng, [first + merged(rng, lists), defined] + [[field] for field in other_fields(rng, rows, names)])
     return ["(", "module"] + rng.choice([[], ["$m"]]) + [token for field in fields for token in field] + [")"]
 
 
@@ -425,10 +497,10 @@ def shortened(tokens):
     return made
 
 
-def has_use_in_global(tokens):
-    """Whether an instruction of a global has a type use, for which `wat2wasm` does not look."""
-    for at in range(len(tokens)):
-        if tokens[at : at + 2] == ["(", "global"]:
+def has_use_outside(tokens):
+    """Whether an instruction of a global, a segment or a table has a type use, for which `wat2wasm` does not look."""
+    for at in range(len(tokens) - 1):
+        if tokens[at] == "(" and tokens[at + 1] in ("global", "data", "elem", "table"):
             if {"call_indirect", "block", "loop", "if"} & set(tokens[at : after_group(tokens, at)]):
                 return True
     return False
@@ -488,29 +560,98 @@ def has_brought_type(tokens):
     return any(re.fullmatch(r"0x[0-9a-fA-F_]+|[0-9_]+", use) and int(use.replace("_", ""), 16 if use.startswith("0x") else 10) >= fields for use in uses)
 
 
+def has_bare_use(tokens):
+    """Whether a segment says the index of its memory or table without parentheses."""
+    for at in range(len(tokens)):
+        if tokens[at : at + 1] == ["("] and tokens[at + 1 : at + 2] in (["data"], ["elem"]):
+            rest = tokens[at + 2 : at + 4]
+            if rest[:1] and rest[0].startswith("$"):
+                rest = rest[1:]
+            if rest[:1] and re.fullmatch(r"\$.*|0x[0-9a-fA-F_]+|[0-9_]+", rest[0]):
+                return True
+    return False
+
+
+def has_memory_index(tokens):
+    """Whether an instruction says the index of its memory, as proposals after 2.0 allow."""
+    return any((".load" in word or ".store" in word or word in ("memory.size", "memory.grow")) and re.match(r"\$|[0-9]", index) for word, index in zip(tokens, tokens[1:]))
+
+
+def has_two_segments_of_a_name(tokens):
+    """Whether two data segments have one name."""
+    names = [tokens[at + 2] for at in range(len(tokens) - 2) if tokens[at : at + 2] == ["(", "data"] and tokens[at + 2].startswith("$")]
+    return len(set(names)) < len(names)
+
+
+def has_said_table(tokens):
+    """Whether an element segment says its table, and leaves out `func` or its offset."""
+    return any(tokens[at : at + 2] == ["(", "elem"] and tokens[at + 2 : at + 5].count("table") for at in range(len(tokens)))
+
+
+def has_no_list(tokens):
+    """Whether an element segment has nothing in it."""
+    for at in range(len(tokens)):
+        if tokens[at : at + 2] == ["(", "elem"]:
+            rest = tokens[at + 2 : at + 4]
+            if rest[:1] == [")"] or rest[1:2] == [")"] and rest[0].startswith("$"):
+                return True
+    return False
+
+
+def has_more_conditions(tokens):
+    """Whether a folded `if` has more conditions than one."""
+    for at in range(len(tokens)):
+        if tokens[at : at + 2] == ["(", "if"]:
+            count, here = 0, at + 2
+            while here < len(tokens) and tokens[here : here + 2] != ["(", "then"] and tokens[here] != ")":
+                if tokens[here] == "(":
+                    count += tokens[here + 1] not in ("param", "result", "type")
+                    here = after_group(tokens, here)
+                else:
+                    here += 1
+            if count > 1:
+                return True
+    return False
+
+
 # What `wat2wasm` takes and PROGRAM refuses: its message, and what such a text has.
 DEPARTURES = {
     "of an `if` without `then` or `else`, which wat2wasm takes": ("unexpected token", has_bare_part),
     "of a `select` with a type, not read as yet": ("unknown keyword", has_typed_select),
     "of a variable of a reference type, not read as yet": ("unknown keyword", has_reference),
+    "of a use of a type with a reference type, not read as yet": ("unknown identifier", has_reference),
     "of a type use by the number of a type that a use brings, left out": ("unknown identifier", has_brought_type),
     "of a table of numbers, which wat2wasm takes": ("unknown keyword", has_number_table),
     "of limits with a type, which wat2wasm takes": ("unexpected token", has_index_type),
+    "of a segment's memory or table without parentheses, which wat2wasm takes": ("unexpected token", has_bare_use),
+    "of a memory's index in an instruction, which --enable-multi-memory brings": ("unexpected token", has_memory_index),
+    "of a table that is said, without `func` or an offset, which wat2wasm takes": ("unexpected token", has_said_table),
+    "of an element segment with nothing in it, which wat2wasm takes": ("unexpected token", has_no_list),
+    "of two data segments of one name, which wat2wasm takes": ("duplicate identifier", has_two_segments_of_a_name),
 }
+
+# What PROGRAM takes and `wat2wasm` refuses.
+CONDITIONS = "of an `if` with more conditions than one, which wat2wasm refuses"
+STOPPED = "of a segment with a label's name or a type use, at which an assertion of wat2wasm fails"
 
 
 SHORT = "of a block of `(type x)`, which wat2wasm writes short"
-IN_GLOBAL = "of a type use in a global, which wat2wasm does not look for"
+EMPTY = "of an element without instructions, which wat2wasm leaves out"
+OUTSIDE = "of a type use outside of functions, which wat2wasm does not look for"
 
 
 def departure(program, rng, tokens, ours, theirs):
     """The name of the departure that explains these answers, or None."""
+    if ours[0] is not None and theirs[0] is None:
+        if "Assertion" in theirs[1]:
+            return STOPPED
+        return CONDITIONS if has_more_conditions(tokens) and "expected" in theirs[1] else None
     if ours[0] is not None:
         if shortened(tokens) != tokens and answer_of(program, laid(rng, shortened(tokens)))[0] == theirs[0]:
             return SHORT
-        return IN_GLOBAL if has_use_in_global(tokens) else None
-    if theirs[0] is None:
-        return None
+        if has_use_outside(tokens):
+            return OUTSIDE
+        return EMPTY if any(tokens[at : at + 3] == ["(", "item", ")"] for at in range(len(tokens))) else None
     found = (name for name, (message, has) in DEPARTURES.items() if ours[1].startswith(message + "\n") and has(tokens))
     return next(found, None)
 
@@ -528,8 +669,24 @@ def reference(text, room):
     """The bytes that `wat2wasm` makes, or None, and what it says."""
     with open(f"{room}/module.wat", "w", encoding="utf-8") as it:
         it.write(text)
-    ran = subprocess.run(["wat2wasm", "--no-check", f"{room}/module.wat", "--output=-"], capture_output=True, check=False)
+    ran = subprocess.run(["wat2wasm", "--no-check", "--enable-multi-memory", f"{room}/module.wat", "--output=-"], capture_output=True, check=False)
     return (ran.stdout.hex(), "") if ran.returncode == 0 else (None, ran.stderr.decode(errors="replace"))
+
+
+def compare_texts(program, folder):
+    """Compares what is made of the texts of a folder, and answers whether any two differ."""
+    counts, differ = {"same bytes": 0, "both refuse": 0}, []
+    with tempfile.TemporaryDirectory() as room:
+        for path in sorted(pathlib.Path(folder).rglob("*.wat")):
+            text = path.read_text(encoding="utf-8")
+            ours, theirs = answer_of(program, text), reference(text, room)
+            if ours[0] == theirs[0]:
+                counts["both refuse" if ours[0] is None else "same bytes"] += 1
+            else:
+                differ.append(f"{path}: {ours[1] or 'other bytes'}")
+    print(*differ[:20], sep="\n")
+    print(f"compare_modules.py: {folder}: " + "".join(f"{n} {what}, " for what, n in counts.items()) + f"{len(differ)} differ")
+    return bool(differ)
 
 
 def main():
@@ -538,6 +695,7 @@ def main():
     parser.add_argument("--modules", type=int, default=200)
     parser.add_argument("--mutants", type=int, default=400)
     parser.add_argument("--seed", type=int, default=1)
+    parser.add_argument("--texts", help="a folder with texts, which are compared in the place of made ones")
     parser.add_argument("--show", action="store_true", help="shows each text that a known departure explains")
     parser.add_argument("--write", type=int, help="writes a module of so many functions, and compares nothing")
     parser.add_argument("--named", action="store_true", help="each of these has a name")
@@ -545,6 +703,8 @@ def main():
     given = parser.parse_args()
     if not given.write and not given.program:
         parser.error("PROGRAM is not given")
+    if given.texts:
+        sys.exit(compare_texts(given.program, given.texts))
     rng = random.Random(given.seed)
     with open(TABLE, encoding="utf-8") as it:
         rows = ROW.findall(it.read())
@@ -562,13 +722,13 @@ def main():
         if tokens and not has_empty_else(tokens):
             texts.append((True, tokens))
     texts = [(mutant, tokens, laid(rng, tokens)) for mutant, tokens in texts]
-    counts, differ = {"same bytes": 0, "both refuse": 0, **{name: 0 for name in (*DEPARTURES, SHORT, IN_GLOBAL)}}, []
+    counts, differ = {"same bytes": 0, "both refuse": 0, CONDITIONS: 0, STOPPED: 0, **{name: 0 for name in (*DEPARTURES, SHORT, OUTSIDE, EMPTY)}}, []
     with tempfile.TemporaryDirectory() as room:
         for mutant, tokens, text in texts:
             ours, theirs = answer_of(given.program, text), reference(text, room)
             if ours[0] == theirs[0] and (mutant or ours[0]):
                 counts["both refuse" if ours[0] is None else "same bytes"] += 1
-            elif (explained := departure(given.program, rng, tokens, ours, theirs)) and (mutant or explained == SHORT):
+            elif (explained := departure(given.program, rng, tokens, ours, theirs)) and (mutant or explained in (SHORT, STOPPED)):
                 counts[explained] += 1
                 if given.show:
                     print(f"--- {explained}", text, f"ours:   {ours[1]}", sep="\n")

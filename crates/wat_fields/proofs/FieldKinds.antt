@@ -5,30 +5,26 @@ use Rattle.std.specs.Str.{is_utf8}
 use Rattle.wat_instructions.specs.declared.pieces.FaultKind.TheVariants.{UnknownWord, Duplicate, NotUtf8, OtherType}
 use Rattle.wat_instructions.specs.declared.pieces.Instruction.{Instruction}
 use Rattle.wat_instructions.specs.Grammar.{Context, Body, index, label_of}
-use Rattle.wat_instructions.specs.Law.{InstructionsAreBalanced, InstructionsTakeTokens, MachineIsGrammar, past}
+use Rattle.wat_instructions.specs.Law.{past}
 use Rattle.wat_instructions.specs.Machine as machine
 use Rattle.wat_instructions.specs.Terminals.{Terminal, Open, Close, Word, Id, Integer, Text, Float, Other, Label}
 use Rattle.wat_fields.specs.declared.fields.IndexSpace.{IndexSpace}
 use Rattle.wat_fields.specs.declared.fields.IndexSpace.TheVariants as space
 use Rattle.wat_fields.specs.declared.fields.TableType.{TableType}
 use Rattle.wat_instructions.specs.Types.{FunctionType, Types, same_type}
-use Rattle.wat_fields.specs.Fields.{Many, Group, InlineExport, IndexIs, by_number, by_identifier, LimitsAre, TypeUseIs, by_lists, by_index, by_both, ExternIs, by_type_use, by_table_type, by_memory_type, by_global_type, Variable, TypeUse, type_use, function_type, ExternType, FuncType, OfTable, OfMemory, OfGlobal, extern_space, Definition, definition, Field, TypeField, Import, Func, Table, Memory, Global, Export, Start, FieldIs, by_type, by_import, by_inline_import, by_func, by_table, by_memory, by_global, by_export, by_start, name_of, names_of, unnamed, with_locals, space_of}
+use Rattle.wat_fields.specs.declared.fields.ReferenceType.{ReferenceType}
+use Rattle.wat_fields.specs.declared.fields.ReferenceType.TheVariants as reference
+use Rattle.wat_fields.specs.Fields.{Many, Group, InlineExport, IndexIs, by_number, by_identifier, LimitsAre, TypeUseIs, by_lists, by_index, by_both, ExternIs, by_type_use, by_table_type, by_memory_type, by_global_type, Variable, TypeUse, type_use, function_type, ExternType, FuncType, OfTable, OfMemory, OfGlobal, extern_space, Definition, definition, Field, TypeField, Import, Func, Table, Memory, Global, Export, Start, FieldIs, by_type, by_import, by_inline_import, by_func, by_table, by_memory, by_global, by_export, by_start, name_of, names_of, unnamed, with_locals, space_of, Data, StringIs, target, Elem, Passive, Active, Declarative, Elements, table_of, is_u32, reference_type, by_table_items, by_table_functions, by_passive_elem, by_declarative_elem, by_active_elem, by_function_elem, by_memory_data, by_passive_data, by_active_data}
 use Rattle.wat_instructions.specs.Names.{are_distinct}
-use Rattle.wat_fields.specs.Reading.{and_then, after, all, closed, closing, utf8_text, export, export_item, group_item, group, function, func_at, locals, instructions, agreed, lists_after, listed_use, indexed_use, use_by, use_at, limits_at, table_type_at, table_at, memory_at, global_type_at, global_at, defined, import_names, func_type, extern_at, imported, inline_import, item_by, item_at, import_by, import_word, import_open, import_at, type_by, type_at, type_field, twice_closed, external_by, external_word, external_at, export_at, start_at, field_by, field, field_item}
+use Rattle.wat_fields.specs.Reading.{and_then, after, all, closed, closing, utf8_text, export, export_item, group_item, group, function, func_at, locals, instructions, agreed, lists_after, listed_use, indexed_use, use_by, use_at, limits_at, table_type_at, table_limits, table_open, table_by, table_at, elem_at, memory_type, memory_by, memory_at, segment_at, data_at, global_type_at, global_at, defined, import_names, func_type, extern_at, imported, inline_import, item_by, item_at, import_by, import_word, import_open, import_at, type_by, type_at, type_field, twice_closed, external_by, external_word, external_at, export_at, start_at, field_by, field, field_item}
 use Rattle.wat_fields.proofs.FunctionTypes.{type_is, type_same}
 use Rattle.wat_fields.proofs.Headers.{Ends, IsNoInstruction, Listed, NoLists, lists_sound, lists_complete, ends_lists, ends_groups, ends_body, item_ends, other_word, export_is_none, import_is_none, type_is_none, param_is_none, result_is_none, local_is_none}
-use Rattle.wat_fields.proofs.Items.{exports_read, export_past, groups_read, group_past, group_takes, word_is, closing_inv, closed_is, utf8_inv, Finds, begins, after_is}
+use Rattle.wat_fields.proofs.Items.{exports_read, export_past, groups_read, group_past, group_takes, word_is, closing_inv, closed_is, utf8_inv, begins, after_is}
 use Rattle.wat_fields.proofs.Manies.{Gives, gives_of, of_gives, and_then_inv, Brings, Reads, all_sound, all_complete, many_takes, many_past}
-use Rattle.wat_fields.proofs.TypeRules.{Passes, IsTableType, limits_sound, limits_complete, limits_pass, limits_no_export, limits_no_import, table_type_sound, table_type_complete, table_type_pass, global_type_sound, global_type_complete, global_type_pass, global_type_no_export, global_type_no_import, index_sound, index_complete, index_pass, twice_closed_is}
-
--- what holds of instructions
-pub record Laws : Type 0 where
-  pub same : MachineIsGrammar
-  pub balanced : InstructionsAreBalanced
-  pub taken : InstructionsTakeTokens
-
-finds_of : (o : Option (List Terminal)) (ts : List Terminal) → o ≡ Some ts → Finds o ts
-finds_of o ts e = subst (λ x. Finds x ts) (sym e) refl
+pub use Rattle.wat_fields.proofs.SegmentKinds.{Laws}
+use Rattle.wat_fields.proofs.ElementKinds.{Elems, of_items, of_functions, elem_sound, table_elements_sound, table_word_complete, limits_first, either_items, either_functions, items_keep, functions_keep, elements_keep, passive_elem_complete, declarative_elem_complete, active_elem_complete, function_elem_complete}
+use Rattle.wat_fields.proofs.SegmentKinds.{Keeps, finds_of, data_sound, passive_complete, active_complete, memory_data_sound, memory_data_complete, strings_keep, used_keeps, expression_keeps}
+use Rattle.wat_fields.proofs.TypeRules.{Passes, IsTableType, limits_sound, limits_complete, limits_pass, limits_no_export, limits_no_import, limits_no_data, table_type_sound, table_type_complete, table_type_pass, global_type_sound, global_type_complete, global_type_pass, global_type_no_export, global_type_no_import, index_sound, index_complete, index_pass, twice_closed_is}
 
 -- Type uses.
 
@@ -102,11 +98,6 @@ use_complete types _ _ us (by_index {w = w} {ts = ts} {us = hs} {vs = bs} {i = i
     indexed_complete types w ts hs i t _ us e k s (lists_complete (λ ps rs ws. agreed i t ps rs ts ws) hs [] [] us (record { bs = bs; params = a; results = b }) n.lists)
 use_complete types _ _ us (by_both {w = w} {ts = ts} {us = hs} {vs = bs} {i = i} {params = ps} {results = rs} e k s a b) n =
     indexed_complete types w ts hs i (function_type ps rs) _ us e k s (lists_complete (λ ps' rs' ws. agreed i (function_type ps rs) ps' rs' ts ws) hs ps rs us (record { bs = bs; params = a; results = b }) n.lists ∙ agreed_both i ps rs ts us)
-
--- these tokens are at least as many, and open and close nothing
-record Keeps (ts us : List Terminal) : Type 0 where
-  short : length us ≤ length ts
-  same : (d : ℕ) → past d ts ≡ past d us
 
 lists_keep : (ps rs : List Variable) (ts us : List Terminal) → Listed ps rs ts us → Keeps ts us
 lists_keep ps rs ts us k =
@@ -224,19 +215,58 @@ func_sound laws types context w ts ns hs fs r e m g =
     let k = (all_sound (group_item (codes "local") true) (Group (codes "local") true) (groups_read (codes "local") true) ls bs ds e2).0 in
     subst (λ x. FieldIs types context (Open ∷ Word w ∷ ts) fs x) g3.1 (subst (λ x. FieldIs types context (Open ∷ Word w ∷ ts) x us) g3.0 (by_func e m (use_sound types hs u bs (gives_of _ u bs e1)) k b.0 b.1))
 
-table_sound : (types : Types) (context : Context) (w : List ℕ) (ts : List Terminal) (ns : List (List ℕ)) (hs : List Terminal) (fs : List Field) (r : List Terminal) → w ≡ codes "table" → Many InlineExport (label_of ts).1 ns hs → Gives (table_at (label_of ts).0 ns hs) fs r → FieldIs types context (Open ∷ Word w ∷ ts) fs r
-table_sound types context w ts ns hs fs r e m g =
+table_limits_sound : (types : Types) (context : Context) (w : List ℕ) (ts : List Terminal) (ns : List (List ℕ)) (hs : List Terminal) (fs : List Field) (r : List Terminal) → w ≡ codes "table" → Many InlineExport (label_of ts).1 ns hs → Gives (table_limits (label_of ts).0 ns hs) fs r → FieldIs types context (Open ∷ Word w ∷ ts) fs r
+table_limits_sound types context w ts ns hs fs r e m g =
     let l = (label_of ts).0 in
-    let (t, bs, e1, g1) = and_then_inv (table_type_at hs) (λ t us. closing (Table l ns t ∷ []) (closed us)) fs r g in
-    let (same, shut) = closing_inv (Table l ns t ∷ []) fs (closed bs) r g1 in
+    let (t, bs, e1, g1) = and_then_inv (table_type_at hs) (λ t us. closing (Table l ns t None ∷ []) (closed us)) fs r g in
+    let (same, shut) = closing_inv (Table l ns t None ∷ []) fs (closed bs) r g1 in
     let k = table_type_sound hs t bs (gives_of _ t bs e1) in subst (λ x. FieldIs types context (Open ∷ Word w ∷ ts) x r) same (by_table e m (subst (λ x. LimitsAre hs t.limits (Word k.v ∷ x)) (closed_is bs r shut) k.limits) k.element)
 
-memory_sound : (types : Types) (context : Context) (w : List ℕ) (ts : List Terminal) (ns : List (List ℕ)) (hs : List Terminal) (fs : List Field) (r : List Terminal) → w ≡ codes "memory" → Many InlineExport (label_of ts).1 ns hs → Gives (memory_at (label_of ts).0 ns hs) fs r → FieldIs types context (Open ∷ Word w ∷ ts) fs r
-memory_sound types context w ts ns hs fs r e m g =
+brought_sound : (types : Types) (context : Context) (w u v : List ℕ) (ts : List Terminal) (ns : List (List ℕ)) (xs : List Terminal) (t : ReferenceType) (es : Elements) (r : List Terminal) → w ≡ codes "table" → Many InlineExport (label_of ts).1 ns (Word u ∷ Open ∷ Word v ∷ xs) → reference_type u ≡ Some t → v ≡ codes "elem" → Elems context xs es (Close ∷ Close ∷ r) → is_u32 (length es) ≡ true
+    → FieldIs types context (Open ∷ Word w ∷ ts) (Table (label_of ts).0 ns (table_of t es) (Some es) ∷ []) r
+brought_sound types context w u v ts ns xs t es r e m k b (of_items x) low = by_table_items e m k b x low
+brought_sound types context w u v ts ns xs t es r e m k b (of_functions x) low = by_table_functions e m k b x low
+
+table_open_sound : Laws → (types : Types) (context : Context) (w u : List ℕ) (ts : List Terminal) (ns : List (List ℕ)) (hs : List Terminal) (fs : List Field) (r : List Terminal) (t : ReferenceType) (o : Option (List Terminal)) → w ≡ codes "table" → Many InlineExport (label_of ts).1 ns (Word u ∷ hs) → reference_type u ≡ Some t → after (codes "elem") hs ≡ o
+    → Gives (table_open context (label_of ts).0 ns t o hs) fs r → FieldIs types context (Open ∷ Word w ∷ ts) fs r
+table_open_sound laws types context w u ts ns hs fs r t None e m k a g = absurd g
+table_open_sound laws types context w u ts ns hs fs r t (Some xs) e m k a g =
+    let b = begins (codes "elem") hs xs (finds_of (after (codes "elem") hs) xs a) in
+    let d = table_elements_sound laws context (label_of ts).0 ns t xs fs r g in
+    subst (λ x. FieldIs types context (Open ∷ Word w ∷ ts) x r) d.is (brought_sound types context w u b.spelled ts ns xs t d.es r e (subst (λ x. Many InlineExport (label_of ts).1 ns (Word u ∷ x)) b.is m) k b.same d.list d.low)
+
+table_by_sound : Laws → (types : Types) (context : Context) (w u : List ℕ) (ts : List Terminal) (ns : List (List ℕ)) (hs : List Terminal) (fs : List Field) (r : List Terminal) (o : Option ReferenceType) → w ≡ codes "table" → Many InlineExport (label_of ts).1 ns (Word u ∷ hs) → reference_type u ≡ o
+    → Gives (table_by context (label_of ts).0 ns o (Word u ∷ hs) hs) fs r → FieldIs types context (Open ∷ Word w ∷ ts) fs r
+table_by_sound laws types context w u ts ns hs fs r None e m k g = absurd g
+table_by_sound laws types context w u ts ns hs fs r (Some t) e m k g = table_open_sound laws types context w u ts ns hs fs r t (after (codes "elem") hs) e m k refl g
+
+table_sound : Laws → (types : Types) (context : Context) (w : List ℕ) (ts : List Terminal) (ns : List (List ℕ)) (hs : List Terminal) (fs : List Field) (r : List Terminal) → w ≡ codes "table" → Many InlineExport (label_of ts).1 ns hs → Gives (table_at context (label_of ts).0 ns hs) fs r → FieldIs types context (Open ∷ Word w ∷ ts) fs r
+unfolding table_at
+table_sound laws types context w ts ns (Word u ∷ hs) fs r e m g = table_by_sound laws types context w u ts ns hs fs r (reference_type u) e m refl g
+table_sound laws types context w ts ns [] fs r e m g = table_limits_sound types context w ts ns [] fs r e m g
+table_sound laws types context w ts ns (Open ∷ hs) fs r e m g = table_limits_sound types context w ts ns (Open ∷ hs) fs r e m g
+table_sound laws types context w ts ns (Close ∷ hs) fs r e m g = table_limits_sound types context w ts ns (Close ∷ hs) fs r e m g
+table_sound laws types context w ts ns (Id x ∷ hs) fs r e m g = table_limits_sound types context w ts ns (Id x ∷ hs) fs r e m g
+table_sound laws types context w ts ns (Integer s n ∷ hs) fs r e m g = table_limits_sound types context w ts ns (Integer s n ∷ hs) fs r e m g
+table_sound laws types context w ts ns (Text v ∷ hs) fs r e m g = table_limits_sound types context w ts ns (Text v ∷ hs) fs r e m g
+table_sound laws types context w ts ns (Float narrow wide ∷ hs) fs r e m g = table_limits_sound types context w ts ns (Float narrow wide ∷ hs) fs r e m g
+table_sound laws types context w ts ns (Other ∷ hs) fs r e m g = table_limits_sound types context w ts ns (Other ∷ hs) fs r e m g
+
+memory_type_sound : (types : Types) (context : Context) (w : List ℕ) (ts : List Terminal) (ns : List (List ℕ)) (hs : List Terminal) (fs : List Field) (r : List Terminal) → w ≡ codes "memory" → Many InlineExport (label_of ts).1 ns hs → Gives (memory_type (label_of ts).0 ns hs) fs r → FieldIs types context (Open ∷ Word w ∷ ts) fs r
+memory_type_sound types context w ts ns hs fs r e m g =
     let l = (label_of ts).0 in
-    let (limits, bs, e1, g1) = and_then_inv (limits_at hs) (λ limits us. closing (Memory l ns limits ∷ []) (closed us)) fs r g in
-    let (same, shut) = closing_inv (Memory l ns limits ∷ []) fs (closed bs) r g1 in
+    let (limits, bs, e1, g1) = and_then_inv (limits_at hs) (λ limits us. closing (Memory l ns limits None ∷ []) (closed us)) fs r g in
+    let (same, shut) = closing_inv (Memory l ns limits None ∷ []) fs (closed bs) r g1 in
     subst (λ x. FieldIs types context (Open ∷ Word w ∷ ts) x r) same (by_memory e m (subst (λ x. LimitsAre hs limits x) (closed_is bs r shut) (limits_sound hs limits bs e1)))
+
+memory_sound : (types : Types) (context : Context) (w : List ℕ) (ts : List Terminal) (ns : List (List ℕ)) (hs : List Terminal) (fs : List Field) (r : List Terminal) → w ≡ codes "memory" → Many InlineExport (label_of ts).1 ns hs → Gives (memory_at (label_of ts).0 ns hs) fs r → FieldIs types context (Open ∷ Word w ∷ ts) fs r
+memory_sound types context w ts ns hs fs r e m g = by (after (codes "data") hs) refl g
+  where
+    by : (o : Option (List Terminal)) → after (codes "data") hs ≡ o → Gives (memory_by (label_of ts).0 ns o hs) fs r → FieldIs types context (Open ∷ Word w ∷ ts) fs r
+    by None k h = memory_type_sound types context w ts ns hs fs r e m h
+    by (Some xs) k h =
+        let b = begins (codes "data") hs xs (finds_of (after (codes "data") hs) xs k) in
+        let d = memory_data_sound (label_of ts).0 ns xs fs r h in subst (λ x. FieldIs types context (Open ∷ Word w ∷ ts) x r) d.is (by_memory_data e (subst (λ x. Many InlineExport (label_of ts).1 ns x) b.is m) b.same d.strings d.low)
 
 global_sound : Laws → (types : Types) (context : Context) (w : List ℕ) (ts : List Terminal) (ns : List (List ℕ)) (hs : List Terminal) (fs : List Field) (r : List Terminal) → w ≡ codes "global" → Many InlineExport (label_of ts).1 ns hs → Gives (global_at context (label_of ts).0 ns hs) fs r → FieldIs types context (Open ∷ Word w ∷ ts) fs r
 global_sound laws types context w ts ns hs fs r e m g =
@@ -322,7 +352,7 @@ space_words w = space_by w (bytes_eq w (codes "func")) (bytes_eq w (codes "table
 
 defined_sound : Laws → (types : Types) (context : Context) (s : IndexSpace) (w : List ℕ) (ts : List Terminal) (ns : List (List ℕ)) (hs : List Terminal) (fs : List Field) (r : List Terminal) → IsSpaceWord w (Some s) → Many InlineExport (label_of ts).1 ns hs → Gives (defined types context s (label_of ts).0 ns hs) fs r → FieldIs types context (Open ∷ Word w ∷ ts) fs r
 defined_sound laws types context space.Func w ts ns hs fs r k m g = func_sound laws types context w ts ns hs fs r (k.func refl) m g
-defined_sound laws types context space.Table w ts ns hs fs r k m g = table_sound types context w ts ns hs fs r (k.table refl) m g
+defined_sound laws types context space.Table w ts ns hs fs r k m g = table_sound laws types context w ts ns hs fs r (k.table refl) m g
 defined_sound laws types context space.Mem w ts ns hs fs r k m g = memory_sound types context w ts ns hs fs r (k.memory refl) m g
 defined_sound laws types context space.Global w ts ns hs fs r k m g = global_sound laws types context w ts ns hs fs r (k.global refl) m g
 
@@ -425,17 +455,25 @@ type_field_sound types context w ts fs r e g =
     subst (λ x. FieldIs types context (Open ∷ Word w ∷ ts) fs x) g1.1
     (subst (λ x. FieldIs types context (Open ∷ Word w ∷ ts) x us) g1.0 (subst (λ (x : Definition). FieldIs types context (Open ∷ Word w ∷ ts) (TypeField x.name x.type ∷ []) us) k.is f))
 
-other_sound : (types : Types) (context : Context) (w : List ℕ) (ts : List Terminal) (fs : List Field) (r : List Terminal) (a c d b : Bool) → bytes_eq w (codes "type") ≡ a → bytes_eq w (codes "import") ≡ c → bytes_eq w (codes "export") ≡ d → bytes_eq w (codes "start") ≡ b
-    → Gives (if a then type_field ts else if c then import_at types ts else if d then export_at context ts else if b then start_at context ts else Err (UnknownWord, Word w ∷ ts)) fs r → FieldIs types context (Open ∷ Word w ∷ ts) fs r
-other_sound types context w ts fs r true c d b e f h k g = type_field_sound types context w ts fs r (word_is w (codes "type") e) g
-other_sound types context w ts fs r false true d b e f h k g = import_sound types context w ts fs r (word_is w (codes "import") f) g
-other_sound types context w ts fs r false false true b e f h k g = export_sound types context w ts fs r (word_is w (codes "export") h) g
-other_sound types context w ts fs r false false false true e f h k g = start_sound types context w ts fs r (word_is w (codes "start") k) g
-other_sound types context w ts fs r false false false false e f h k g = absurd g
+elem_by_sound : Laws → (types : Types) (context : Context) (w : List ℕ) (ts : List Terminal) (fs : List Field) (r : List Terminal) (a : Bool) → bytes_eq w (codes "elem") ≡ a → Gives (if a then elem_at context (label_of ts) else Err (UnknownWord, Word w ∷ ts)) fs r → FieldIs types context (Open ∷ Word w ∷ ts) fs r
+elem_by_sound laws types context w ts fs r true e g = elem_sound laws types context w ts fs r (word_is w (codes "elem") e) g
+elem_by_sound laws types context w ts fs r false e g = absurd g
+
+segment_sound : Laws → (types : Types) (context : Context) (w : List ℕ) (ts : List Terminal) (fs : List Field) (r : List Terminal) (a : Bool) → bytes_eq w (codes "data") ≡ a → Gives (if a then data_at context (label_of ts) else if bytes_eq w (codes "elem") then elem_at context (label_of ts) else Err (UnknownWord, Word w ∷ ts)) fs r → FieldIs types context (Open ∷ Word w ∷ ts) fs r
+segment_sound laws types context w ts fs r true e g = data_sound laws types context w ts fs r (word_is w (codes "data") e) g
+segment_sound laws types context w ts fs r false e g = elem_by_sound laws types context w ts fs r (bytes_eq w (codes "elem")) refl g
+
+other_sound : Laws → (types : Types) (context : Context) (w : List ℕ) (ts : List Terminal) (fs : List Field) (r : List Terminal) (a c d b : Bool) → bytes_eq w (codes "type") ≡ a → bytes_eq w (codes "import") ≡ c → bytes_eq w (codes "export") ≡ d → bytes_eq w (codes "start") ≡ b
+    → Gives (if a then type_field ts else if c then import_at types ts else if d then export_at context ts else if b then start_at context ts else segment_at context w (Word w ∷ ts) ts) fs r → FieldIs types context (Open ∷ Word w ∷ ts) fs r
+other_sound laws types context w ts fs r true c d b e f h k g = type_field_sound types context w ts fs r (word_is w (codes "type") e) g
+other_sound laws types context w ts fs r false true d b e f h k g = import_sound types context w ts fs r (word_is w (codes "import") f) g
+other_sound laws types context w ts fs r false false true b e f h k g = export_sound types context w ts fs r (word_is w (codes "export") h) g
+other_sound laws types context w ts fs r false false false true e f h k g = start_sound types context w ts fs r (word_is w (codes "start") k) g
+other_sound laws types context w ts fs r false false false false e f h k g = segment_sound laws types context w ts fs r (bytes_eq w (codes "data")) refl g
 
 word_sound : Laws → (types : Types) (context : Context) (w : List ℕ) (ts : List Terminal) (fs : List Field) (r : List Terminal) (o : Option IndexSpace) → space_of w ≡ o → Gives (field_by types context o w (Word w ∷ ts) ts) fs r → FieldIs types context (Open ∷ Word w ∷ ts) fs r
 word_sound laws types context w ts fs r (Some s) e g = item_sound laws types context s w ts fs r e g
-word_sound laws types context w ts fs r None e g = other_sound types context w ts fs r (bytes_eq w (codes "type")) (bytes_eq w (codes "import")) (bytes_eq w (codes "export")) (bytes_eq w (codes "start")) refl refl refl refl g
+word_sound laws types context w ts fs r None e g = other_sound laws types context w ts fs r (bytes_eq w (codes "type")) (bytes_eq w (codes "import")) (bytes_eq w (codes "export")) (bytes_eq w (codes "start")) refl refl refl refl g
 
 open_sound : Laws → (types : Types) (context : Context) (ts : List Terminal) (fs : List Field) (r : List Terminal) → Gives (field types context ts) fs r → FieldIs types context (Open ∷ ts) fs r
 open_sound laws types context (Word w ∷ ts) fs r h = word_sound laws types context w ts fs r (space_of w) refl h
@@ -547,15 +585,26 @@ field_complete laws types context _ _ r (by_table {w = w} {v = v} {ts = ts} {hs 
     let l = (label_of ts).0 in
     let of : TableType = record { limits = limits; element = t } in
     let k : IsTableType hs of (Close ∷ r) = record { v = v; limits = b; element = c } in
-    brings_item types context space.Table w ts ns hs (Table l ns of ∷ []) r (ap space_of e) a (limits_no_export hs limits (Word v ∷ Close ∷ r) b)
+    brings_item types context space.Table w ts ns hs (Table l ns of None ∷ []) r (ap space_of e) a (limits_no_export hs limits (Word v ∷ Close ∷ r) b)
     (
-    ap (λ o. item_by types context space.Table l ns o hs) (limits_no_import hs limits (Word v ∷ Close ∷ r) b) ∙ ap (λ q. and_then q (λ t us. closing (Table l ns t ∷ []) (closed us))) (table_type_complete hs of (Close ∷ r) k)
+    ap (λ o. item_by types context space.Table l ns o hs) (limits_no_import hs limits (Word v ∷ Close ∷ r) b) ∙ limits_first context l ns hs limits (Word v ∷ Close ∷ r) b ∙ ap (λ q. and_then q (λ t us. closing (Table l ns t None ∷ []) (closed us))) (table_type_complete hs of (Close ∷ r) k)
     )
+field_complete laws types context _ _ r (by_table_items {w = w} {u = u} {v = v} {ts = ts} {hs = hs} {names = ns} {t = t} {es = es} e a k b m low) =
+    brings_item types context space.Table w ts ns (Word u ∷ Open ∷ Word v ∷ hs) _ r (ap space_of e) a (no_export (Word u ∷ Open ∷ Word v ∷ hs) refl) (table_word_complete context (label_of ts).0 ns u v hs t es r k b (either_items laws context hs es r m) low)
+field_complete laws types context _ _ r (by_table_functions {w = w} {u = u} {v = v} {ts = ts} {hs = hs} {names = ns} {t = t} {es = es} e a k b m low) =
+    brings_item types context space.Table w ts ns (Word u ∷ Open ∷ Word v ∷ hs) _ r (ap space_of e) a (no_export (Word u ∷ Open ∷ Word v ∷ hs) refl) (table_word_complete context (label_of ts).0 ns u v hs t es r k b (either_functions context hs es r m) low)
 field_complete laws types context _ _ r (by_memory {w = w} {ts = ts} {hs = hs} {names = ns} {limits = limits} e a b) =
     let l = (label_of ts).0 in
-    brings_item types context space.Mem w ts ns hs (Memory l ns limits ∷ []) r (ap space_of e) a (limits_no_export hs limits (Close ∷ r) b)
+    brings_item types context space.Mem w ts ns hs (Memory l ns limits None ∷ []) r (ap space_of e) a (limits_no_export hs limits (Close ∷ r) b)
     (
-    ap (λ o. item_by types context space.Mem l ns o hs) (limits_no_import hs limits (Close ∷ r) b) ∙ ap (λ q. and_then q (λ limits us. closing (Memory l ns limits ∷ []) (closed us))) (limits_complete hs limits (Close ∷ r) b (λ n. refl))
+    ap (λ o. item_by types context space.Mem l ns o hs) (limits_no_import hs limits (Close ∷ r) b) ∙ ap (λ o. memory_by l ns o hs) (limits_no_data hs limits (Close ∷ r) b)
+    ∙ ap (λ q. and_then q (λ limits us. closing (Memory l ns limits None ∷ []) (closed us))) (limits_complete hs limits (Close ∷ r) b (λ n. refl))
+    )
+field_complete laws types context _ _ r (by_memory_data {w = w} {v = v} {ts = ts} {hs = hs} {names = ns} {bytes = bytes} e a k m low) =
+    let l = (label_of ts).0 in
+    brings_item types context space.Mem w ts ns (Open ∷ Word v ∷ hs) _ r (ap space_of e) a (no_export _ (other_word (codes "export") (codes "data") v hs refl k))
+    (
+    ap (λ o. item_by types context space.Mem l ns o (Open ∷ Word v ∷ hs)) (other_word (codes "import") (codes "data") v hs refl k) ∙ ap (λ o. memory_by l ns o (Open ∷ Word v ∷ hs)) (after_is (codes "data") v hs k) ∙ memory_data_complete l ns hs bytes r m low
     )
 field_complete laws types context _ _ r (by_global {w = w} {ts = ts} {hs = hs} {bs = bs} {names = ns} {t = t} {is = is} e a b k) =
     let l = (label_of ts).0 in
@@ -566,6 +615,16 @@ field_complete laws types context _ _ r (by_global {w = w} {ts = ts} {hs = hs} {
     )
 field_complete laws types context _ _ r (by_export {w = w} {n = n} {v = v} {ts = ts} {s = s} {i = i} e u k f) = external_complete types context w n v ts s i r e u k f
 field_complete laws types context _ _ r (by_start {w = w} {ts = ts} {i = i} e f) = brings_word types context w (codes "start") ts (Start i ∷ []) r e (ap (λ q. and_then q (λ i us. closing (Start i ∷ []) (closed us))) (index_complete context.funcs ts i (Close ∷ r) f))
+field_complete laws types context _ _ r (by_passive_elem {w = w} {ts = ts} {t = t} {es = es} e k) = brings_word types context w (codes "elem") ts (Elem (label_of ts).0 Passive t es ∷ []) r e (passive_elem_complete laws context (label_of ts).0 (label_of ts).1 t es r k)
+field_complete laws types context _ _ r (by_declarative_elem {w = w} {v = v} {ts = ts} {ds = ds} {t = t} {es = es} e o d k) =
+    brings_word types context w (codes "elem") ts (Elem (label_of ts).0 Declarative t es ∷ []) r e (declarative_elem_complete laws context (label_of ts).0 (label_of ts).1 v ds t es r o d k)
+field_complete laws types context _ _ r (by_active_elem {w = w} {ts = ts} {os = os} {bs = bs} {i = i} {is = is} {t = t} {es = es} e u x k) =
+    brings_word types context w (codes "elem") ts (Elem (label_of ts).0 (Active (target i is)) t es ∷ []) r e (active_elem_complete laws context (label_of ts).0 (label_of ts).1 os bs i is t es r u x k)
+field_complete laws types context _ _ r (by_function_elem {w = w} {ts = ts} {bs = bs} {is = is} {es = es} e x k) =
+    brings_word types context w (codes "elem") ts (Elem (label_of ts).0 (Active (target 0 is)) reference.Func es ∷ []) r e (function_elem_complete laws context (label_of ts).0 (label_of ts).1 bs is es r x k)
+field_complete laws types context _ _ r (by_passive_data {w = w} {ts = ts} {bytes = bytes} e m) = brings_word types context w (codes "data") ts (Data (label_of ts).0 None bytes ∷ []) r e (passive_complete context ts bytes r m)
+field_complete laws types context _ _ r (by_active_data {w = w} {ts = ts} {os = os} {bs = bs} {i = i} {is = is} {bytes = bytes} e u o m) =
+    brings_word types context w (codes "data") ts (Data (label_of ts).0 (Some (target i is)) bytes ∷ []) r e (active_complete laws context ts os bs i is bytes r u o m)
 
 -- What a field takes.
 
@@ -643,6 +702,22 @@ locals_close laws context bs ds ls is r m b =
     let v = many_takes (Group (codes "local") true) (group_takes (codes "local") true) bs ls ds m in
     let c = body_closes laws context ds is r b in let s = c.short in record { short = omega arith; same = many_past (Group (codes "local") true) 0 (group_past (codes "local") true 0) bs ls ds m ∙ c.same }
 
+strings_close : (ts : List Terminal) (bytes : List ℕ) (r : List Terminal) → Many StringIs ts bytes (Close ∷ r) → Closes ts r
+strings_close ts bytes r m = let k = strings_keep ts bytes (Close ∷ r) m in let s = k.short in record { short = omega arith; same = k.same 0 }
+
+memory_data_closes : (v : List ℕ) (ts : List Terminal) (bytes : List ℕ) (r : List Terminal) → Many StringIs ts bytes (Close ∷ Close ∷ r) → Closes (Open ∷ Word v ∷ ts) r
+memory_data_closes v ts bytes r m = let k = strings_keep ts bytes (Close ∷ Close ∷ r) m in let s = k.short in record { short = omega arith; same = k.same 1 }
+
+-- a `)` after tokens
+kept_now : (ts r : List Terminal) → Keeps ts (Close ∷ r) → Closes ts r
+kept_now ts r k = let s = k.short in record { short = omega arith; same = k.same 0 }
+
+kept_word : (v : List ℕ) (ts r : List Terminal) → Keeps ts (Close ∷ r) → Closes (Word v ∷ ts) r
+kept_word v ts r k = let s = k.short in record { short = omega arith; same = k.same 0 }
+
+brought_closes : (u v : List ℕ) (ts r : List Terminal) → Keeps ts (Close ∷ Close ∷ r) → Closes (Word u ∷ Open ∷ Word v ∷ ts) r
+brought_closes u v ts r k = let s = k.short in record { short = omega arith; same = k.same 1 }
+
 pub field_after : Laws → (types : Types) (context : Context) (ts : List Terminal) (fs : List Field) (r : List Terminal) → FieldIs types context ts fs r → After ts r
 field_after laws types context _ _ r (by_type {w = w} {v = v} {ts = ts} {hs = hs} {bs = bs} {params = ps} {results = rs} e o k a b) = record { w = w; us = ts; is = refl; closes = subst (λ x. Closes x r) (sym o) (type_closes v hs bs r ps rs a b) }
 field_after laws types context _ _ r (by_import {w = w} {m = m} {n = n} {v = v} {ts = ts} {s = s} {t = t} e a b k x) = record { w = w; us = Text m ∷ Text n ∷ Open ∷ Word v ∷ ts; is = refl; closes = import_closes types s m n v ts t r x }
@@ -652,12 +727,26 @@ field_after laws types context _ _ r (by_func {w = w} {ts = ts} {hs = hs} {bs = 
     record { w = w; us = ts; is = refl; closes = exports_pass (label_of ts).1 ns hs r a (kept_to hs bs r (use_keeps types hs u bs b) (locals_close laws (with_locals context (u.params ++ ls)) bs ds ls is r c k)) }
 field_after laws types context _ _ r (by_table {w = w} {v = v} {ts = ts} {hs = hs} {names = ns} {limits = limits} {t = t} e a b c) =
     record { w = w; us = ts; is = refl; closes = exports_pass (label_of ts).1 ns hs r a (on_to hs (Word v ∷ Close ∷ r) r (limits_pass hs limits (Word v ∷ Close ∷ r) b) (reference_now v r)) }
+field_after laws types context _ _ r (by_table_items {w = w} {u = u} {v = v} {ts = ts} {hs = hs} {names = ns} {es = es} e a k b m low) =
+    record { w = w; us = ts; is = refl; closes = exports_pass (label_of ts).1 ns (Word u ∷ Open ∷ Word v ∷ hs) r a (brought_closes u v hs r (items_keep laws context hs es (Close ∷ Close ∷ r) m)) }
+field_after laws types context _ _ r (by_table_functions {w = w} {u = u} {v = v} {ts = ts} {hs = hs} {names = ns} {es = es} e a k b m low) =
+    record { w = w; us = ts; is = refl; closes = exports_pass (label_of ts).1 ns (Word u ∷ Open ∷ Word v ∷ hs) r a (brought_closes u v hs r (functions_keep context hs es (Close ∷ Close ∷ r) m)) }
 field_after laws types context _ _ r (by_memory {w = w} {ts = ts} {hs = hs} {names = ns} {limits = limits} e a b) =
     record { w = w; us = ts; is = refl; closes = exports_pass (label_of ts).1 ns hs r a (on_to hs (Close ∷ r) r (limits_pass hs limits (Close ∷ r) b) (closed_now r)) }
+field_after laws types context _ _ r (by_memory_data {w = w} {v = v} {ts = ts} {hs = hs} {names = ns} {bytes = bytes} e a k m low) = record { w = w; us = ts; is = refl; closes = exports_pass (label_of ts).1 ns (Open ∷ Word v ∷ hs) r a (memory_data_closes v hs bytes r m) }
 field_after laws types context _ _ r (by_global {w = w} {ts = ts} {hs = hs} {bs = bs} {names = ns} {t = t} {is = is} e a b k) =
     record { w = w; us = ts; is = refl; closes = exports_pass (label_of ts).1 ns hs r a (on_to hs bs r (global_type_pass hs t bs b) (body_closes laws context bs is r k)) }
 field_after laws types context _ _ r (by_export {w = w} {n = n} {v = v} {ts = ts} {s = s} {i = i} e u k f) = record { w = w; us = Text n ∷ Open ∷ Word v ∷ ts; is = refl; closes = external_closes (names_of context s) n v ts r i f }
 field_after laws types context _ _ r (by_start {w = w} {ts = ts} {i = i} e f) = record { w = w; us = ts; is = refl; closes = off_label ts r i context.funcs f }
+field_after laws types context _ _ r (by_passive_elem {w = w} {ts = ts} {t = t} {es = es} e k) = record { w = w; us = ts; is = refl; closes = kept_now (label_of ts).1 r (elements_keep laws context (label_of ts).1 t es (Close ∷ r) k) }
+field_after laws types context _ _ r (by_declarative_elem {w = w} {v = v} {ts = ts} {ds = ds} {t = t} {es = es} e o d k) = record { w = w; us = ts; is = refl; closes = subst (λ x. Closes x r) (sym o) (kept_word v ds r (elements_keep laws context ds t es (Close ∷ r) k)) }
+field_after laws types context _ _ r (by_active_elem {w = w} {ts = ts} {os = os} {bs = bs} {i = i} {is = is} {t = t} {es = es} e u x k) =
+    record { w = w; us = ts; is = refl; closes = kept_to (label_of ts).1 os r (used_keeps (codes "table") context.tables (label_of ts).1 i os u) (kept_to os bs r (expression_keeps laws (codes "offset") context os is bs x) (kept_now bs r (elements_keep laws context bs t es (Close ∷ r) k))) }
+field_after laws types context _ _ r (by_function_elem {w = w} {ts = ts} {bs = bs} {is = is} {es = es} e x k) =
+    record { w = w; us = ts; is = refl; closes = kept_to (label_of ts).1 bs r (expression_keeps laws (codes "offset") context (label_of ts).1 is bs x) (kept_now bs r (functions_keep context bs es (Close ∷ r) k)) }
+field_after laws types context _ _ r (by_passive_data {w = w} {ts = ts} {bytes = bytes} e m) = record { w = w; us = ts; is = refl; closes = strings_close (label_of ts).1 bytes r m }
+field_after laws types context _ _ r (by_active_data {w = w} {ts = ts} {os = os} {bs = bs} {i = i} {is = is} {bytes = bytes} e u o m) =
+    record { w = w; us = ts; is = refl; closes = kept_to (label_of ts).1 os r (used_keeps (codes "memory") context.memories (label_of ts).1 i os u) (kept_to os bs r (expression_keeps laws (codes "offset") context os is bs o) (strings_close bs bytes r m)) }
 
 after_takes : (ts r : List Terminal) → After ts r → length r < length ts
 after_takes ts r a = let s = a.closes.short in let l = label_short a.us in let k : length ts ≡ length (Open ∷ Word a.w ∷ a.us) = ap length a.is in omega arith

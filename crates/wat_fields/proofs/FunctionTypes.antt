@@ -1,5 +1,8 @@
 -- Function types that are the same are equal, and each is among those of its module.
 use Rattle.std.proofs.Common.{◌≡◌, ◌<◌, ◌∙◌, ℕ, zero, suc, Bool, true, false, List, [], ◌∷◌, ◌++◌, length, map, drop, get_or, ◌+◌, Some, refl, sym, ap, subst, arith}
+use Rattle.std.proofs.Common.{Global}
+use Rattle.std.specs.Prelude.{Vec}
+use Rattle.wat_instructions.specs.declared.pieces.Instruction.{Instruction}
 use Rattle.std.specs.Prelude.{◌==◌, ◌&&◌, if◌then◌else◌, slice_get, slice_index_or}
 use Rattle.std.proofs.lemmas.Bool.Decides.{Decides-eqb}
 use Rattle.wat_instructions.specs.declared.pieces.ValueType.{ValueType}
@@ -7,9 +10,9 @@ use Rattle.wat_instructions.specs.declared.pieces.ValueType.TheVariants as value
 use Rattle.std.specs.List.{flat_map}
 use Rattle.std.proofs.lemmas.List.{drop_more}
 use Rattle.wat_fields.specs.declared.fields.Field as declared
-use Rattle.wat_fields.specs.Views.{field_of}
+use Rattle.wat_fields.specs.Views.{field_of, items_of}
 use Rattle.wat_instructions.specs.Types.{FunctionType, same_type, same_values, type_byte}
-use Rattle.wat_fields.specs.Binary.{has_type, type_index, types_after, types_of, used_by, with_type}
+use Rattle.wat_fields.specs.Binary.{expression_types, has_type, type_index, types_after, types_of, used_by, with_type}
 use Rattle.wat_fields.specs.Fields.{definition_type, definitions_of}
 use Rattle.wat_fields.specs.Law.{TypesAreThere}
 
@@ -108,7 +111,7 @@ each ts [] u k l e = absurd (omega (arith, l))
 each ts (v ∷ us) u zero l e = kept_after u (with_type ts v) us (subst (λ x. has_type u (with_type ts x) ≡ true) (sym e) (brought u ts))
 each ts (v ∷ us) u (suc k) l e = each (with_type ts v) us u k (omega (arith, l)) e
 
-after_more : (ts us vs : List FunctionType) → types_after ts (us ++ vs) ≡ types_after (types_after ts us) vs
+pub after_more : (ts us vs : List FunctionType) → types_after ts (us ++ vs) ≡ types_after (types_after ts us) vs
 after_more ts [] vs = refl
 after_more ts (u ∷ us) vs = after_more (with_type ts u) us vs
 
@@ -117,6 +120,12 @@ pub field_used : (fields : List declared.Field) (f d : declared.Field) (i : ℕ)
 field_used fields f d i all before after h l e k =
     let rest = flat_map used_by (map field_of (drop (i + 1) fields)) in
     h ∙ ap (λ xs. types_after before (flat_map used_by (map field_of xs))) (drop_more fields i d l) ∙ ap (λ x. types_after before (used_by (field_of x) ++ rest)) (sym e) ∙ after_more before (used_by (field_of f)) rest ∙ ap (λ x. types_after x rest) (sym k)
+
+-- one element on
+pub element_used : (elements : List (Vec Instruction Global)) (e d : Vec Instruction Global) (i : ℕ) (all before after : List FunctionType) → all ≡ types_after before (flat_map expression_types (map items_of (drop i elements))) → i < length elements → e ≡ get_or elements i d → after ≡ types_after before (expression_types (items_of e)) → all ≡ types_after after (flat_map expression_types (map items_of (drop (i + 1) elements)))
+element_used elements e d i all before after h l k a =
+    let rest = flat_map expression_types (map items_of (drop (i + 1) elements)) in
+    h ∙ ap (λ xs. types_after before (flat_map expression_types (map items_of xs))) (drop_more elements i d l) ∙ ap (λ x. types_after before (expression_types (items_of x) ++ rest)) (sym k) ∙ after_more before (expression_types (items_of e)) rest ∙ ap (λ x. types_after x rest) (sym a)
 
 pub types_are_there : TypesAreThere
 unfolding types_of

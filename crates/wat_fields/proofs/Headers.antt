@@ -37,7 +37,7 @@ pub local_is_none : IsNoInstruction (codes "local")
 unfolding plain mnemonics low high
 local_is_none = record { plain_not = λ context ls ts. refl; structured_not = refl }
 
-not_found : (v w : List ℕ) (ts : List Terminal) (b : Bool) → bytes_eq w v ≡ b → b ≡ false → (if b then Some ts else None) ≡ None
+pub not_found : (v w : List ℕ) (ts : List Terminal) (b : Bool) → bytes_eq w v ≡ b → b ≡ false → (if b then Some ts else None) ≡ None
 not_found v w ts true e f = cc
 not_found v w ts false e f = refl
 

@@ -1,6 +1,8 @@
 pub mod Manies
 pub mod Items
 pub mod TypeRules
+pub mod SegmentKinds
+pub mod ElementKinds
 pub mod FieldKinds
 pub mod Counting
 pub mod FunctionTypes

@@ -89,6 +89,10 @@ pub limits_no_import : (ts : List Terminal) (l : Limits) (us : List Terminal) �
 limits_no_import _ _ us (by_min e) = refl
 limits_no_import _ _ us (by_min_max e f) = refl
 
+pub limits_no_data : (ts : List Terminal) (l : Limits) (us : List Terminal) → LimitsAre ts l us → after (codes "data") ts ≡ None
+limits_no_data _ _ us (by_min e) = refl
+limits_no_data _ _ us (by_min_max e f) = refl
+
 pub limits_no_export : (ts : List Terminal) (l : Limits) (us : List Terminal) → LimitsAre ts l us → export_item ts ≡ None
 unfolding export_item
 limits_no_export _ _ us (by_min e) = refl

@@ -1,9 +1,10 @@
 -- WebAssembly 2.0 specification, 5 (binary format): 5.1.3 vectors, 5.2 values, 5.3 types, 5.4 instructions, 5.5 modules (5.5.2 sections, 5.5.4 type
--- section, 5.5.5 import section, 5.5.6 function section, 5.5.7 table section, 5.5.8 memory section, 5.5.9 global section, 5.5.10 export section, 5.5.11 start section, 5.5.13 code
--- section, 5.5.16 modules). And 6.6.3: the types that type uses without an index bring. What the standard leaves open is fixed: integers in their
--- shortest form, runs of local variables of one type counted together, no section without content, no custom section, an `else` where the text has one.
--- The order of exports is that of the text: an inline one is where its field is (6.6.5 to 6.6.8).
-use Rattle.std.specs.Prelude.{ℕ, suc, Bool, true, false, List, [], ◌∷◌, ◌++◌, length, map, Option, Some, None, ◌==◌, if◌then◌else◌, pos}
+-- section, 5.5.5 import section, 5.5.6 function section, 5.5.7 table section, 5.5.8 memory section, 5.5.9 global section, 5.5.10 export section, 5.5.11 start
+-- section, 5.5.12 element section, 5.5.13 code section, 5.5.14 data section, 5.5.16 modules). And 6.6.3: the types that type uses without an index bring.
+-- What the standard leaves open is fixed: integers in their shortest form, runs of local variables of one type counted together, no section without
+-- content, no custom section, no data count (5.5.15), an `else` where the text has one, a data segment of the memory 0 by the flags 0, and of the bytes for
+-- element segments those that `wat2wasm` writes (elem_bytes). The order of exports and segments is that of the text: an inline one is where its field is.
+use Rattle.std.specs.Prelude.{ℕ, suc, Bool, true, false, List, [], ◌∷◌, ◌++◌, length, map, Option, Some, None, ◌==◌, if◌then◌else◌, pos, ◌&&◌}
 use Rattle.std.specs.Int.{w32, w64, to_le_bytes}
 use Rattle.std.specs.List.{flat_map}
 use Rattle.wat_lex.specs.binary.Encoding.{list_encoding, text_encoding}
@@ -20,7 +21,7 @@ use Rattle.wat_fields.specs.declared.fields.Limits.{Limits}
 use Rattle.wat_fields.specs.declared.fields.ReferenceType.{ReferenceType}
 use Rattle.wat_fields.specs.declared.fields.ReferenceType.TheVariants as reference
 use Rattle.wat_fields.specs.declared.fields.TableType.{TableType}
-use Rattle.wat_fields.specs.Fields.{ExternType, FuncType, OfTable, OfMemory, OfGlobal, Field, Func, Table, Memory, Global, Start, Function, TypeUse, Variable, bindings_of, definition_type, definitions_of, extern_space, function_type, names_in, starts_of}
+use Rattle.wat_fields.specs.Fields.{ExternType, FuncType, OfTable, OfMemory, OfGlobal, Field, Func, Table, Memory, Global, Start, Function, TypeUse, Variable, bindings_of, definition_type, definitions_of, extern_space, function_type, names_in, starts_of, ElemMode, Passive, Active, Declarative, Elements, Target, target}
 use Rattle.wat_fields.specs.Fields as field
 
 -- 5.4.1 block types: a value type, or 0x40
@@ -65,14 +66,41 @@ argument_types a = []
 abbrev pub instruction_types : Instruction → List FunctionType
 instruction_types i = argument_types i.argument
 
--- The types that a field uses, in their order: a function its own first, and then those of its instructions, in the order of the
--- binary format. (6.6.3 says: as they appear, and leaves open whether folded instructions are unfolded before. A folded one comes after its operands
--- here, as everywhere in these definitions.)
+-- the types that instructions use, in their order, which is that of the binary format: a folded instruction comes after its operands, which 6.5.10 puts first
+abbrev pub expression_types : List Instruction → List FunctionType
+expression_types is = flat_map instruction_types is
+
+abbrev pub target_types : Option Target → List FunctionType
+target_types None = []
+target_types (Some t) = expression_types t.offset
+
+abbrev pub elements_types : Option Elements → List FunctionType
+elements_types None = []
+elements_types (Some es) = flat_map expression_types es
+
+abbrev pub mode_types : ElemMode → List FunctionType
+mode_types (Active t) = expression_types t.offset
+mode_types Passive = []
+mode_types Declarative = []
+
+abbrev pub extern_types : ExternType → List FunctionType
+extern_types (FuncType u) = used_type u ∷ []
+extern_types (OfTable t) = []
+extern_types (OfMemory l) = []
+extern_types (OfGlobal t) = []
+
+-- 6.6.3: the types that a field uses, as they appear: a function's own first, and then those of its instructions; and those of each other expression
 abbrev pub used_by : Field → List FunctionType
-used_by (Func f) = used_type f.uses ∷ flat_map instruction_types f.body
-used_by (field.Import m n l ns (FuncType u)) = used_type u ∷ []
-used_by (Global l ns t is) = flat_map instruction_types is
-used_by f = []
+used_by (field.TypeField l t) = []
+used_by (field.Import m n l ns t) = extern_types t
+used_by (Func f) = used_type f.uses ∷ expression_types f.body
+used_by (Table l ns t es) = elements_types es
+used_by (Memory l ns t bytes) = []
+used_by (Global l ns t is) = expression_types is
+used_by (field.Export n s i) = []
+used_by (Start i) = []
+used_by (field.Elem l m t es) = mode_types m ++ flat_map expression_types es
+used_by (field.Data l t bytes) = target_types t
 
 -- those that fields define, and after them those that type uses bring
 unfoldable pub types_of : List Field → List FunctionType
@@ -186,11 +214,13 @@ abbrev pub field_exports : List Field → Field → List Export
 field_exports before (field.TypeField l t) = []
 field_exports before (field.Import m n l ns t) = map (export (extern_space t) (next_index (extern_space t) before)) ns
 field_exports before (Func f) = map (export space.Func (next_index space.Func before)) f.exports
-field_exports before (Table l ns t) = map (export space.Table (next_index space.Table before)) ns
-field_exports before (Memory l ns t) = map (export space.Mem (next_index space.Mem before)) ns
+field_exports before (Table l ns t es) = map (export space.Table (next_index space.Table before)) ns
+field_exports before (Memory l ns t bytes) = map (export space.Mem (next_index space.Mem before)) ns
 field_exports before (Global l ns t is) = map (export space.Global (next_index space.Global before)) ns
 field_exports before (field.Export n s i) = export s i n ∷ []
 field_exports before (Start i) = []
+field_exports before (field.Data l t bytes) = []
+field_exports before (field.Elem l m t es) = []
 
 abbrev pub exports_after : List Field → List Field → List Export
 exports_after before [] = []
@@ -227,6 +257,121 @@ code types f = list_encoding run_bytes (runs_of (map variable_byte f.locals)) ++
 abbrev pub code_bytes : List FunctionType → Function → List ℕ
 code_bytes types f = text_encoding (code types f)
 
+-- 5.5.14: a data segment: where it is put, if it is active, and its bytes
+pub record DataSegment : Type 0 where
+  pub target : Option Target
+  pub bytes : List ℕ
+
+abbrev pub data_segment : Option Target → List ℕ → DataSegment
+data_segment t bytes = record { target = t; bytes = bytes }
+
+-- i32.const 0
+abbrev pub at_zero : List Instruction
+at_zero = record { opcode = 0x41; argument = argument.I32 (pos 0) } ∷ []
+
+-- the data segments of a field after others: 6.6.7, one that a memory brings is put into that memory
+abbrev pub field_data : List Field → Field → List DataSegment
+field_data before (field.Data l t bytes) = data_segment t bytes ∷ []
+field_data before (Memory l ns t (Some bytes)) = data_segment (Some (target (next_index space.Mem before) at_zero)) bytes ∷ []
+field_data before f = []
+
+-- those of fields, in the order of the text
+abbrev pub data_after : List Field → List Field → List DataSegment
+data_after before [] = []
+data_after before (f ∷ fs) = field_data before f ++ data_after (before ++ f ∷ []) fs
+
+unfoldable pub data_of : List Field → List DataSegment
+data_of fs = data_after [] fs
+
+-- 5.5.12: an element segment
+pub record ElementSegment : Type 0 where
+  pub mode : ElemMode
+  pub type : ReferenceType
+  pub elements : Elements
+
+abbrev pub element_segment : ElemMode → ReferenceType → Elements → ElementSegment
+element_segment m t es = record { mode = m; type = t; elements = es }
+
+-- the element segments of a field after others: 6.6.6, one that a table brings is put into that table
+abbrev pub field_elements : List Field → Field → List ElementSegment
+field_elements before (field.Elem l m t es) = element_segment m t es ∷ []
+field_elements before (Table l ns t (Some es)) = element_segment (Active (target (next_index space.Table before) at_zero)) t.element es ∷ []
+field_elements before f = []
+
+abbrev pub elements_after : List Field → List Field → List ElementSegment
+elements_after before [] = []
+elements_after before (f ∷ fs) = field_elements before f ++ elements_after (before ++ f ∷ []) fs
+
+unfoldable pub elements_of : List Field → List ElementSegment
+elements_of fs = elements_after [] fs
+
+-- the function of an element that is `ref.func`
+abbrev pub index_of : Argument → Option ℕ
+index_of (argument.Index x) = Some x
+index_of a = None
+
+abbrev pub function_in : List Instruction → Option ℕ
+function_in (i ∷ []) = if i.opcode == 0xD2 then index_of i.argument else None
+function_in is = None
+
+abbrev pub before_some : Option ℕ → Option (List ℕ) → Option (List ℕ)
+before_some (Some x) (Some xs) = Some (x ∷ xs)
+before_some x xs = None
+
+-- the functions of elements, where all are `ref.func`
+abbrev pub functions_in : Elements → Option (List ℕ)
+functions_in [] = Some []
+functions_in (e ∷ es) = before_some (function_in e) (functions_in es)
+
+abbrev pub functions_by : ReferenceType → Elements → Option (List ℕ)
+functions_by reference.Func es = functions_in es
+functions_by reference.Extern es = None
+
+-- elements that are functions, each by its index
+abbrev pub index_list : List ℕ → List ℕ
+index_list xs = list_encoding unsigned_leb128 xs
+
+-- and others, each by its instructions
+abbrev pub element_list : List FunctionType → Elements → List ℕ
+element_list types es = list_encoding (expression_bytes types) es
+
+-- 5.5.12, the flags 0 to 3: elements of the type funcref that all are `ref.func`. 0x00 is what says that they are functions
+abbrev pub function_segment : List FunctionType → ElemMode → List ℕ → List ℕ
+function_segment types Passive xs = 0x01 ∷ 0x00 ∷ index_list xs
+function_segment types Declarative xs = 0x03 ∷ 0x00 ∷ index_list xs
+function_segment types (Active t) xs = if t.index == 0 then 0x00 ∷ (expression_bytes types t.offset ++ index_list xs) else 0x02 ∷ (unsigned_leb128 t.index ++ (expression_bytes types t.offset ++ (0x00 ∷ index_list xs)))
+
+abbrev pub is_funcref : ReferenceType → Bool
+is_funcref reference.Func = true
+is_funcref reference.Extern = false
+
+-- the flags 4 to 7: any other elements. Of the table 0 and the type funcref neither is said
+abbrev pub other_segment : List FunctionType → ElemMode → ReferenceType → Elements → List ℕ
+other_segment types Passive t es = 0x05 ∷ reference_byte t ∷ element_list types es
+other_segment types Declarative t es = 0x07 ∷ reference_byte t ∷ element_list types es
+other_segment types (Active g) t es = if (g.index == 0) && is_funcref t then 0x04 ∷ (expression_bytes types g.offset ++ element_list types es) else 0x06 ∷ (unsigned_leb128 g.index ++ (expression_bytes types g.offset ++ (reference_byte t ∷ element_list types es)))
+
+abbrev pub segment_by : List FunctionType → Option (List ℕ) → ElementSegment → List ℕ
+segment_by types (Some xs) e = function_segment types e.mode xs
+segment_by types None e = other_segment types e.mode e.type e.elements
+
+-- Where 5.5.12 leaves several flags, a choice of our own, which is that of `wat2wasm`: functions by their indices where all elements are, and the flags 0
+-- and 4 for the table 0 where they can say it.
+abbrev pub elem_bytes : List FunctionType → ElementSegment → List ℕ
+elem_bytes types e = segment_by types (functions_by e.type e.elements) e
+
+-- where an active data segment is put: the memory 0 by the flags 0; another by the flags 2, and its index
+abbrev pub target_bytes : List FunctionType → Target → List ℕ
+target_bytes types t = if t.index == 0 then 0x00 ∷ expression_bytes types t.offset else 0x02 ∷ (unsigned_leb128 t.index ++ expression_bytes types t.offset)
+
+-- a passive segment by the flags 1
+abbrev pub mode_bytes : List FunctionType → Option Target → List ℕ
+mode_bytes types None = 0x01 ∷ []
+mode_bytes types (Some t) = target_bytes types t
+
+abbrev pub data_bytes : List FunctionType → DataSegment → List ℕ
+data_bytes types d = mode_bytes types d.target ++ text_encoding d.bytes
+
 -- 5.5.2: a section: its number, its size and its content, which are written as a vector of bytes is
 abbrev pub section : ℕ → List ℕ → List ℕ
 section number content = number ∷ text_encoding content
@@ -250,11 +395,11 @@ abbrev pub functions_of : List Field → List Function
 functions_of fs = flat_map function_of fs
 
 abbrev pub table_of : Field → List TableType
-table_of (Table l ns t) = t ∷ []
+table_of (Table l ns t es) = t ∷ []
 table_of f = []
 
 abbrev pub memory_of : Field → List Limits
-memory_of (Memory l ns t) = t ∷ []
+memory_of (Memory l ns t bytes) = t ∷ []
 memory_of f = []
 
 abbrev pub global_of : Field → List (GlobalType × List Instruction)
@@ -299,6 +444,12 @@ start_section fs = start_by (starts_of fs)
 abbrev pub code_section : List Field → List ℕ
 code_section fs = list_section 10 (code_bytes (types_of fs)) (functions_of fs)
 
+abbrev pub element_section : List Field → List ℕ
+element_section fs = list_section 9 (elem_bytes (types_of fs)) (elements_of fs)
+
+abbrev pub data_section : List Field → List ℕ
+data_section fs = list_section 11 (data_bytes (types_of fs)) (data_of fs)
+
 -- 5.5.16: a module of these fields
 unfoldable pub module_bytes : List Field → List ℕ
-module_bytes fs = ((((((((header ++ type_section fs) ++ import_section fs) ++ function_section fs) ++ table_section fs) ++ memory_section fs) ++ global_section fs) ++ export_section fs) ++ start_section fs) ++ code_section fs
+module_bytes fs = ((((((((((header ++ type_section fs) ++ import_section fs) ++ function_section fs) ++ table_section fs) ++ memory_section fs) ++ global_section fs) ++ export_section fs) ++ start_section fs) ++ element_section fs) ++ code_section fs) ++ data_section fs

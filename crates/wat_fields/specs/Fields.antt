@@ -1,15 +1,16 @@
 -- WebAssembly 2.0 specification, 6.6 (text format, modules): 6.6.1 indices, 6.6.2 types, 6.6.3 type uses, 6.6.4 imports, 6.6.5 functions, 6.6.6 tables,
--- 6.6.7 memories, 6.6.8 globals, 6.6.9 exports, 6.6.10 start function, 6.6.13 modules; 6.4 (types). Over the tokens that count. A rule takes tokens from a
--- place on, and leaves the rest. Left out of the standard: the fields `elem` and `data`, inline elements and data, v128, funcref and externref as value
--- types, a module without its parentheses, and a type use by the index of a type that no field `type` defines (one that a type use brings, 6.6.3); and what
+-- 6.6.7 memories, 6.6.8 globals, 6.6.9 exports, 6.6.10 start function, 6.6.11 element segments, 6.6.12 data segments, 6.6.13 modules; 6.4 (types). Over
+-- the tokens that count. A rule takes tokens from a place on, and leaves the rest. Left out of the standard: v128, funcref and externref as value types, a
+-- module without its parentheses, and a type use by the index of a type that no field `type` defines (one that a type use brings, 6.6.3); and what
 -- Table and Grammar of `wat_instructions` leave out: select with types, references, tables, bulk memory, saturating conversions, vectors.
-use Rattle.std.specs.Prelude.{◌≡◌, ◌&&◌, ◌^◌, ◌≤◌, ℕ, Bool, true, false, List, [], ◌∷◌, ◌++◌, length, map, codes, bytes_eq, nat_lt, slice_get, Option, Some, None, if◌then◌else◌}
+use Rattle.std.specs.Prelude.{◌≡◌, ◌&&◌, ◌^◌, ◌+◌, ◌/◌, ◌≤◌, ℕ, Bool, true, false, List, [], ◌∷◌, ◌++◌, length, map, codes, bytes_eq, nat_lt, slice_get, Option, Some, None, if◌then◌else◌}
 use Rattle.std.specs.List.{flat_map}
 use Rattle.std.specs.Str.{is_utf8}
+use Rattle.wat_instructions.specs.declared.pieces.Argument.TheVariants as argument
 use Rattle.wat_instructions.specs.declared.pieces.Instruction.{Instruction}
 use Rattle.wat_instructions.specs.declared.pieces.Sign.TheVariants.{Absent}
 use Rattle.wat_instructions.specs.declared.pieces.ValueType.{ValueType}
-use Rattle.wat_instructions.specs.Grammar.{Body, Context, is_name, label_of, position, value_type}
+use Rattle.wat_instructions.specs.Grammar.{Body, Context, Folded, label_of, position, value_type}
 use Rattle.wat_instructions.specs.Names.{are_distinct}
 use Rattle.wat_instructions.specs.Terminals.{Terminal, Open, Close, Word, Id, Integer, Text, Label}
 use Rattle.wat_instructions.specs.Types.{FunctionType, Types, from_to}
@@ -66,17 +67,38 @@ pub data ExternType : Type 0 where
   OfMemory : Limits → ExternType
   OfGlobal : GlobalType → ExternType
 
--- A field, as 6.6.2 to 6.6.10 have them. Functions, tables, memories, globals and imports have a name and the names under which they are exported; an
--- import has two names, and what is imported; an export is of the item of an index; a start function is said by its index.
+-- where a segment is put when a module is instantiated (4.5.4): a memory or a table, by its index, and the offset in it, by instructions
+pub record Target : Type 0 where
+  pub index : ℕ
+  pub offset : List Instruction
+
+abbrev pub target : ℕ → List Instruction → Target
+target i is = record { index = i; offset = is }
+
+-- 6.6.11: the instructions of each element
+abbrev pub Elements : Type 0
+Elements = List (List Instruction)
+
+-- 6.6.11: an element segment is passive, active or declarative
+pub data ElemMode : Type 0 where
+  Passive : ElemMode
+  Active : Target → ElemMode
+  Declarative : ElemMode
+
+-- A field, as 6.6.2 to 6.6.12 have them. Functions, tables, memories, globals and imports have a name and the names under which they are exported; an
+-- import has two names, and what is imported; an export is of the item of an index; a start function is said by its index. A memory may bring its bytes with
+-- it, and a table its elements. A data segment has a name, a target if it is active, and its bytes; an element segment a name, its mode, and its elements.
 pub data Field : Type 0 where
   TypeField : Label → FunctionType → Field
   Import : List ℕ → List ℕ → Label → List (List ℕ) → ExternType → Field
   Func : Function → Field
-  Table : Label → List (List ℕ) → TableType → Field
-  Memory : Label → List (List ℕ) → Limits → Field
+  Table : Label → List (List ℕ) → TableType → Option Elements → Field
+  Memory : Label → List (List ℕ) → Limits → Option (List ℕ) → Field
   Global : Label → List (List ℕ) → GlobalType → List Instruction → Field
   Export : List ℕ → IndexSpace → ℕ → Field
   Start : ℕ → Field
+  Data : Label → Option Target → List ℕ → Field
+  Elem : Label → ElemMode → ReferenceType → Elements → Field
 
 -- an item of an index space, by its name or by none
 pub record Binding : Type 0 where
@@ -97,11 +119,13 @@ abbrev pub binding_of : Field → List Binding
 binding_of (TypeField l t) = []
 binding_of (Import m n l ns t) = binding (extern_space t) l ∷ []
 binding_of (Func f) = binding space.Func f.name ∷ []
-binding_of (Table l ns t) = binding space.Table l ∷ []
-binding_of (Memory l ns t) = binding space.Mem l ∷ []
+binding_of (Table l ns t es) = binding space.Table l ∷ []
+binding_of (Memory l ns t bytes) = binding space.Mem l ∷ []
 binding_of (Global l ns t is) = binding space.Global l ∷ []
 binding_of (Export n s i) = []
 binding_of (Start i) = []
+binding_of (Data l t bytes) = []
+binding_of (Elem l m t es) = []
 
 abbrev pub bindings_of : List Field → List Binding
 bindings_of fs = flat_map binding_of fs
@@ -118,15 +142,35 @@ abbrev pub names_in : IndexSpace → List Binding → List Label
 names_in s [] = []
 names_in s (h ∷ hs) = if is_space s h.space then h.name ∷ names_in s hs else names_in s hs
 
--- 6.1.3: the context of these types and items
-abbrev pub context_of : Types → List Binding → Context
-context_of types hs = record {
+-- the data segment that a field brings, by its name or by none; that of a memory has none
+abbrev pub data_of : Field → List Label
+data_of (Data l t bytes) = l ∷ []
+data_of (Memory l ns t (Some bytes)) = None ∷ []
+data_of f = []
+
+abbrev pub datas_of : List Field → List Label
+datas_of fs = flat_map data_of fs
+
+-- the same of element segments
+abbrev pub elem_of : Field → List Label
+elem_of (Elem l m t es) = l ∷ []
+elem_of (Table l ns t (Some es)) = None ∷ []
+elem_of f = []
+
+abbrev pub elems_of : List Field → List Label
+elems_of fs = flat_map elem_of fs
+
+-- 6.1.3: the context of these types, items and segments
+abbrev pub context_of : Types → List Binding → List Label → List Label → Context
+context_of types hs elems datas = record {
   types = types;
   locals = [];
   funcs = names_in space.Func hs;
   tables = names_in space.Table hs;
   memories = names_in space.Mem hs;
   globals = names_in space.Global hs;
+  elems = elems;
+  datas = datas;
 }
 
 -- and of its index spaces
@@ -145,6 +189,8 @@ with_locals context variables = record {
   tables = context.tables;
   memories = context.memories;
   globals = context.globals;
+  elems = context.elems;
+  datas = context.datas;
 }
 
 -- a type that a field defines
@@ -183,8 +229,8 @@ has_import (f ∷ fs) = if is_import f then true else has_import fs
 
 abbrev pub is_definition : Field → Bool
 is_definition (Func f) = true
-is_definition (Table l ns t) = true
-is_definition (Memory l ns t) = true
+is_definition (Table l ns t es) = true
+is_definition (Memory l ns t bytes) = true
 is_definition (Global l ns t is) = true
 is_definition f = false
 
@@ -260,7 +306,7 @@ space_of w =
 
 -- 6.6.13: the identifiers are distinct in each index space
 abbrev pub all_distinct : Types → Context → Bool
-all_distinct types context = are_distinct types.names && are_distinct context.funcs && are_distinct context.tables && are_distinct context.memories && are_distinct context.globals
+all_distinct types context = are_distinct types.names && are_distinct context.funcs && are_distinct context.tables && are_distinct context.memories && are_distinct context.globals && are_distinct context.elems && are_distinct context.datas
 
 -- 6.4.7 to 6.4.9, 6.6.3: what is imported, after its name
 pub data ExternIs (types : Types) : IndexSpace → List Terminal → ExternType → List Terminal → Type 0 where
@@ -268,6 +314,45 @@ pub data ExternIs (types : Types) : IndexSpace → List Terminal → ExternType 
   by_table_type : {ts us : List Terminal} {v : List ℕ} {limits : Limits} {t : ReferenceType} → LimitsAre ts limits (Word v ∷ us) → reference_type v ≡ Some t → ExternIs types space.Table ts (OfTable (record { limits = limits; element = t })) us
   by_memory_type : {ts us : List Terminal} {limits : Limits} → LimitsAre ts limits us → ExternIs types space.Mem ts (OfMemory limits) us
   by_global_type : {ts us : List Terminal} {t : GlobalType} → GlobalTypeIs ts t us → ExternIs types space.Global ts (OfGlobal t) us
+
+-- 6.6.12: a string, of string*
+pub data StringIs : List Terminal → List ℕ → List Terminal → Type 0 where
+  by_string : {ts : List Terminal} {v : List ℕ} → StringIs (Text v ∷ ts) v ts
+
+-- 6.6.12, 6.6.11: memuse = `(` memory index `)`; tableuse = `(` table index `)`; or nothing, which is of the index 0
+pub data UseIs (word : List ℕ) (names : List Label) : List Terminal → ℕ → List Terminal → Type 0 where
+  by_use : {w : List ℕ} {ts r : List Terminal} {i : ℕ} → w ≡ word → IndexIs names ts i (Close ∷ r) → UseIs word names (Open ∷ Word w ∷ ts) i r
+  by_no_use : {ts : List Terminal} → UseIs word names ts 0 ts
+
+-- 6.6.11, 6.6.12: an expression after a word, `(` word instr* `)`, where word is `offset` or `item`; or one folded instruction, which is the same in it
+pub data ExpressionIs (word : List ℕ) (context : Context) : List Terminal → List Instruction → List Terminal → Type 0 where
+  by_word_expression : {w : List ℕ} {ts r : List Terminal} {is : List Instruction} → w ≡ word → Body context ts is r → ExpressionIs word context (Open ∷ Word w ∷ ts) is r
+  by_instruction : {ts r : List Terminal} {is : List Instruction} → Folded context ts is r → ExpressionIs word context ts is r
+
+-- 4.2.8: a page of a memory has 65,536 bytes; and how many pages hold these bytes
+abbrev pub pages_of : List ℕ → ℕ
+pages_of bytes = (length bytes + 65535) / 65536
+
+-- 6.6.11: elemexpr = `(` item instr* `)`, or one folded instruction
+pub data ItemIs (context : Context) : List Terminal → Elements → List Terminal → Type 0 where
+  by_item : {ts r : List Terminal} {is : List Instruction} → ExpressionIs (codes "item") context ts is r → ItemIs context ts (is ∷ []) r
+
+-- ref.func x
+abbrev pub ref_func : ℕ → List Instruction
+ref_func x = record { opcode = 0xD2; argument = argument.Index x } ∷ []
+
+-- 6.6.11: an index x in the place of an element is `(` ref.func x `)`
+pub data FunctionIs (context : Context) : List Terminal → Elements → List Terminal → Type 0 where
+  by_function : {ts r : List Terminal} {x : ℕ} → IndexIs context.funcs ts x r → FunctionIs context ts (ref_func x ∷ []) r
+
+-- 6.6.11: elemlist = reftype elemexpr*; and func index* is funcref with these
+pub data ElementsAre (context : Context) : List Terminal → ReferenceType → Elements → List Terminal → Type 0 where
+  by_items : {w : List ℕ} {ts r : List Terminal} {t : ReferenceType} {es : Elements} → reference_type w ≡ Some t → Many (ItemIs context) ts es r → ElementsAre context (Word w ∷ ts) t es r
+  by_functions : {w : List ℕ} {ts r : List Terminal} {es : Elements} → w ≡ codes "func" → Many (FunctionIs context) ts es r → ElementsAre context (Word w ∷ ts) reference.Func es r
+
+-- a table of as many elements as these, at least and at most
+abbrev pub table_of : ReferenceType → Elements → TableType
+table_of t es = record { limits = record { min = length es; max = Some (length es) }; element = t }
 
 -- a field in a context; `(` comes first
 pub data FieldIs (types : Types) (context : Context) : List Terminal → List Field → List Terminal → Type 0 where
@@ -291,10 +376,24 @@ pub data FieldIs (types : Types) (context : Context) : List Terminal → List Fi
   -- 6.6.6, 6.4.8: table = `(` table id? export* limits reftype `)`
   by_table : {w v : List ℕ} {ts hs r : List Terminal} {names : List (List ℕ)} {limits : Limits} {t : ReferenceType}
       → w ≡ codes "table" → Many InlineExport (label_of ts).1 names hs → LimitsAre hs limits (Word v ∷ Close ∷ r) → reference_type v ≡ Some t
-      → FieldIs types context (Open ∷ Word w ∷ ts) (Table (label_of ts).0 names (record { limits = limits; element = t }) ∷ []) r
+      → FieldIs types context (Open ∷ Word w ∷ ts) (Table (label_of ts).0 names (record { limits = limits; element = t }) None ∷ []) r
+  -- 6.6.6: `(` table id? export* reftype `(` elem elemexpr* `)` `)` is a table of as many elements, and after it an element segment of that type without a
+  -- name, which is put into it at `(i32.const 0)`
+  by_table_items : {w u v : List ℕ} {ts hs r : List Terminal} {names : List (List ℕ)} {t : ReferenceType} {es : Elements}
+      → w ≡ codes "table" → Many InlineExport (label_of ts).1 names (Word u ∷ Open ∷ Word v ∷ hs) → reference_type u ≡ Some t → v ≡ codes "elem" → Many (ItemIs context) hs es (Close ∷ Close ∷ r) → is_u32 (length es) ≡ true
+      → FieldIs types context (Open ∷ Word w ∷ ts) (Table (label_of ts).0 names (table_of t es) (Some es) ∷ []) r
+  -- the same with index* in the place of elemexpr*
+  by_table_functions : {w u v : List ℕ} {ts hs r : List Terminal} {names : List (List ℕ)} {t : ReferenceType} {es : Elements}
+      → w ≡ codes "table" → Many InlineExport (label_of ts).1 names (Word u ∷ Open ∷ Word v ∷ hs) → reference_type u ≡ Some t → v ≡ codes "elem" → Many (FunctionIs context) hs es (Close ∷ Close ∷ r) → is_u32 (length es) ≡ true
+      → FieldIs types context (Open ∷ Word w ∷ ts) (Table (label_of ts).0 names (table_of t es) (Some es) ∷ []) r
   -- 6.6.7, 6.4.7: mem = `(` memory id? export* limits `)`
   by_memory : {w : List ℕ} {ts hs r : List Terminal} {names : List (List ℕ)} {limits : Limits}
-      → w ≡ codes "memory" → Many InlineExport (label_of ts).1 names hs → LimitsAre hs limits (Close ∷ r) → FieldIs types context (Open ∷ Word w ∷ ts) (Memory (label_of ts).0 names limits ∷ []) r
+      → w ≡ codes "memory" → Many InlineExport (label_of ts).1 names hs → LimitsAre hs limits (Close ∷ r) → FieldIs types context (Open ∷ Word w ∷ ts) (Memory (label_of ts).0 names limits None ∷ []) r
+  -- 6.6.7: `(` memory id? export* `(` data string* `)` `)` is a memory of as many pages as hold these bytes, at least and at most, and after it a data
+  -- segment without a name, which is put into it at `(i32.const 0)`
+  by_memory_data : {w v : List ℕ} {ts hs r : List Terminal} {names : List (List ℕ)} {bytes : List ℕ}
+      → w ≡ codes "memory" → Many InlineExport (label_of ts).1 names (Open ∷ Word v ∷ hs) → v ≡ codes "data" → Many StringIs hs bytes (Close ∷ Close ∷ r) → is_u32 (pages_of bytes) ≡ true
+      → FieldIs types context (Open ∷ Word w ∷ ts) (Memory (label_of ts).0 names (record { min = pages_of bytes; max = Some (pages_of bytes) }) (Some bytes) ∷ []) r
   -- 6.6.8: global = `(` global id? export* globaltype instr* `)`
   by_global : {w : List ℕ} {ts hs bs r : List Terminal} {names : List (List ℕ)} {t : GlobalType} {is : List Instruction}
       → w ≡ codes "global" → Many InlineExport (label_of ts).1 names hs → GlobalTypeIs hs t bs → Body context bs is r → FieldIs types context (Open ∷ Word w ∷ ts) (Global (label_of ts).0 names t is ∷ []) r
@@ -303,11 +402,28 @@ pub data FieldIs (types : Types) (context : Context) : List Terminal → List Fi
       → w ≡ codes "export" → is_utf8 n ≡ true → space_of v ≡ Some s → IndexIs (names_of context s) ts i (Close ∷ Close ∷ r) → FieldIs types context (Open ∷ Word w ∷ Text n ∷ Open ∷ Word v ∷ ts) (Export n s i ∷ []) r
   -- 6.6.10: start = `(` start index `)`
   by_start : {w : List ℕ} {ts r : List Terminal} {i : ℕ} → w ≡ codes "start" → IndexIs context.funcs ts i (Close ∷ r) → FieldIs types context (Open ∷ Word w ∷ ts) (Start i ∷ []) r
+  -- 6.6.11: elem = `(` elem id? elemlist `)`, which is passive
+  by_passive_elem : {w : List ℕ} {ts r : List Terminal} {t : ReferenceType} {es : Elements}
+      → w ≡ codes "elem" → ElementsAre context (label_of ts).1 t es (Close ∷ r) → FieldIs types context (Open ∷ Word w ∷ ts) (Elem (label_of ts).0 Passive t es ∷ []) r
+  -- or `(` elem id? declare elemlist `)`, which is declarative
+  by_declarative_elem : {w v : List ℕ} {ts ds r : List Terminal} {t : ReferenceType} {es : Elements}
+      → w ≡ codes "elem" → (label_of ts).1 ≡ Word v ∷ ds → v ≡ codes "declare" → ElementsAre context ds t es (Close ∷ r) → FieldIs types context (Open ∷ Word w ∷ ts) (Elem (label_of ts).0 Declarative t es ∷ []) r
+  -- or `(` elem id? tableuse offset elemlist `)`, which is active
+  by_active_elem : {w : List ℕ} {ts os bs r : List Terminal} {i : ℕ} {is : List Instruction} {t : ReferenceType} {es : Elements}
+      → w ≡ codes "elem" → UseIs (codes "table") context.tables (label_of ts).1 i os → ExpressionIs (codes "offset") context os is bs → ElementsAre context bs t es (Close ∷ r) → FieldIs types context (Open ∷ Word w ∷ ts) (Elem (label_of ts).0 (Active (target i is)) t es ∷ []) r
+  -- where no table is said, `func` may be left out: `(` elem id? offset index* `)`
+  by_function_elem : {w : List ℕ} {ts bs r : List Terminal} {is : List Instruction} {es : Elements}
+      → w ≡ codes "elem" → ExpressionIs (codes "offset") context (label_of ts).1 is bs → Many (FunctionIs context) bs es (Close ∷ r) → FieldIs types context (Open ∷ Word w ∷ ts) (Elem (label_of ts).0 (Active (target 0 is)) reference.Func es ∷ []) r
+  -- 6.6.12: data = `(` data id? string* `)`, which is passive
+  by_passive_data : {w : List ℕ} {ts r : List Terminal} {bytes : List ℕ} → w ≡ codes "data" → Many StringIs (label_of ts).1 bytes (Close ∷ r) → FieldIs types context (Open ∷ Word w ∷ ts) (Data (label_of ts).0 None bytes ∷ []) r
+  -- or `(` data id? memuse offset string* `)`, which is active
+  by_active_data : {w : List ℕ} {ts os bs r : List Terminal} {i : ℕ} {is : List Instruction} {bytes : List ℕ}
+      → w ≡ codes "data" → UseIs (codes "memory") context.memories (label_of ts).1 i os → ExpressionIs (codes "offset") context os is bs → Many StringIs bs bytes (Close ∷ r) → FieldIs types context (Open ∷ Word w ∷ ts) (Data (label_of ts).0 (Some (target i is)) bytes ∷ []) r
 
 -- 6.6.13: module = `(` module id? field* `)`, and nothing after it. The context is the one that the fields themselves bring; imports come first, and there
 -- is one start function at most.
 pub data Module : List Terminal → List Field → Type 0 where
   by_module : {w : List ℕ} {ts : List Terminal} {fs : List Field}
-      → w ≡ codes "module" → Many (FieldIs (types_in (definitions_of fs)) (context_of (types_in (definitions_of fs)) (bindings_of fs))) (label_of ts).1 fs (Close ∷ [])
-      → all_distinct (types_in (definitions_of fs)) (context_of (types_in (definitions_of fs)) (bindings_of fs)) ≡ true
+      → w ≡ codes "module" → Many (FieldIs (types_in (definitions_of fs)) (context_of (types_in (definitions_of fs)) (bindings_of fs) (elems_of fs) (datas_of fs))) (label_of ts).1 fs (Close ∷ [])
+      → all_distinct (types_in (definitions_of fs)) (context_of (types_in (definitions_of fs)) (bindings_of fs) (elems_of fs) (datas_of fs)) ≡ true
       → imports_first fs ≡ true → length (starts_of fs) ≤ 1 → Module (Open ∷ Word w ∷ ts) fs

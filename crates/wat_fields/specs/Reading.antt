@@ -3,10 +3,10 @@ use Rattle.std.specs.Prelude.{ℕ, zero, suc, Bool, true, false, List, [], ◌�
 use Rattle.std.specs.List.{flat_map}
 use Rattle.std.specs.Str.{is_utf8}
 use Rattle.wat_instructions.specs.declared.pieces.Instruction.{Instruction}
-use Rattle.wat_instructions.specs.declared.pieces.FaultKind.TheVariants.{Unexpected, UnknownWord, UnknownName, Duplicate, NotUtf8, SecondStart, OtherType, LateImport}
+use Rattle.wat_instructions.specs.declared.pieces.FaultKind.TheVariants.{Unexpected, UnknownWord, UnknownName, OutOfRange, Duplicate, NotUtf8, SecondStart, OtherType, LateImport}
 use Rattle.wat_instructions.specs.declared.pieces.ValueType.{ValueType}
 use Rattle.wat_instructions.specs.Grammar.{Context, Fault, index, label_of, small, value_type}
-use Rattle.wat_instructions.specs.Machine.{body}
+use Rattle.wat_instructions.specs.Machine.{body, folded}
 use Rattle.wat_instructions.specs.Types.{FunctionType, Types, same_type}
 use Rattle.wat_instructions.specs.Terminals.{Terminal, Open, Close, Word, Id, Integer, Text, Label}
 use Rattle.wat_fields.specs.declared.fields.GlobalType.{GlobalType}
@@ -14,8 +14,9 @@ use Rattle.wat_fields.specs.declared.fields.IndexSpace.{IndexSpace}
 use Rattle.wat_fields.specs.declared.fields.IndexSpace.TheVariants as space
 use Rattle.wat_fields.specs.declared.fields.Limits.{Limits}
 use Rattle.wat_fields.specs.declared.fields.ReferenceType.{ReferenceType}
+use Rattle.wat_fields.specs.declared.fields.ReferenceType.TheVariants as reference
 use Rattle.wat_fields.specs.declared.fields.TableType.{TableType}
-use Rattle.wat_fields.specs.Fields.{Field, Func, Table, Memory, Global, Export, Import, TypeField, Start, Function, TypeUse, ExternType, FuncType, OfTable, OfMemory, OfGlobal, Definition, Binding, Variable, binding, definition, function_type, type_use, variable, unnamed, name_of, names_of, context_of, types_in, with_locals, all_distinct, imports_first, reference_type, space_of, starts_of}
+use Rattle.wat_fields.specs.Fields.{Field, Func, Table, Memory, Global, Export, Import, TypeField, Start, Function, TypeUse, ExternType, FuncType, OfTable, OfMemory, OfGlobal, Definition, Binding, Variable, binding, definition, function_type, type_use, variable, unnamed, name_of, names_of, context_of, types_in, with_locals, all_distinct, imports_first, reference_type, space_of, starts_of, Data, Elem, ElemMode, Passive, Active, Declarative, Elements, ref_func, table_of, Target, target, is_u32, pages_of}
 use Rattle.wat_instructions.specs.Names.{are_distinct}
 
 -- a value and the tokens after it, or the fault
@@ -179,11 +180,91 @@ table_type limits t = record { limits = limits; element = t }
 unfoldable pub table_type_at : List Terminal → Read TableType
 table_type_at ts = and_then (limits_at ts) (λ limits us. and_then (reference_at us) (λ t vs. Ok (table_type limits t, vs)))
 
-abbrev pub table_at : Label → List (List ℕ) → List Terminal → Read (List Field)
-table_at l ns ts = and_then (table_type_at ts) (λ t us. closing (Table l ns t ∷ []) (closed us))
+-- `)` and `)`
+abbrev pub twice_closed : List Terminal → Result (List Terminal) Fault
+twice_closed (Close ∷ ts) = closed ts
+twice_closed ts = Err (Unexpected, ts)
+
+abbrev pub one_at : Context → List Terminal → Read (List Instruction)
+one_at context (Open ∷ ts) = folded context ts
+one_at context ts = Err (Unexpected, ts)
+
+abbrev pub expression_by : Context → Option (List Terminal) → List Terminal → Read (List Instruction)
+expression_by context None start = one_at context start
+expression_by context (Some ts) start = body context ts
+
+unfoldable pub expression_at : List ℕ → Context → List Terminal → Read (List Instruction)
+expression_at word context ts = expression_by context (after word ts) ts
+
+abbrev pub one_element : Read (List Instruction) → Read Elements
+one_element (Ok (is, ts)) = Ok (is ∷ [], ts)
+one_element (Err f) = Err f
+
+-- an element by its instructions
+unfoldable pub element_item : Context → List Terminal → Item (List Instruction)
+element_item context (Open ∷ ts) = Some (one_element (expression_at (codes "item") context (Open ∷ ts)))
+element_item context ts = None
+
+abbrev pub one_function : Read ℕ → Read Elements
+one_function (Ok (x, ts)) = Ok (ref_func x ∷ [], ts)
+one_function (Err f) = Err f
+
+-- an element by the index of its function
+unfoldable pub function_item : Context → List Terminal → Item (List Instruction)
+function_item context (Integer s n ∷ ts) = Some (one_function (index context.funcs (Integer s n ∷ ts)))
+function_item context (Id x ∷ ts) = Some (one_function (index context.funcs (Id x ∷ ts)))
+function_item context ts = None
+
+abbrev pub table_limits : Label → List (List ℕ) → List Terminal → Read (List Field)
+table_limits l ns ts = and_then (table_type_at ts) (λ t us. closing (Table l ns t None ∷ []) (closed us))
+
+-- elements, by their instructions or by their functions
+unfoldable pub either_at : Context → List Terminal → Read Elements
+either_at context (Open ∷ ts) = all (element_item context) (Open ∷ ts)
+either_at context ts = all (function_item context) ts
+
+-- a table that brings these elements
+abbrev pub table_with : Label → List (List ℕ) → ReferenceType → List Terminal → Elements → List Terminal → Read (List Field)
+table_with l ns t start es ts = if is_u32 (length es) then Ok (Table l ns (table_of t es) (Some es) ∷ [], ts) else Err (OutOfRange, start)
+
+-- after `(elem`
+abbrev pub table_elements : Context → Label → List (List ℕ) → ReferenceType → List Terminal → Read (List Field)
+table_elements context l ns t ts = and_then (either_at context ts) (λ es us. and_then (closing es (twice_closed us)) (λ es vs. table_with l ns t ts es vs))
+
+abbrev pub table_open : Context → Label → List (List ℕ) → ReferenceType → Option (List Terminal) → List Terminal → Read (List Field)
+table_open context l ns t None start = Err (Unexpected, start)
+table_open context l ns t (Some ts) start = table_elements context l ns t ts
+
+abbrev pub table_by : Context → Label → List (List ℕ) → Option ReferenceType → List Terminal → List Terminal → Read (List Field)
+table_by context l ns None start ts = Err (UnknownWord, start)
+table_by context l ns (Some t) start ts = table_open context l ns t (after (codes "elem") ts) ts
+
+unfoldable pub table_at : Context → Label → List (List ℕ) → List Terminal → Read (List Field)
+table_at context l ns (Word w ∷ ts) = table_by context l ns (reference_type w) (Word w ∷ ts) ts
+table_at context l ns ts = table_limits l ns ts
+
+-- the bytes of a string
+unfoldable pub string_item : List Terminal → Item ℕ
+string_item (Text v ∷ ts) = Some (Ok (v, ts))
+string_item ts = None
+
+abbrev pub memory_type : Label → List (List ℕ) → List Terminal → Read (List Field)
+memory_type l ns ts = and_then (limits_at ts) (λ limits us. closing (Memory l ns limits None ∷ []) (closed us))
+
+-- a memory that brings these bytes
+abbrev pub memory_of : Label → List (List ℕ) → List Terminal → List ℕ → List Terminal → Read (List Field)
+memory_of l ns all bytes ts = if is_u32 (pages_of bytes) then Ok (Memory l ns (limits (pages_of bytes) (Some (pages_of bytes))) (Some bytes) ∷ [], ts) else Err (OutOfRange, all)
+
+-- after `(data`
+abbrev pub memory_data : Label → List (List ℕ) → List Terminal → Read (List Field)
+memory_data l ns ts = and_then (all string_item ts) (λ bytes us. and_then (closing bytes (twice_closed us)) (λ bytes vs. memory_of l ns ts bytes vs))
+
+abbrev pub memory_by : Label → List (List ℕ) → Option (List Terminal) → List Terminal → Read (List Field)
+memory_by l ns None all = memory_type l ns all
+memory_by l ns (Some ts) all = memory_data l ns ts
 
 abbrev pub memory_at : Label → List (List ℕ) → List Terminal → Read (List Field)
-memory_at l ns ts = and_then (limits_at ts) (λ limits us. closing (Memory l ns limits ∷ []) (closed us))
+memory_at l ns ts = memory_by l ns (after (codes "data") ts) ts
 
 abbrev pub global_type : Bool → ValueType → GlobalType
 global_type b t = record { is_mutable = b; value = t }
@@ -217,7 +298,7 @@ global_at context l ns ts = and_then (global_type_at ts) (λ t us. and_then (bod
 -- a definition after its name and its exports
 abbrev pub defined : Types → Context → IndexSpace → Label → List (List ℕ) → List Terminal → Read (List Field)
 defined types context space.Func l ns ts = func_at types context l ns ts
-defined types context space.Table l ns ts = table_at l ns ts
+defined types context space.Table l ns ts = table_at context l ns ts
 defined types context space.Mem l ns ts = memory_at l ns ts
 defined types context space.Global l ns ts = global_at context l ns ts
 
@@ -252,11 +333,6 @@ item_by types context s l ns (Some ts) all = inline_import types s l ns ts
 abbrev pub item_at : Types → Context → IndexSpace → Label × List Terminal → Read (List Field)
 item_at types context s p = and_then (all export_item p.1) (λ ns us. item_by types context s p.0 ns (after (codes "import") us) us)
 
--- `)` and `)`
-abbrev pub twice_closed : List Terminal → Result (List Terminal) Fault
-twice_closed (Close ∷ ts) = closed ts
-twice_closed ts = Err (Unexpected, ts)
-
 abbrev pub external_by : Context → List ℕ → Option IndexSpace → List Terminal → List Terminal → Read (List Field)
 external_by context n None all ts = Err (UnknownWord, all)
 external_by context n (Some s) all ts = and_then (index (names_of context s) ts) (λ i us. closing (Export n s i ∷ []) (twice_closed us))
@@ -276,6 +352,69 @@ export_at context ts = and_then (utf8_text ts) (λ n us. external_at context n u
 
 abbrev pub start_at : Context → List Terminal → Read (List Field)
 start_at context ts = and_then (index context.funcs ts) (λ i us. closing (Start i ∷ []) (closed us))
+
+-- Segments.
+
+abbrev pub used_by : List Label → Option (List Terminal) → List Terminal → Read ℕ
+used_by names None all = Ok (0, all)
+used_by names (Some ts) all = and_then (index names ts) (λ i us. closing i (closed us))
+
+-- the memory or the table that is used
+unfoldable pub used_at : List ℕ → List Label → List Terminal → Read ℕ
+used_at word names ts = used_by names (after word ts) ts
+
+abbrev pub data_strings : Label → Option Target → List Terminal → Read (List Field)
+data_strings l t ts = and_then (all string_item ts) (λ bytes us. closing (Data l t bytes ∷ []) (closed us))
+
+abbrev pub active_data : Context → Label → List Terminal → Read (List Field)
+active_data context l ts = and_then (used_at (codes "memory") context.memories ts) (λ i us. and_then (expression_at (codes "offset") context us) (λ is vs. data_strings l (Some (target i is)) vs))
+
+-- a data segment after its name
+unfoldable pub data_after : Context → Label → List Terminal → Read (List Field)
+data_after context l (Open ∷ ts) = active_data context l (Open ∷ ts)
+data_after context l ts = data_strings l None ts
+
+abbrev pub data_at : Context → Label × List Terminal → Read (List Field)
+data_at context p = data_after context p.0 p.1
+
+-- a list of elements
+abbrev pub elements_by : Context → List ℕ → Option ReferenceType → List Terminal → List Terminal → Read (ReferenceType × Elements)
+elements_by context w (Some t) start ts = and_then (all (element_item context) ts) (λ es us. Ok ((t, es), us))
+elements_by context w None start ts = if bytes_eq w (codes "func") then and_then (all (function_item context) ts) (λ es us. Ok ((reference.Func, es), us)) else Err (UnknownWord, start)
+
+unfoldable pub elements_at : Context → List Terminal → Read (ReferenceType × Elements)
+elements_at context (Word w ∷ ts) = elements_by context w (reference_type w) (Word w ∷ ts) ts
+elements_at context ts = Err (Unexpected, ts)
+
+abbrev pub elem_list : Context → Label → ElemMode → List Terminal → Read (List Field)
+elem_list context l m ts = and_then (elements_at context ts) (λ e us. closing (Elem l m e.0 e.1 ∷ []) (closed us))
+
+abbrev pub functions_list : Context → Label → ElemMode → List Terminal → Read (List Field)
+functions_list context l m ts = and_then (all (function_item context) ts) (λ es us. closing (Elem l m reference.Func es ∷ []) (closed us))
+
+-- after an offset in the table 0, which is not said
+unfoldable pub first_table : Context → Label → ElemMode → List Terminal → Read (List Field)
+first_table context l m (Word w ∷ ts) = elem_list context l m (Word w ∷ ts)
+first_table context l m ts = functions_list context l m ts
+
+abbrev pub said_table : Context → Label → List Terminal → Read (List Field)
+said_table context l ts = and_then (used_at (codes "table") context.tables ts) (λ i us. and_then (expression_at (codes "offset") context us) (λ is vs. elem_list context l (Active (target i is)) vs))
+
+abbrev pub active_elem : Context → Label → Option (List Terminal) → List Terminal → Read (List Field)
+active_elem context l None ts = and_then (expression_at (codes "offset") context ts) (λ is us. first_table context l (Active (target 0 is)) us)
+active_elem context l (Some us) ts = said_table context l ts
+
+abbrev pub elem_word : Context → Label → List ℕ → List Terminal → List Terminal → Read (List Field)
+elem_word context l w start ts = if bytes_eq w (codes "declare") then elem_list context l Declarative ts else elem_list context l Passive start
+
+-- an element segment after its name
+unfoldable pub elem_after : Context → Label → List Terminal → Read (List Field)
+elem_after context l (Open ∷ ts) = active_elem context l (after (codes "table") (Open ∷ ts)) (Open ∷ ts)
+elem_after context l (Word w ∷ ts) = elem_word context l w (Word w ∷ ts) ts
+elem_after context l ts = Err (Unexpected, ts)
+
+abbrev pub elem_at : Context → Label × List Terminal → Read (List Field)
+elem_at context p = elem_after context p.0 p.1
 
 -- an import after its names
 abbrev pub extern_after : Types → List ℕ × List ℕ → IndexSpace → Label × List Terminal → Read (List Field)
@@ -312,10 +451,14 @@ type_at ts = type_by (label_of ts).0 (after (codes "func") (label_of ts).1) (lab
 abbrev pub type_field : List Terminal → Read (List Field)
 type_field ts = and_then (type_at ts) (λ d us. Ok (TypeField d.name d.type ∷ [], us))
 
--- a type, an import, an export or a start function, after its word, with which all these tokens begin
+-- a segment
+abbrev pub segment_at : Context → List ℕ → List Terminal → List Terminal → Read (List Field)
+segment_at context w all ts = if bytes_eq w (codes "data") then data_at context (label_of ts) else if bytes_eq w (codes "elem") then elem_at context (label_of ts) else Err (UnknownWord, all)
+
+-- a type, an import, an export, a start function or a segment, after its word, with which all these tokens begin
 abbrev pub other_at : Types → Context → List ℕ → List Terminal → List Terminal → Read (List Field)
 other_at types context w all ts =
-    if bytes_eq w (codes "type") then type_field ts else if bytes_eq w (codes "import") then import_at types ts else if bytes_eq w (codes "export") then export_at context ts else if bytes_eq w (codes "start") then start_at context ts else Err (UnknownWord, all)
+    if bytes_eq w (codes "type") then type_field ts else if bytes_eq w (codes "import") then import_at types ts else if bytes_eq w (codes "export") then export_at context ts else if bytes_eq w (codes "start") then start_at context ts else segment_at context w all ts
 
 -- a field after its word, with which all these tokens begin
 abbrev pub field_by : Types → Context → Option IndexSpace → List ℕ → List Terminal → List Terminal → Read (List Field)
@@ -378,6 +521,34 @@ unfoldable pub binding_at : List Terminal → List Binding
 binding_at (Word w ∷ ts) = if bytes_eq w (codes "import") then import_binding ts else binding_by (space_of w) (label_of ts).0
 binding_at ts = []
 
+-- one that has no name, where there is one
+abbrev pub unnamed_by : Option (List Terminal) → List Label
+unnamed_by None = []
+unnamed_by (Some ts) = None ∷ []
+
+abbrev pub inline_data : Read (List (List ℕ)) → List Label
+inline_data (Ok (ns, ts)) = unnamed_by (after (codes "data") ts)
+inline_data (Err f) = []
+
+-- the data segment that a field brings
+unfoldable pub data_name_at : List Terminal → List Label
+data_name_at (Word w ∷ ts) = if bytes_eq w (codes "data") then (label_of ts).0 ∷ [] else if bytes_eq w (codes "memory") then inline_data (all export_item (label_of ts).1) else []
+data_name_at ts = []
+
+-- after a type
+abbrev pub elem_after_type : List Terminal → List Label
+elem_after_type (Word w ∷ ts) = unnamed_by (after (codes "elem") ts)
+elem_after_type ts = []
+
+abbrev pub inline_elem : Read (List (List ℕ)) → List Label
+inline_elem (Ok (ns, ts)) = elem_after_type ts
+inline_elem (Err f) = []
+
+-- the element segment that a field brings
+unfoldable pub elem_name_at : List Terminal → List Label
+elem_name_at (Word w ∷ ts) = if bytes_eq w (codes "elem") then (label_of ts).0 ∷ [] else if bytes_eq w (codes "table") then inline_elem (all export_item (label_of ts).1) else []
+elem_name_at ts = []
+
 abbrev pub definition_by : Read Definition → List Definition
 definition_by (Ok (d, ts)) = d ∷ []
 definition_by (Err f) = []
@@ -404,7 +575,7 @@ abbrev pub fields_of : Types → Context → List Terminal → Result (List Fiel
 fields_of types context ts = if all_distinct types context then ordered ts (ended (all (field_item types context) ts)) else Err (Duplicate, ts)
 
 abbrev pub fields_from : List (List Terminal) → List Terminal → Result (List Field) Fault
-fields_from ss ts = fields_of (types_in (flat_map definition_at ss)) (context_of (types_in (flat_map definition_at ss)) (flat_map binding_at ss)) ts
+fields_from ss ts = fields_of (types_in (flat_map definition_at ss)) (context_of (types_in (flat_map definition_at ss)) (flat_map binding_at ss) (flat_map elem_name_at ss) (flat_map data_name_at ss)) ts
 
 abbrev pub fields_at : List Terminal → Result (List Field) Fault
 fields_at ts = fields_from (starts Before [] ts) ts

@@ -1,6 +1,6 @@
 -- What the code's variables and functions are in the definitions.
 use denote.Ref.{Bor}
-use Rattle.std.specs.Prelude.{suc, ◌∷◌, ◌≡◌, ◌<◌, ◌≤◌, ◌==◌, ◌++◌, ℕ, List, [], map, Some, None, Ok, Err, Vec, if◌then◌else◌}
+use Rattle.std.specs.Prelude.{suc, ◌∷◌, ◌≡◌, ◌<◌, ◌≤◌, ◌==◌, ◌++◌, ℕ, List, [], map, Option, Some, None, Ok, Err, Vec, if◌then◌else◌}
 use Rattle.wat_instructions.specs.declared.pieces.Refusal.{Refusal}
 use Rattle.wat_instructions.specs.declared.pieces.Refusal.TheVariants as refusal
 use Rattle.wat_instructions.specs.Parts.{fault_of}
@@ -23,13 +23,23 @@ use Rattle.wat_fields.specs.declared.fields.IndexSpace.TheVariants as space
 use Rattle.wat_fields.specs.declared.fields.Left as declared_left
 use Rattle.wat_fields.specs.declared.binary.Counts as declared_counts
 use Rattle.wat_fields.specs.declared.binary.Run as declared_run
+use Rattle.wat_fields.specs.declared.binary.Segment as declared_segment
+use Rattle.wat_fields.specs.declared.binary.Place.{Place}
+use Rattle.wat_fields.specs.declared.binary.Place.TheVariants as places
+use Rattle.wat_fields.specs.declared.fields.Target as declared_target
+use Rattle.wat_fields.specs.declared.fields.ElemMode as declared_mode
+use Rattle.wat_fields.specs.declared.fields.ElemMode.TheVariants as modes
+use Rattle.wat_fields.specs.declared.binary.ElementSegment as declared_elements
+use Rattle.wat_fields.specs.declared.binary.ElemPlace.{ElemPlace}
+use Rattle.wat_fields.specs.declared.binary.ElemPlace.TheVariants as elem_places
+use Rattle.wat_instructions.specs.declared.pieces.Instruction.{Instruction}
 use Rattle.wat_fields.specs.declared.names.Binding as declared_binding
 use Rattle.wat_fields.specs.declared.names.Names as declared_names
 use Rattle.wat_fields.specs.declared.names.Depth as declared_depth
 use Rattle.wat_fields.specs.declared.names.Depth.TheVariants as depths
 use Rattle.wat_lex.specs.binary.Leb128.{unsigned_leb128}
-use Rattle.wat_fields.specs.Binary.{Export, ImportEntry, Run, export, next_index, run, section}
-use Rattle.wat_fields.specs.Fields.{ExternType, FuncType, OfTable, OfMemory, OfGlobal, Field, TypeField, Import, Func, Table, Memory, Global, Start, Definition, Function, TypeUse, Binding, Variable, binding, definition, extern_space, type_use, variable}
+use Rattle.wat_fields.specs.Binary.{Export, ImportEntry, Run, export, next_index, run, section, ElementSegment, element_segment, DataSegment, at_zero, data_segment}
+use Rattle.wat_fields.specs.Fields.{ExternType, FuncType, OfTable, OfMemory, OfGlobal, Field, TypeField, Import, Func, Table, Memory, Global, Start, Definition, Function, TypeUse, Binding, Variable, binding, definition, extern_space, type_use, variable, Data, Elem, ElemMode, Passive, Active, Declarative, Elements, Target, target}
 use Rattle.wat_fields.specs.Fields as field
 use Rattle.wat_fields.specs.Reading.{Item, Depth, Before, Inside}
 
@@ -64,6 +74,27 @@ extern_of (externs.Global t) = OfGlobal t
 abbrev pub import_of : declared_import.Import → ImportEntry
 import_of i = record { from = i.from.now; name = i.item.now; what = extern_of i.what }
 
+abbrev pub bytes_of : {G : Type 0} → Option (Vec ℕ G) → Option (List ℕ)
+bytes_of (Some v) = Some v.items
+bytes_of None = None
+
+abbrev pub target_of : Option declared_target.Target → Option Target
+target_of (Some t) = Some (target t.index t.offset.items)
+target_of None = None
+
+-- the instructions of an element
+abbrev pub items_of : {G : Type 0} → Vec Instruction G → List Instruction
+items_of v = v.items
+
+abbrev pub inline_elements : {G H : Type 0} → Option (Vec (Vec Instruction G) H) → Option Elements
+inline_elements (Some v) = Some (map items_of v.items)
+inline_elements None = None
+
+abbrev pub mode_of : declared_mode.ElemMode → ElemMode
+mode_of modes.Passive = Passive
+mode_of (modes.Active t) = Active (target t.index t.offset.items)
+mode_of modes.Declarative = Declarative
+
 -- the tokens at a place
 abbrev pub left_of : declared_left.Left → List Terminal
 left_of l = map terminal l.pieces.now
@@ -72,11 +103,13 @@ abbrev pub field_of : declared_field.Field → Field
 field_of (fields.Type d) = TypeField (label d.name) (type_of d.of)
 field_of (fields.Import i) = Import i.from.now i.item.now (label i.name) (map text_of i.exports.items) (extern_of i.what)
 field_of (fields.Func f) = Func (function_of f)
-field_of (fields.Table t) = Table (label t.name) (map text_of t.exports.items) t.of
-field_of (fields.Memory m) = Memory (label m.name) (map text_of m.exports.items) m.limits
+field_of (fields.Table t) = Table (label t.name) (map text_of t.exports.items) t.of (inline_elements t.elements)
+field_of (fields.Memory m) = Memory (label m.name) (map text_of m.exports.items) m.limits (bytes_of m.data)
 field_of (fields.Global g) = Global (label g.name) (map text_of g.exports.items) g.of g.first.items
 field_of (fields.Export e) = field.Export e.name.now e.space e.index
 field_of (fields.Start i) = Start i
+field_of (fields.Data d) = Data (label d.name) (target_of d.target) d.bytes.items
+field_of (fields.Elem e) = Elem (label e.name) (mode_of e.mode) e.of (map items_of e.elements.items)
 
 abbrev pub fields_of : List declared_field.Field → List Field
 fields_of fs = map field_of fs
@@ -95,11 +128,13 @@ context_of n = record {
   tables = n.tables;
   memories = n.memories;
   globals = n.globals;
+  elems = n.elems;
+  datas = n.datas;
 }
 
 -- the same with names of local variables
 abbrev pub with_names : List Label → Context → Context
-with_names ls c = record { types = c.types; locals = ls; funcs = c.funcs; tables = c.tables; memories = c.memories; globals = c.globals }
+with_names ls c = record { types = c.types; locals = ls; funcs = c.funcs; tables = c.tables; memories = c.memories; globals = c.globals; elems = c.elems; datas = c.datas }
 
 -- what a call that reads one item promises: none, and nothing else; or these after the others; or the fault; or memory was wanting
 abbrev pub NoItem : {V : Type 0} → Item V → List V → List V → Type 0
@@ -160,26 +195,72 @@ abbrev pub counted : Field → Counts → Counts
 counted (TypeField l t) c = c
 counted (Import m n l ns t) c = more (extern_space t) c
 counted (Func f) c = more space.Func c
-counted (Table l ns t) c = more space.Table c
-counted (Memory l ns t) c = more space.Mem c
+counted (Table l ns t es) c = more space.Table c
+counted (Memory l ns t bytes) c = more space.Mem c
 counted (Global l ns t is) c = more space.Global c
 counted (field.Export n s i) c = c
 counted (Start i) c = c
+counted (Data l t bytes) c = c
+counted (Elem l m t es) c = c
 
 -- the exports of a field, and of fields, by these indices
 abbrev pub exports_by : Counts → Field → List Export
 exports_by c (TypeField l t) = []
 exports_by c (Import m n l ns t) = map (export (extern_space t) (count (extern_space t) c)) ns
 exports_by c (Func f) = map (export space.Func c.funcs) f.exports
-exports_by c (Table l ns t) = map (export space.Table c.tables) ns
-exports_by c (Memory l ns t) = map (export space.Mem c.memories) ns
+exports_by c (Table l ns t es) = map (export space.Table c.tables) ns
+exports_by c (Memory l ns t bytes) = map (export space.Mem c.memories) ns
 exports_by c (Global l ns t is) = map (export space.Global c.globals) ns
 exports_by c (field.Export n s i) = export s i n ∷ []
 exports_by c (Start i) = []
+exports_by c (Data l t bytes) = []
+exports_by c (Elem l m t es) = []
 
 abbrev pub exports_from : Counts → List Field → List Export
 exports_from c [] = []
 exports_from c (f ∷ fs) = exports_by c f ++ exports_from (counted f c) fs
+
+-- the data segments of a field, and of fields, by these indices
+abbrev pub data_by : Counts → Field → List DataSegment
+data_by c (Data l t bytes) = data_segment t bytes ∷ []
+data_by c (Memory l ns t (Some bytes)) = data_segment (Some (target c.memories at_zero)) bytes ∷ []
+data_by c f = []
+
+abbrev pub data_from : Counts → List Field → List DataSegment
+data_from c [] = []
+data_from c (f ∷ fs) = data_by c f ++ data_from (counted f c) fs
+
+abbrev pub place_of : Place → Option Target
+place_of places.Nowhere = None
+place_of (places.At t) = Some (target t.now.index t.now.offset.items)
+place_of (places.Begin i) = Some (target i at_zero)
+
+abbrev pub segment_of : declared_segment.Segment → DataSegment
+segment_of s = data_segment (place_of s.place) s.bytes.now
+
+-- the element segments of a field, and of fields, by these indices
+abbrev pub elements_by : Counts → Field → List ElementSegment
+elements_by c (Elem l m t es) = element_segment m t es ∷ []
+elements_by c (Table l ns t (Some es)) = element_segment (Active (target c.tables at_zero)) t.element es ∷ []
+elements_by c f = []
+
+abbrev pub elements_from : Counts → List Field → List ElementSegment
+elements_from c [] = []
+elements_from c (f ∷ fs) = elements_by c f ++ elements_from (counted f c) fs
+
+abbrev pub elem_place_of : ElemPlace → ElemMode
+elem_place_of elem_places.Passive = Passive
+elem_place_of elem_places.Declarative = Declarative
+elem_place_of (elem_places.At t) = Active (target t.now.index t.now.offset.items)
+elem_place_of (elem_places.Begin i) = Active (target i at_zero)
+
+abbrev pub element_segment_of : declared_elements.ElementSegment → ElementSegment
+element_segment_of s = element_segment (elem_place_of s.place) s.of (map items_of s.elements.now)
+
+-- functions before others
+abbrev pub put_before : List ℕ → Option (List ℕ) → Option (List ℕ)
+put_before xs (Some ys) = Some (xs ++ ys)
+put_before xs None = None
 
 -- the runs of types, after so many of one
 abbrev pub runs_after : ℕ → ℕ → List ℕ → List Run

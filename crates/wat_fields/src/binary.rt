@@ -1,9 +1,9 @@
 //! The bytes of a module.
-ghost use Rattle.std.specs.Prelude.{◌≡◌, ◌<◌, ◌≤◌, pos, ◌++◌, ◌^◌, ◌∷◌, [], ℕ, List, OnOk, IfOk, MatchOption, length, map};
+ghost use Rattle.std.specs.Prelude.{◌≡◌, ◌<◌, ◌≤◌, pos, ◌++◌, ◌^◌, ◌∷◌, [], ℕ, List, OnOk, IfOk, MatchOption, length, map, None, Some};
 ghost use Rattle.std.specs.List.{flat_map};
 ghost use Rattle.wat_fields.specs.Binary as binary;
 ghost use Rattle.wat_fields.specs.Fields as grammar;
-ghost use Rattle.wat_fields.specs.Views.{AreBelow, count, counted, counted_section, counts_of, export_of, exports_by, extern_of, field_of, fields_of, function_of, import_of, more, run_of, text_of, use_of, variable_of};
+ghost use Rattle.wat_fields.specs.Views.{AreBelow, count, counted, counted_section, counts_of, export_of, exports_by, extern_of, field_of, fields_of, function_of, import_of, more, run_of, text_of, use_of, variable_of, data_by, elem_place_of, element_segment_of, elements_by, items_of, mode_of, place_of, segment_of};
 ghost use Rattle.wat_lex.specs.binary.Encoding.{list_encoding, text_encoding};
 ghost use Rattle.wat_lex.specs.binary.Leb128.{signed_leb128, unsigned_leb128};
 ghost use Rattle.wat_instructions.specs.Types.{index_or, type_byte};
@@ -11,8 +11,8 @@ ghost use Rattle.wat_instructions.specs.Views.{type_of};
 ghost use Rattle.wat_instructions.specs.Views as unnamed;
 
 use crate::fields::{
-    Export, ExternType, Field, Function, GlobalType, Import, IndexSpace, Limits, ReferenceType,
-    TableType, TypeUse, Variable,
+    ElemMode, Export, ExternType, Field, Function, GlobalType, Import, IndexSpace, Limits,
+    ReferenceType, TableType, Target, TypeUse, Variable,
 };
 use crate::uses::function_type;
 use std::alloc::{AllocError, Global};
@@ -243,6 +243,30 @@ fn add_instructions(
     Ok(())
 }
 
+/// Appends the types that elements use.
+fn add_elements(
+    alloc: Global,
+    types: &mut Vec<FunctionType>,
+    elements: &[Vec<Instruction>],
+) -> Result<(), AllocError>
+    ensures { OnOk result (map type_of types.new.items ≡ binary.types_after (map type_of types.old.items) (flat_map binary.expression_types (map items_of elements.now))) }
+{
+    for element in elements {
+        add_instructions(alloc, types, element)?;
+    }
+    Ok(())
+}
+
+/// Appends the types that the offset of an active element segment uses.
+fn add_mode(alloc: Global, types: &mut Vec<FunctionType>, mode: &ElemMode) -> Result<(), AllocError>
+    ensures { OnOk result (map type_of types.new.items ≡ binary.types_after (map type_of types.old.items) (binary.mode_types (mode_of mode.now))) }
+{
+    match mode {
+        ElemMode::Active(target) => add_instructions(alloc, types, &target.offset),
+        ElemMode::Passive | ElemMode::Declarative => Ok(()),
+    }
+}
+
 /// Appends the type of a type use.
 fn add_use(
     alloc: Global,
@@ -272,9 +296,21 @@ fn add_field(
             ExternType::Func(uses) => add_use(alloc, types, uses),
             ExternType::Table(_) | ExternType::Memory(_) | ExternType::Global(_) => Ok(()),
         },
+        Field::Table(table) => match &table.elements {
+            Some(elements) => add_elements(alloc, types, elements),
+            None => Ok(()),
+        },
         Field::Global(global) => add_instructions(alloc, types, &global.first),
-        Field::Type(_) | Field::Table(_) | Field::Memory(_) | Field::Export(_) | Field::Start(_) =>
-            Ok(()),
+        Field::Elem(elem) => {
+            add_mode(alloc, types, &elem.mode)?;
+            add_elements(alloc, types, &elem.elements)?;
+            Ok(())
+        }
+        Field::Data(data) => match &data.target {
+            Some(target) => add_instructions(alloc, types, &target.offset),
+            None => Ok(()),
+        },
+        Field::Type(_) | Field::Memory(_) | Field::Export(_) | Field::Start(_) => Ok(()),
     }
 }
 
@@ -322,6 +358,14 @@ struct Counts {
     memories: usize,
     globals: usize,
 }
+
+/// The indices that the first items have.
+const NONE: Counts = Counts {
+    funcs: 0,
+    tables: 0,
+    memories: 0,
+    globals: 0,
+};
 
 /// The same after an item more.
 fn more(counts: Counts, space: IndexSpace) -> Counts
@@ -373,7 +417,8 @@ fn counted(counts: Counts, field: &Field<'_>) -> Counts
         Field::Memory(_) => more(counts, IndexSpace::Mem),
         Field::Global(_) => more(counts, IndexSpace::Global),
         Field::Import(import) => more(counts, extern_space(&import.what)),
-        Field::Type(_) | Field::Export(_) | Field::Start(_) => counts,
+        Field::Type(_) | Field::Export(_) | Field::Start(_) | Field::Data(_) | Field::Elem(_) =>
+            counts,
     }
 }
 
@@ -413,7 +458,7 @@ fn push_exports<'p>(
             exports.push(*export)?;
             Ok(())
         }
-        Field::Type(_) | Field::Start(_) => Ok(()),
+        Field::Type(_) | Field::Start(_) | Field::Data(_) | Field::Elem(_) => Ok(()),
     }
 }
 
@@ -423,17 +468,165 @@ fn exports_of<'p>(alloc: Global, fields: &[Field<'p>]) -> Result<Vec<Export<'p>>
     ensures { IfOk result (λ exports. map export_of exports.items ≡ binary.exports_of (fields_of fields.now)) }
 {
     let mut exports = Vec::new(alloc);
-    let mut counts = Counts {
-        funcs: 0,
-        tables: 0,
-        memories: 0,
-        globals: 0,
-    };
+    let mut counts = NONE;
     for field in fields {
         push_exports(&mut exports, counts, field)?;
         counts = counted(counts, field);
     }
     Ok(exports)
+}
+
+/// Where a data segment is put: nowhere; where a target says; or at the beginning of a memory.
+#[derive(Clone, Copy)]
+enum Place<'f> {
+    Nowhere,
+    At(&'f Target),
+    Begin(usize),
+}
+
+/// A data segment.
+#[derive(Clone, Copy)]
+struct Segment<'f> {
+    place: Place<'f>,
+    bytes: &'f [u8],
+}
+
+/// Appends the data segments of a field.
+fn push_data<'f>(
+    segments: &mut Vec<Segment<'f>>,
+    counts: Counts,
+    field: &'f Field<'_>,
+) -> Result<(), AllocError>
+    ensures { OnOk result (map segment_of segments.new.items ≡ map segment_of segments.old.items ++ data_by (counts_of counts) (field_of field.now)) }
+{
+    match field {
+        Field::Data(data) => {
+            let place = match &data.target {
+                Some(target) => Place::At(target),
+                None => Place::Nowhere,
+            };
+            segments.push(Segment {
+                place,
+                bytes: &data.bytes,
+            })?;
+            Ok(())
+        }
+        Field::Memory(memory) => match &memory.data {
+            Some(bytes) => {
+                let place = Place::Begin(counts.memories);
+                segments.push(Segment { place, bytes })?;
+                Ok(())
+            }
+            None => Ok(()),
+        },
+        Field::Type(_)
+        | Field::Import(_)
+        | Field::Func(_)
+        | Field::Table(_)
+        | Field::Global(_)
+        | Field::Export(_)
+        | Field::Start(_)
+        | Field::Elem(_) => Ok(()),
+    }
+}
+
+/// The data segments of fields.
+#[tactic(auto, unfolding(crate::specs::Binary::data_of))]
+fn data_of<'f>(alloc: Global, fields: &'f [Field<'_>]) -> Result<Vec<Segment<'f>>, AllocError>
+    ensures { IfOk result (λ segments. map segment_of segments.items ≡ binary.data_of (fields_of fields.now)) }
+{
+    let mut segments = Vec::new(alloc);
+    let mut counts = NONE;
+    for field in fields {
+        push_data(&mut segments, counts, field)?;
+        counts = counted(counts, field);
+    }
+    Ok(segments)
+}
+
+/// What is done with an element segment: nothing; nothing but that it is said; or it is put where a
+/// target says, or at the beginning of a table.
+#[derive(Clone, Copy)]
+enum ElemPlace<'f> {
+    Passive,
+    Declarative,
+    At(&'f Target),
+    Begin(usize),
+}
+
+/// An element segment.
+#[derive(Clone, Copy)]
+struct ElementSegment<'f> {
+    place: ElemPlace<'f>,
+    of: ReferenceType,
+    elements: &'f [Vec<Instruction>],
+}
+
+/// What is done with a segment of this mode.
+fn elem_place(mode: &ElemMode) -> ElemPlace<'_>
+    ensures { elem_place_of result ≡ mode_of mode.now }
+{
+    match mode {
+        ElemMode::Passive => ElemPlace::Passive,
+        ElemMode::Active(target) => ElemPlace::At(target),
+        ElemMode::Declarative => ElemPlace::Declarative,
+    }
+}
+
+/// Appends the element segments of a field.
+fn push_elements<'f>(
+    segments: &mut Vec<ElementSegment<'f>>,
+    counts: Counts,
+    field: &'f Field<'_>,
+) -> Result<(), AllocError>
+    ensures { OnOk result (map element_segment_of segments.new.items ≡ map element_segment_of segments.old.items ++ elements_by (counts_of counts) (field_of field.now)) }
+{
+    match field {
+        Field::Elem(elem) => {
+            segments.push(ElementSegment {
+                place: elem_place(&elem.mode),
+                of: elem.of,
+                elements: &elem.elements,
+            })?;
+            Ok(())
+        }
+        Field::Table(table) => match &table.elements {
+            Some(elements) => {
+                segments.push(ElementSegment {
+                    place: ElemPlace::Begin(counts.tables),
+                    of: table.of.element,
+                    elements,
+                })?;
+                Ok(())
+            }
+            None => Ok(()),
+        },
+        Field::Type(_)
+        | Field::Import(_)
+        | Field::Func(_)
+        | Field::Memory(_)
+        | Field::Global(_)
+        | Field::Export(_)
+        | Field::Start(_)
+        | Field::Data(_) => Ok(()),
+    }
+}
+
+/// The element segments of fields.
+#[tactic(auto, unfolding(crate::specs::Binary::elements_of))]
+fn elements_of<'f>(
+    alloc: Global,
+    fields: &'f [Field<'_>],
+) -> Result<Vec<ElementSegment<'f>>, AllocError>
+    ensures { IfOk result (λ segments. map element_segment_of segments.items ≡ binary.elements_of (fields_of fields.now)) }
+{
+    let mut segments = Vec::new(alloc);
+    let mut counts = NONE;
+    for field in fields {
+        push_elements(&mut segments, counts, field)?;
+        counts = counted(counts, field);
+    }
+    Ok(segments)
 }
 
 /// How many local variables of a type follow one another.
@@ -830,6 +1023,318 @@ fn put_codes(
     put_section(alloc, out, 10, count, &items)
 }
 
+/// Appends where an active segment is put.
+fn put_target(
+    out: &mut Vec<u8>,
+    types: &[FunctionType],
+    index: usize,
+    offset: &[Instruction],
+) -> Result<(), AllocError>
+    ensures { OnOk result (out.new.items ≡ out.old.items ++ binary.target_bytes (map type_of types.now) (grammar.target index offset.now)) }
+{
+    if index == 0 {
+        out.push(0x00)?;
+    } else {
+        out.push(0x02)?;
+        put(out, index)?;
+    }
+    put_instructions(out, types, offset)?;
+    out.push(0x0B)?;
+    Ok(())
+}
+
+/// Appends where a segment is put.
+fn put_place(out: &mut Vec<u8>, types: &[FunctionType], place: Place<'_>) -> Result<(), AllocError>
+    ensures { OnOk result (out.new.items ≡ out.old.items ++ binary.mode_bytes (map type_of types.now) (place_of place.entry)) }
+{
+    match place {
+        Place::Nowhere => {
+            out.push(0x01)?;
+            Ok(())
+        }
+        Place::At(target) => put_target(out, types, target.index, &target.offset),
+        Place::Begin(index) => put_target(out, types, index, &[zero()]),
+    }
+}
+
+/// Appends the data section.
+fn put_data(
+    alloc: Global,
+    out: &mut Vec<u8>,
+    types: &[FunctionType],
+    segments: &[Segment<'_>],
+) -> Result<(), AllocError>
+    ensures { OnOk result (out.new.items ≡ out.old.items ++ binary.list_section 11 (binary.data_bytes (map type_of types.now)) (map segment_of segments.now)) }
+{
+    let mut items = Vec::new(alloc);
+    for segment in segments {
+        put_place(&mut items, types, segment.place)?;
+        put_sized(&mut items, segment.bytes)?;
+    }
+    put_section(alloc, out, 11, segments.len(), &items)
+}
+
+/// `i32.const 0`.
+fn zero() -> Instruction
+    ensures { result ∷ [] ≡ binary.at_zero }
+{
+    Instruction {
+        opcode: 0x41,
+        argument: Argument::I32(0),
+    }
+}
+
+/// The function of an element that is one.
+fn function_in(element: &[Instruction]) -> Option<usize>
+    ensures { result ≡ binary.function_in element.now }
+{
+    match element {
+        [instruction] => {
+            if instruction.opcode != 0xD2 {
+                return None;
+            }
+            index_of(&instruction.argument)
+        }
+        [] => None,
+        [_, _, ..] => None,
+    }
+}
+
+/// An immediate that is an index.
+fn index_of(argument: &Argument) -> Option<usize>
+    ensures { result ≡ binary.index_of argument.now }
+{
+    match argument {
+        Argument::Index(index) => Some(*index),
+        Argument::Nothing
+        | Argument::Labels(_)
+        | Argument::Indirect(_)
+        | Argument::I32(_)
+        | Argument::I64(_)
+        | Argument::F32(_)
+        | Argument::F64(_)
+        | Argument::Block(_)
+        | Argument::BlockUse(_)
+        | Argument::Memory(_, _)
+        | Argument::Zero => None,
+    }
+}
+
+/// The functions of elements, where all are functions.
+fn functions_in(
+    alloc: Global,
+    elements: &[Vec<Instruction>],
+) -> Result<Option<Vec<usize>>, AllocError>
+    ensures { IfOk result (λ o. MatchOption o (binary.functions_in (map items_of elements.now) ≡ None) (λ xs. binary.functions_in (map items_of elements.now) ≡ Some xs.items)) }
+{
+    let mut functions = Vec::new(alloc);
+    for element in elements {
+        match function_in(element) {
+            Some(index) => functions.push(index)?,
+            None => return Ok(None),
+        }
+    }
+    Ok(Some(functions))
+}
+
+/// The same, where they are of the type of functions.
+fn functions_by(
+    alloc: Global,
+    of: ReferenceType,
+    elements: &[Vec<Instruction>],
+) -> Result<Option<Vec<usize>>, AllocError>
+    ensures { IfOk result (λ o. MatchOption o (binary.functions_by of (map items_of elements.now) ≡ None) (λ xs. binary.functions_by of (map items_of elements.now) ≡ Some xs.items)) }
+{
+    match of {
+        ReferenceType::Func => functions_in(alloc, elements),
+        ReferenceType::Extern => Ok(None),
+    }
+}
+
+/// Appends functions by their indices.
+fn put_functions_of(out: &mut Vec<u8>, functions: &[usize]) -> Result<(), AllocError>
+    ensures { OnOk result (out.new.items ≡ out.old.items ++ binary.index_list functions.now) }
+{
+    put(out, functions.len())?;
+    for index in functions {
+        put(out, *index)?;
+    }
+    Ok(())
+}
+
+/// Appends an expression.
+fn put_expression(
+    out: &mut Vec<u8>,
+    types: &[FunctionType],
+    instructions: &[Instruction],
+) -> Result<(), AllocError>
+    ensures { OnOk result (out.new.items ≡ out.old.items ++ binary.expression_bytes (map type_of types.now) instructions.now) }
+{
+    put_instructions(out, types, instructions)?;
+    out.push(0x0B)?;
+    Ok(())
+}
+
+/// Appends elements by their instructions.
+fn put_elements_of(
+    out: &mut Vec<u8>,
+    types: &[FunctionType],
+    elements: &[Vec<Instruction>],
+) -> Result<(), AllocError>
+    ensures { OnOk result (out.new.items ≡ out.old.items ++ binary.element_list (map type_of types.now) (map items_of elements.now)) }
+{
+    put(out, elements.len())?;
+    for element in elements {
+        put_expression(out, types, element)?;
+    }
+    Ok(())
+}
+
+/// Appends a segment of functions that is put into a table.
+fn put_active_functions(
+    out: &mut Vec<u8>,
+    types: &[FunctionType],
+    index: usize,
+    offset: &[Instruction],
+    functions: &[usize],
+) -> Result<(), AllocError>
+    ensures { OnOk result (out.new.items ≡ out.old.items ++ binary.function_segment (map type_of types.now) (grammar.Active (grammar.target index offset.now)) functions.now) }
+{
+    if index > 0 {
+        out.push(0x02)?;
+        put(out, index)?;
+        put_expression(out, types, offset)?;
+        out.push(0x00)?;
+        return put_functions_of(out, functions);
+    }
+    out.push(0x00)?;
+    put_expression(out, types, offset)?;
+    put_functions_of(out, functions)
+}
+
+/// Appends a segment of functions.
+fn put_function_segment(
+    out: &mut Vec<u8>,
+    types: &[FunctionType],
+    place: ElemPlace<'_>,
+    functions: &[usize],
+) -> Result<(), AllocError>
+    ensures { OnOk result (out.new.items ≡ out.old.items ++ binary.function_segment (map type_of types.now) (elem_place_of place.entry) functions.now) }
+{
+    match place {
+        ElemPlace::Passive => {
+            out.push(0x01)?;
+            out.push(0x00)?;
+            put_functions_of(out, functions)
+        }
+        ElemPlace::Declarative => {
+            out.push(0x03)?;
+            out.push(0x00)?;
+            put_functions_of(out, functions)
+        }
+        ElemPlace::At(target) => put_active_functions(
+            out,
+            types,
+            target.index,
+            &target.offset,
+            functions,
+        ),
+        ElemPlace::Begin(index) => put_active_functions(out, types, index, &[zero()], functions),
+    }
+}
+
+/// Whether it is the type of functions.
+fn is_funcref(of: ReferenceType) -> bool
+    ensures { result ≡ binary.is_funcref of }
+{
+    match of {
+        ReferenceType::Func => true,
+        ReferenceType::Extern => false,
+    }
+}
+
+/// Appends a segment of any elements that is put into a table.
+fn put_active_elements(
+    out: &mut Vec<u8>,
+    types: &[FunctionType],
+    index: usize,
+    offset: &[Instruction],
+    of: ReferenceType,
+    elements: &[Vec<Instruction>],
+) -> Result<(), AllocError>
+    ensures { OnOk result (out.new.items ≡ out.old.items ++ binary.other_segment (map type_of types.now) (grammar.Active (grammar.target index offset.now)) of (map items_of elements.now)) }
+{
+    if index == 0 && is_funcref(of) {
+        out.push(0x04)?;
+        put_expression(out, types, offset)?;
+        return put_elements_of(out, types, elements);
+    }
+    out.push(0x06)?;
+    put(out, index)?;
+    put_expression(out, types, offset)?;
+    out.push(reference_byte(of))?;
+    put_elements_of(out, types, elements)
+}
+
+/// Appends a segment of any elements.
+fn put_other_segment(
+    out: &mut Vec<u8>,
+    types: &[FunctionType],
+    place: ElemPlace<'_>,
+    of: ReferenceType,
+    elements: &[Vec<Instruction>],
+) -> Result<(), AllocError>
+    ensures { OnOk result (out.new.items ≡ out.old.items ++ binary.other_segment (map type_of types.now) (elem_place_of place.entry) of (map items_of elements.now)) }
+{
+    match place {
+        ElemPlace::Passive => {
+            out.push(0x05)?;
+            out.push(reference_byte(of))?;
+            put_elements_of(out, types, elements)
+        }
+        ElemPlace::Declarative => {
+            out.push(0x07)?;
+            out.push(reference_byte(of))?;
+            put_elements_of(out, types, elements)
+        }
+        ElemPlace::At(target) => {
+            put_active_elements(out, types, target.index, &target.offset, of, elements)
+        }
+        ElemPlace::Begin(index) => put_active_elements(out, types, index, &[zero()], of, elements),
+    }
+}
+
+/// Appends an element segment.
+fn put_element_segment(
+    alloc: Global,
+    out: &mut Vec<u8>,
+    types: &[FunctionType],
+    segment: ElementSegment<'_>,
+) -> Result<(), AllocError>
+    ensures { OnOk result (out.new.items ≡ out.old.items ++ binary.elem_bytes (map type_of types.now) (element_segment_of segment.entry)) }
+{
+    match functions_by(alloc, segment.of, segment.elements)? {
+        Some(functions) => put_function_segment(out, types, segment.place, &functions),
+        None => put_other_segment(out, types, segment.place, segment.of, segment.elements),
+    }
+}
+
+/// Appends the element section.
+fn put_elements(
+    alloc: Global,
+    out: &mut Vec<u8>,
+    types: &[FunctionType],
+    segments: &[ElementSegment<'_>],
+) -> Result<(), AllocError>
+    ensures { OnOk result (out.new.items ≡ out.old.items ++ binary.list_section 9 (binary.elem_bytes (map type_of types.now)) (map element_segment_of segments.now)) }
+{
+    let mut items = Vec::new(alloc);
+    for segment in segments {
+        put_element_segment(alloc, &mut items, types, *segment)?;
+    }
+    put_section(alloc, out, 9, segments.len(), &items)
+}
+
 /// The bytes of a module of these fields.
 #[tactic(auto, unfolding(crate::specs::Binary::module_bytes))]
 pub(crate) fn module_bytes(alloc: Global, fields: &[Field<'_>]) -> Result<Vec<u8>, AllocError>
@@ -847,6 +1352,10 @@ pub(crate) fn module_bytes(alloc: Global, fields: &[Field<'_>]) -> Result<Vec<u8
     let exports = exports_of(alloc, fields)?;
     put_exports(alloc, &mut bytes, &exports)?;
     put_start(alloc, &mut bytes, fields)?;
+    let elements = elements_of(alloc, fields)?;
+    put_elements(alloc, &mut bytes, &types, &elements)?;
     put_codes(alloc, &mut bytes, &types, fields)?;
+    let segments = data_of(alloc, fields)?;
+    put_data(alloc, &mut bytes, &types, &segments)?;
     Ok(bytes)
 }

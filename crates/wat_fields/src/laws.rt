@@ -6,6 +6,7 @@ pub fn reading_is_grammar()
     ensures { ReadingIsGrammar }
 {
     wat_instructions::laws::machine_is_grammar();
+    wat_instructions::laws::folded_is_grammar();
     wat_instructions::laws::instructions_are_balanced();
 }
 

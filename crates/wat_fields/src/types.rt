@@ -29,7 +29,7 @@ pub(crate) fn space_of(word: &str) -> Option<IndexSpace>
 }
 
 /// The reference type of a word.
-fn reference_of(word: &str) -> Option<ReferenceType>
+pub(crate) fn reference_of(word: &str) -> Option<ReferenceType>
     ensures { result ≡ reference_type word.now }
 {
     if word == "funcref" {

@@ -10,3 +10,4 @@ pub mod Distinct
 pub mod Labels
 pub mod SameTypes
 pub mod Listed
+pub mod Folding

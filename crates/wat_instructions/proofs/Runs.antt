@@ -35,15 +35,15 @@ Completes context [] ts is r = (ts ≡ r) × (is ≡ [])
 Completes context (p ∷ ps) ts is r =
     (body : List Instruction) × (us : List Terminal) × (es : List Instruction) × (vs : List Terminal) × (js : List Instruction) × Instructions context (labels_in (p ∷ ps)) (only_folded p) ts body us × Closed context (labels_in (p ∷ ps)) p us es vs × Completes context ps vs js r × (is ≡ body ++ (es ++ js))
 
-abbrev Lands : Context → Result Step Fault → List Instruction → List Terminal → Type 0
+abbrev pub Lands : Context → Result Step Fault → List Instruction → List Terminal → Type 0
 Lands context (Ok s) is r = Completes context s.stack s.left is r
 Lands context (Err f) is r = ⊥
 
-abbrev output_of : Result Step Fault → List Instruction
+abbrev pub output_of : Result Step Fault → List Instruction
 output_of (Ok s) = s.output
 output_of (Err f) = []
 
-abbrev left_of : Result Step Fault → List Terminal
+abbrev pub left_of : Result Step Fault → List Terminal
 left_of (Ok s) = s.left
 left_of (Err f) = []
 
@@ -299,7 +299,7 @@ back context p ps (Other ∷ ts) is r h = absurd h
 
 -- Each step takes a token.
 
-abbrev Left : Result Step Fault → ℕ → Type 0
+abbrev pub Left : Result Step Fault → ℕ → Type 0
 Left (Ok s) n = length s.left < n
 Left (Err f) n = Unit {0}
 
@@ -357,7 +357,7 @@ open_block_takes : (context : Context) (f : Bool) (o : ℕ) (ts : List Terminal)
 open_block_takes context true o ts ps = at_condition_takes o (label_of ts).0 (block_type context.types (label_of ts).1) ps ts (head_keeps context.types ts)
 open_block_takes context false o ts ps = at_group_takes o (label_of ts).0 (block_type context.types (label_of ts).1) ps ts (head_keeps context.types ts)
 
-open_by_takes : (context : Context) (o : Option ℕ) (w : List ℕ) (ts : List Terminal) (ps : List Part) → Left (open_by context o (Word w ∷ ts) ts ps) (suc (suc (length ts)))
+pub open_by_takes : (context : Context) (o : Option ℕ) (w : List ℕ) (ts : List Terminal) (ps : List Part) → Left (open_by context o (Word w ∷ ts) ts ps) (suc (suc (length ts)))
 open_by_takes context (Some o) w ts ps = open_block_takes context (is_if o) o ts ps
 open_by_takes context None w ts ps = at_operands_takes (plain context (labels_in ps) (Word w ∷ ts)) ps (Word w ∷ ts) (plain_takes context (labels_in ps) w ts)
 
@@ -447,7 +447,7 @@ takes context p ps (Other ∷ ts) = tt
 pub step_takes : (context : Context) (p : Part) (ps : List Part) (ts : List Terminal) (s : Step) → step context p ps ts ≡ Ok s → length s.left < length ts
 step_takes context p ps ts s e = let K : Result Step Fault → Type 0 = λ q. Left q (length ts) in subst K e (takes context p ps ts)
 
-abbrev Goes : Context → Result Step Fault → List Instruction → List Terminal → ℕ → Type 0
+abbrev pub Goes : Context → Result Step Fault → List Instruction → List Terminal → ℕ → Type 0
 Goes context q is r n = (js : List Instruction) × (is ≡ output_of q ++ js) × Lands context q js r × (length (left_of q) < n)
 
 end_is : (w : List ℕ) → is_end w ≡ true → w ≡ codes "end"
@@ -702,7 +702,7 @@ forth context p ps ts is r (b, us, es, vs, js, h, c, rest, t) = forth_by context
 
 -- Whole runs.
 
-abbrev Gives : Result (List Instruction × List Terminal) Fault → List Instruction → List Terminal → Type 0
+abbrev pub Gives : Result (List Instruction × List Terminal) Fault → List Instruction → List Terminal → Type 0
 Gives (Ok (js, ts)) is r = (is ≡ js) × (ts ≡ r)
 Gives (Err f) is r = ⊥
 
@@ -714,17 +714,17 @@ after : (output : List Instruction) (q : Result (List Instruction × List Termin
 after output (Ok (ks, ts)) is js r e h = (e ∙ ap (λ x. output ++ x) h.0, h.1)
 after output (Err f) is js r e h = absurd h
 
-abbrev Sound : Context → ℕ → Type 0
+abbrev pub Sound : Context → ℕ → Type 0
 Sound context n = (ps : List Part) (ts : List Terminal) (is : List Instruction) (r : List Terminal) → Gives (run context n ps ts) is r → Completes context ps ts is r
 
-abbrev Complete : Context → ℕ → Type 0
+abbrev pub Complete : Context → ℕ → Type 0
 Complete context n = (ps : List Part) (ts : List Terminal) (is : List Instruction) (r : List Terminal) → Completes context ps ts is r → length ts < n → Gives (run context n ps ts) is r
 
-sound_by : (context : Context) (n : ℕ) → Sound context n → (q : Result Step Fault) (is : List Instruction) (r : List Terminal) → Gives (run_by (run context n) q) is r → (js : List Instruction) × (is ≡ output_of q ++ js) × Lands context q js r
+pub sound_by : (context : Context) (n : ℕ) → Sound context n → (q : Result Step Fault) (is : List Instruction) (r : List Terminal) → Gives (run_by (run context n) q) is r → (js : List Instruction) × (is ≡ output_of q ++ js) × Lands context q js r
 sound_by context n k (Ok s) is r h = let x = before s.output (run context n s.stack s.left) is r h in (x.0, x.1, k s.stack s.left x.0 r x.2)
 sound_by context n k (Err f) is r h = absurd h
 
-sound : (context : Context) (n : ℕ) → Sound context n
+pub sound : (context : Context) (n : ℕ) → Sound context n
 unfolding run
 sound context zero [] ts is r h = (h.1, h.0)
 sound context zero (p ∷ ps) ts is r h = absurd h
@@ -733,21 +733,21 @@ sound context (suc n) (p ∷ ps) ts is r h =
     let x = sound_by context n (sound context n) (step context p ps ts) is r h in
     subst (λ y. Completes context (p ∷ ps) ts y r) (sym x.1) (back context p ps ts x.0 r x.2)
 
-complete_by : (context : Context) (n m : ℕ) → Complete context n → (q : Result Step Fault) (is : List Instruction) (r : List Terminal) → Goes context q is r m → m ≤ n → Gives (run_by (run context n) q) is r
+pub complete_by : (context : Context) (n m : ℕ) → Complete context n → (q : Result Step Fault) (is : List Instruction) (r : List Terminal) → Goes context q is r m → m ≤ n → Gives (run_by (run context n) q) is r
 complete_by context n m k (Ok s) is r (js, e, h, l) g = after s.output (run context n s.stack s.left) is js r e (k s.stack s.left js r h (omega arith))
 complete_by context n m k (Err f) is r (js, e, h, l) g = absurd h
 
-complete : (context : Context) (n : ℕ) → Complete context n
+pub complete : (context : Context) (n : ℕ) → Complete context n
 unfolding run
 complete context zero [] ts is r h l = (h.1, h.0)
 complete context zero (p ∷ ps) ts is r h l = absurd (omega arith)
 complete context (suc n) [] ts is r h l = (h.1, h.0)
 complete context (suc n) (p ∷ ps) ts is r h l = complete_by context n (length ts) (complete context n) (step context p ps ts) is r (forth context p ps ts is r h) (omega arith)
 
-gives_of : (q : Result (List Instruction × List Terminal) Fault) (is : List Instruction) (r : List Terminal) → q ≡ Ok (is, r) → Gives q is r
+pub gives_of : (q : Result (List Instruction × List Terminal) Fault) (is : List Instruction) (r : List Terminal) → q ≡ Ok (is, r) → Gives q is r
 gives_of q is r e = let G : Result (List Instruction × List Terminal) Fault → Type 0 = λ q. Gives q is r in subst G (sym e) (refl, refl)
 
-of_gives : (q : Result (List Instruction × List Terminal) Fault) (is : List Instruction) (r : List Terminal) → Gives q is r → q ≡ Ok (is, r)
+pub of_gives : (q : Result (List Instruction × List Terminal) Fault) (is : List Instruction) (r : List Terminal) → Gives q is r → q ≡ Ok (is, r)
 of_gives (Ok (js, ts)) is r h = ap (λ x. Ok (x, ts)) (sym h.0) ∙ ap (λ x. Ok (is, x)) h.1
 of_gives (Err f) is r h = absurd h
 

@@ -2,7 +2,7 @@
 -- 6.5.10 folded instructions. Over the tokens that count. A rule takes tokens from a place on, and leaves the rest. What is spelled is a list of instructions as
 -- the binary format has them (5.4): `end` and `else` are among them, and a folded instruction comes after its operands.
 -- Which fault a text has that the grammar does not spell is no part of the standard: a rule of our own.
-use Rattle.std.specs.Prelude.{◌≡◌, ℕ, suc, Bool, true, false, List, [], ◌∷◌, ◌++◌, codes, Option, Some, None, Result, Ok, Err, bytes_eq, nat_lt, nat_le, ◌^◌, ◌*◌, ◌==◌, ◌||◌, if◌then◌else◌, slice_get, ℤ, pos, ◌-ℤ◌}
+use Rattle.std.specs.Prelude.{◌≡◌, ℕ, suc, Bool, true, false, List, [], ◌∷◌, ◌++◌, codes, Option, Some, None, Result, Ok, Err, bytes_eq, nat_lt, nat_le, ◌^◌, ◌*◌, ◌==◌, ◌||◌, if◌then◌else◌, slice_get, ℤ, pos, ◌-ℤ◌, zero}
 use Rattle.std.specs.Float.{binary32, binary64}
 use Rattle.wat_floats.specs.Literals.{of_integer}
 use Rattle.wat_instructions.specs.declared.pieces.Argument.{Argument}
@@ -19,14 +19,14 @@ use Rattle.wat_instructions.specs.declared.table.Immediate.TheVariants as immedi
 use Rattle.wat_instructions.specs.Branches.{Branches, branches}
 use Rattle.wat_instructions.specs.Memory.{offset, align}
 use Rattle.wat_instructions.specs.Table.{Mnemonic, found, mnemonics}
-use Rattle.wat_instructions.specs.Terminals.{Terminal, Open, Close, Word, Id, Integer, Float, Label}
+use Rattle.wat_instructions.specs.Terminals.{Terminal, Open, Close, Word, Id, Integer, Float, Label, Text, Other}
 use Rattle.wat_instructions.specs.Types.{FunctionType, Types, UnnamedUse, from_to, indirect_call, same_type, unnamed_use}
 
 -- what is wrong, and the tokens from the one where it is
 abbrev pub Fault : Type 0
 Fault = FaultKind × List Terminal
 
--- 6.1.3 contexts: the types; and the names of the items of five index spaces, each in the order of their indices
+-- 6.1.3 contexts: the types; and the names of the items of seven index spaces, each in the order of their indices
 pub record Context : Type 0 where
   pub types : Types
   pub locals : List Label
@@ -34,6 +34,8 @@ pub record Context : Type 0 where
   pub tables : List Label
   pub memories : List Label
   pub globals : List Label
+  pub elems : List Label
+  pub datas : List Label
 
 abbrev pub is_name : List ℕ → Label → Bool
 is_name x None = false
@@ -368,3 +370,20 @@ pub data Instructions (context : Context) : List Label → Bool → List Termina
 -- the instructions of a body up to its `)`, which is passed; a body is in no block, and its label has no name (6.6.5)
 abbrev pub Body : Context → List Terminal → List Instruction → List Terminal → Type 0
 Body context ts is r = Instructions context (None ∷ []) false ts is (Close ∷ r)
+
+-- the tokens after the `)` of the group in which so many are open
+abbrev pub past : ℕ → List Terminal → List Terminal
+past d [] = []
+past d (Open ∷ ts) = past (suc d) ts
+past zero (Close ∷ ts) = ts
+past (suc d) (Close ∷ ts) = past d ts
+past d (Word w ∷ ts) = past d ts
+past d (Id x ∷ ts) = past d ts
+past d (Integer s n ∷ ts) = past d ts
+past d (Text v ∷ ts) = past d ts
+past d (Float narrow wide ∷ ts) = past d ts
+past d (Other ∷ ts) = past d ts
+
+-- 6.5.10: one folded instruction, in no block: folded instructions up to the `)` of the first `(`
+pub data Folded (context : Context) : List Terminal → List Instruction → List Terminal → Type 0 where
+  by_group : {ts r : List Terminal} {is : List Instruction} → Instructions context [] true (Open ∷ ts) is r → r ≡ past 0 ts → Folded context (Open ∷ ts) is r

@@ -164,3 +164,12 @@ run context (suc n) (p ∷ ps) ts = run_by (run context n) (step context p ps ts
 -- the instructions of a body up to its `)`, which is passed, and the tokens after it; or the fault
 abbrev pub body : Context → List Terminal → Result (List Instruction × List Terminal) Fault
 body context ts = run context (suc (length ts)) (Body ∷ []) ts
+
+-- the first step of one folded instruction, after its `(`
+abbrev pub first_step : Context → List Terminal → Result Step Fault
+first_step context (Word w ∷ ts) = open_by context (structured w) (Word w ∷ ts) ts []
+first_step context ts = Err (Unexpected, ts)
+
+-- one folded instruction after its `(`, and the tokens after its `)`; or the fault
+abbrev pub folded : Context → List Terminal → Result (List Instruction × List Terminal) Fault
+folded context ts = run_by (run context (suc (length ts))) (first_step context ts)

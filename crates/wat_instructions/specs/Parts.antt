@@ -39,6 +39,8 @@ scope_of s = record {
   tables = s.tables.now;
   memories = s.memories.now;
   globals = s.globals.now;
+  elems = s.elems.now;
+  datas = s.datas.now;
 }
 
 abbrev pub fault_of : declared.Fault → Fault

@@ -16,7 +16,7 @@ use crate::types::FunctionType;
 use crate::{floats, memory, uses};
 use std::alloc::Global;
 
-/// The types, and the names of the items of five index spaces, each in the order of their indices.
+/// The types, and the names of the items of seven index spaces, each in the order of their indices.
 #[derive(Clone, Copy)]
 pub struct Scope<'s, 'n> {
     pub type_names: &'s IndexedNames<'n>,
@@ -26,6 +26,8 @@ pub struct Scope<'s, 'n> {
     pub tables: &'s IndexedNames<'n>,
     pub memories: &'s IndexedNames<'n>,
     pub globals: &'s IndexedNames<'n>,
+    pub elems: &'s IndexedNames<'n>,
+    pub datas: &'s IndexedNames<'n>,
 }
 
 /// The label that a part binds.

@@ -1,5 +1,5 @@
 //! Modules of WebAssembly, from text to bytes: a compiler whose answer is that of the standard's
-//! grammar and binary format, by theorem. As yet modules hold no elements and no data.
+//! grammar and binary format, by theorem.
 #![tactic(auto)]
 
 ghost use Rattle.std.specs.List.{All};

@@ -14,7 +14,7 @@
 //! # Ok::<(), wat_modules::Error>(())
 //! ```
 //!
-//! It takes the modules that [`parse_str`] names: as yet those without elements and data. Any other text is refused with its place.
+//! It takes the modules that [`parse_str`] names. Any other text is refused with its place.
 //!
 //! The crate is `no_std` with `alloc`. The feature `std`, which is on unless it is turned off, has `Error::set_path`.
 #![no_std]
@@ -43,8 +43,8 @@ pub use wat_lex::{Error, Span};
 
 /// The bytes of the module that a text spells, in WebAssembly's binary format.
 ///
-/// As yet a module is `(module $name? field..)`, of types, imports, functions, tables, memories, globals, exports and a start function, with names,
-/// inline imports and exports, and no elements or data. Value types are `i32`, `i64`, `f32` and `f64`. Instructions, plain, in blocks and folded, are
+/// As yet a module is `(module $name? field..)`, of types, imports, functions, tables, memories, globals, exports, a start function, elements and data, with names,
+/// inline imports, exports, elements and data. Value types are `i32`, `i64`, `f32` and `f64`. Instructions, plain, in blocks and folded, are
 /// those of WebAssembly 1.0 and the sign extensions, but for `br_table` and `call_indirect`. Blocks have at most one result.
 ///
 /// Where the text is such a module the answer is its bytes; where it is none, an error: both are proved of the text that this function is made of. A

@@ -1,6 +1,6 @@
 // Made by tools/erase from crates/wat_modules/src/lib.rt; do not edit.
 //! Modules of WebAssembly, from text to bytes: a compiler whose answer is that of the standard's
-//! grammar and binary format, by theorem. As yet modules hold no elements and no data.
+//! grammar and binary format, by theorem.
 
 use wat_lex::shim::prelude::*;
 pub mod laws;

@@ -68,7 +68,7 @@ fn modules_have_their_bytes() {
 
 #[test]
 fn fields_have_their_bytes() {
-    let rows: [(&str, &[u8]); 6] = [
+    let rows: [(&str, &[u8]); 8] = [
         (
             "(module (func (param i32)) (type (func)) (type (func (param i32))))",
             b"\x01\x08\x02\x60\x00\x00\x60\x01\x7f\x00\x03\x02\x01\x01\x0a\x04\x01\x02\x00\x0b",
@@ -93,6 +93,14 @@ fn fields_have_their_bytes() {
             "(module (start $f) (func) (func $f))",
             b"\x01\x04\x01\x60\x00\x00\x03\x03\x02\x00\x00\x08\x01\x01\x0a\x07\x02\x02\x00\x0b\x02\x00\x0b",
         ),
+        (
+            "(module (import \"m\" \"n\" (func $f)) (table 1 funcref) (elem func 0 $f) (elem (i32.const 0) $f))",
+            b"\x01\x04\x01\x60\x00\x00\x02\x07\x01\x01m\x01n\x00\x00\x04\x04\x01\x70\x00\x01\x09\x0c\x02\x01\x00\x02\x00\x00\x00\x41\x00\x0b\x01\x00",
+        ),
+        (
+            "(module (data \"a\") (memory (data \"b\" \"c\")) (data $d (memory 0) (offset i32.const 1) \"d\"))",
+            b"\x05\x04\x01\x01\x01\x01\x0b\x11\x03\x01\x01a\x00\x41\x00\x0b\x02bc\x00\x41\x01\x0b\x01d",
+        ),
     ];
     for (text, sections) in rows {
         let bytes = parse_str(text).unwrap();
@@ -106,7 +114,7 @@ fn refusals_have_their_place() {
         ("", "unexpected token", 0),
         ("(module) x", "unexpected token", 9),
         ("(module (func nop)", "unexpected token", 18),
-        ("(module (data 0))", "unknown keyword", 9),
+        ("(module (data 0))", "unexpected token", 14),
         ("(module (func (type 5)))", "unknown identifier", 20),
         (
             "(module (func) (import \"m\" \"n\" (func)))",

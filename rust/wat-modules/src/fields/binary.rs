@@ -3,8 +3,8 @@
 
 use wat_lex::shim::prelude::*;
 use crate::fields::fields::{
-    Export, ExternType, Field, Function, GlobalType, Import, IndexSpace, Limits, ReferenceType,
-    TableType, TypeUse, Variable,
+    ElemMode, Export, ExternType, Field, Function, GlobalType, Import, IndexSpace, Limits,
+    ReferenceType, TableType, Target, TypeUse, Variable,
 };
 use crate::fields::uses::function_type;
 use wat_lex::shim::alloc::{AllocError, Global};
@@ -291,6 +291,42 @@ fn add_instructions(
     Ok(())
 }
 
+/// Appends the types that elements use.
+///
+/// # Proved
+///
+/// ```text
+/// ensures { OnOk result (map type_of types.new.items ≡ binary.types_after (map type_of types.old.items) (flat_map binary.expression_types (map items_of elements.now))) }
+/// ```
+fn add_elements(
+    alloc: Global,
+    types: &mut Vec<FunctionType>,
+    elements: &[Vec<Instruction>],
+) -> Result<(), AllocError> {
+    for element in elements {
+        add_instructions(alloc, types, element)?;
+    }
+    Ok(())
+}
+
+/// Appends the types that the offset of an active element segment uses.
+///
+/// # Proved
+///
+/// ```text
+/// ensures { OnOk result (map type_of types.new.items ≡ binary.types_after (map type_of types.old.items) (binary.mode_types (mode_of mode.now))) }
+/// ```
+fn add_mode(
+    alloc: Global,
+    types: &mut Vec<FunctionType>,
+    mode: &ElemMode,
+) -> Result<(), AllocError> {
+    match mode {
+        ElemMode::Active(target) => add_instructions(alloc, types, &target.offset),
+        ElemMode::Passive | ElemMode::Declarative => Ok(()),
+    }
+}
+
 /// Appends the type of a type use.
 ///
 /// # Proved
@@ -328,12 +364,21 @@ fn add_field(
             ExternType::Func(uses) => add_use(alloc, types, uses),
             ExternType::Table(_) | ExternType::Memory(_) | ExternType::Global(_) => Ok(()),
         },
+        Field::Table(table) => match &table.elements {
+            Some(elements) => add_elements(alloc, types, elements),
+            None => Ok(()),
+        },
         Field::Global(global) => add_instructions(alloc, types, &global.first),
-        Field::Type(_)
-        | Field::Table(_)
-        | Field::Memory(_)
-        | Field::Export(_)
-        | Field::Start(_) => Ok(()),
+        Field::Elem(elem) => {
+            add_mode(alloc, types, &elem.mode)?;
+            add_elements(alloc, types, &elem.elements)?;
+            Ok(())
+        }
+        Field::Data(data) => match &data.target {
+            Some(target) => add_instructions(alloc, types, &target.offset),
+            None => Ok(()),
+        },
+        Field::Type(_) | Field::Memory(_) | Field::Export(_) | Field::Start(_) => Ok(()),
     }
 }
 
@@ -396,6 +441,14 @@ struct Counts {
     memories: usize,
     globals: usize,
 }
+
+/// The indices that the first items have.
+const NONE: Counts = Counts {
+    funcs: 0,
+    tables: 0,
+    memories: 0,
+    globals: 0,
+};
 
 /// The same after an item more.
 ///
@@ -463,7 +516,9 @@ fn counted(counts: Counts, field: &Field<'_>) -> Counts {
         Field::Memory(_) => more(counts, IndexSpace::Mem),
         Field::Global(_) => more(counts, IndexSpace::Global),
         Field::Import(import) => more(counts, extern_space(&import.what)),
-        Field::Type(_) | Field::Export(_) | Field::Start(_) => counts,
+        Field::Type(_) | Field::Export(_) | Field::Start(_) | Field::Data(_) | Field::Elem(_) => {
+            counts
+        }
     }
 }
 
@@ -511,7 +566,7 @@ fn push_exports<'p>(
             exports.push(*export)?;
             Ok(())
         }
-        Field::Type(_) | Field::Start(_) => Ok(()),
+        Field::Type(_) | Field::Start(_) | Field::Data(_) | Field::Elem(_) => Ok(()),
     }
 }
 
@@ -524,17 +579,183 @@ fn push_exports<'p>(
 /// ```
 fn exports_of<'p>(alloc: Global, fields: &[Field<'p>]) -> Result<Vec<Export<'p>>, AllocError> {
     let mut exports = Vec::new(alloc);
-    let mut counts = Counts {
-        funcs: 0,
-        tables: 0,
-        memories: 0,
-        globals: 0,
-    };
+    let mut counts = NONE;
     for field in fields {
         push_exports(&mut exports, counts, field)?;
         counts = counted(counts, field);
     }
     Ok(exports)
+}
+
+/// Where a data segment is put: nowhere; where a target says; or at the beginning of a memory.
+#[derive(Clone, Copy)]
+enum Place<'f> {
+    Nowhere,
+    At(&'f Target),
+    Begin(usize),
+}
+
+/// A data segment.
+#[derive(Clone, Copy)]
+struct Segment<'f> {
+    place: Place<'f>,
+    bytes: &'f [u8],
+}
+
+/// Appends the data segments of a field.
+///
+/// # Proved
+///
+/// ```text
+/// ensures { OnOk result (map segment_of segments.new.items ≡ map segment_of segments.old.items ++ data_by (counts_of counts) (field_of field.now)) }
+/// ```
+fn push_data<'f>(
+    segments: &mut Vec<Segment<'f>>,
+    counts: Counts,
+    field: &'f Field<'_>,
+) -> Result<(), AllocError> {
+    match field {
+        Field::Data(data) => {
+            let place = match &data.target {
+                Some(target) => Place::At(target),
+                None => Place::Nowhere,
+            };
+            segments.push(Segment {
+                place,
+                bytes: &data.bytes,
+            })?;
+            Ok(())
+        }
+        Field::Memory(memory) => match &memory.data {
+            Some(bytes) => {
+                let place = Place::Begin(counts.memories);
+                segments.push(Segment { place, bytes })?;
+                Ok(())
+            }
+            None => Ok(()),
+        },
+        Field::Type(_)
+        | Field::Import(_)
+        | Field::Func(_)
+        | Field::Table(_)
+        | Field::Global(_)
+        | Field::Export(_)
+        | Field::Start(_)
+        | Field::Elem(_) => Ok(()),
+    }
+}
+
+/// The data segments of fields.
+///
+/// # Proved
+///
+/// ```text
+/// ensures { IfOk result (λ segments. map segment_of segments.items ≡ binary.data_of (fields_of fields.now)) }
+/// ```
+fn data_of<'f>(alloc: Global, fields: &'f [Field<'_>]) -> Result<Vec<Segment<'f>>, AllocError> {
+    let mut segments = Vec::new(alloc);
+    let mut counts = NONE;
+    for field in fields {
+        push_data(&mut segments, counts, field)?;
+        counts = counted(counts, field);
+    }
+    Ok(segments)
+}
+
+/// What is done with an element segment: nothing; nothing but that it is said; or it is put where a
+/// target says, or at the beginning of a table.
+#[derive(Clone, Copy)]
+enum ElemPlace<'f> {
+    Passive,
+    Declarative,
+    At(&'f Target),
+    Begin(usize),
+}
+
+/// An element segment.
+#[derive(Clone, Copy)]
+struct ElementSegment<'f> {
+    place: ElemPlace<'f>,
+    of: ReferenceType,
+    elements: &'f [Vec<Instruction>],
+}
+
+/// What is done with a segment of this mode.
+///
+/// # Proved
+///
+/// ```text
+/// ensures { elem_place_of result ≡ mode_of mode.now }
+/// ```
+fn elem_place(mode: &ElemMode) -> ElemPlace<'_> {
+    match mode {
+        ElemMode::Passive => ElemPlace::Passive,
+        ElemMode::Active(target) => ElemPlace::At(target),
+        ElemMode::Declarative => ElemPlace::Declarative,
+    }
+}
+
+/// Appends the element segments of a field.
+///
+/// # Proved
+///
+/// ```text
+/// ensures { OnOk result (map element_segment_of segments.new.items ≡ map element_segment_of segments.old.items ++ elements_by (counts_of counts) (field_of field.now)) }
+/// ```
+fn push_elements<'f>(
+    segments: &mut Vec<ElementSegment<'f>>,
+    counts: Counts,
+    field: &'f Field<'_>,
+) -> Result<(), AllocError> {
+    match field {
+        Field::Elem(elem) => {
+            segments.push(ElementSegment {
+                place: elem_place(&elem.mode),
+                of: elem.of,
+                elements: &elem.elements,
+            })?;
+            Ok(())
+        }
+        Field::Table(table) => match &table.elements {
+            Some(elements) => {
+                segments.push(ElementSegment {
+                    place: ElemPlace::Begin(counts.tables),
+                    of: table.of.element,
+                    elements,
+                })?;
+                Ok(())
+            }
+            None => Ok(()),
+        },
+        Field::Type(_)
+        | Field::Import(_)
+        | Field::Func(_)
+        | Field::Memory(_)
+        | Field::Global(_)
+        | Field::Export(_)
+        | Field::Start(_)
+        | Field::Data(_) => Ok(()),
+    }
+}
+
+/// The element segments of fields.
+///
+/// # Proved
+///
+/// ```text
+/// ensures { IfOk result (λ segments. map element_segment_of segments.items ≡ binary.elements_of (fields_of fields.now)) }
+/// ```
+fn elements_of<'f>(
+    alloc: Global,
+    fields: &'f [Field<'_>],
+) -> Result<Vec<ElementSegment<'f>>, AllocError> {
+    let mut segments = Vec::new(alloc);
+    let mut counts = NONE;
+    for field in fields {
+        push_elements(&mut segments, counts, field)?;
+        counts = counted(counts, field);
+    }
+    Ok(segments)
 }
 
 /// How many local variables of a type follow one another.
@@ -1033,6 +1254,390 @@ fn put_codes(
     put_section(alloc, out, 10, count, &items)
 }
 
+/// Appends where an active segment is put.
+///
+/// # Proved
+///
+/// ```text
+/// ensures { OnOk result (out.new.items ≡ out.old.items ++ binary.target_bytes (map type_of types.now) (grammar.target index offset.now)) }
+/// ```
+fn put_target(
+    out: &mut Vec<u8>,
+    types: &[FunctionType],
+    index: usize,
+    offset: &[Instruction],
+) -> Result<(), AllocError> {
+    if index == 0 {
+        out.push(0x00)?;
+    } else {
+        out.push(0x02)?;
+        put(out, index)?;
+    }
+    put_instructions(out, types, offset)?;
+    out.push(0x0B)?;
+    Ok(())
+}
+
+/// Appends where a segment is put.
+///
+/// # Proved
+///
+/// ```text
+/// ensures { OnOk result (out.new.items ≡ out.old.items ++ binary.mode_bytes (map type_of types.now) (place_of place.entry)) }
+/// ```
+fn put_place(
+    out: &mut Vec<u8>,
+    types: &[FunctionType],
+    place: Place<'_>,
+) -> Result<(), AllocError> {
+    match place {
+        Place::Nowhere => {
+            out.push(0x01)?;
+            Ok(())
+        }
+        Place::At(target) => put_target(out, types, target.index, &target.offset),
+        Place::Begin(index) => put_target(out, types, index, &[zero()]),
+    }
+}
+
+/// Appends the data section.
+///
+/// # Proved
+///
+/// ```text
+/// ensures { OnOk result (out.new.items ≡ out.old.items ++ binary.list_section 11 (binary.data_bytes (map type_of types.now)) (map segment_of segments.now)) }
+/// ```
+fn put_data(
+    alloc: Global,
+    out: &mut Vec<u8>,
+    types: &[FunctionType],
+    segments: &[Segment<'_>],
+) -> Result<(), AllocError> {
+    let mut items = Vec::new(alloc);
+    for segment in segments {
+        put_place(&mut items, types, segment.place)?;
+        put_sized(&mut items, segment.bytes)?;
+    }
+    put_section(alloc, out, 11, segments.len(), &items)
+}
+
+/// `i32.const 0`.
+///
+/// # Proved
+///
+/// ```text
+/// ensures { result ∷ [] ≡ binary.at_zero }
+/// ```
+fn zero() -> Instruction {
+    Instruction {
+        opcode: 0x41,
+        argument: Argument::I32(0),
+    }
+}
+
+/// The function of an element that is one.
+///
+/// # Proved
+///
+/// ```text
+/// ensures { result ≡ binary.function_in element.now }
+/// ```
+fn function_in(element: &[Instruction]) -> Option<usize> {
+    match element {
+        [instruction] => {
+            if instruction.opcode != 0xD2 {
+                return None;
+            }
+            index_of(&instruction.argument)
+        }
+        [] => None,
+        [_, _, ..] => None,
+    }
+}
+
+/// An immediate that is an index.
+///
+/// # Proved
+///
+/// ```text
+/// ensures { result ≡ binary.index_of argument.now }
+/// ```
+fn index_of(argument: &Argument) -> Option<usize> {
+    match argument {
+        Argument::Index(index) => Some(*index),
+        Argument::Nothing
+        | Argument::Labels(_)
+        | Argument::Indirect(_)
+        | Argument::I32(_)
+        | Argument::I64(_)
+        | Argument::F32(_)
+        | Argument::F64(_)
+        | Argument::Block(_)
+        | Argument::BlockUse(_)
+        | Argument::Memory(_, _)
+        | Argument::Zero => None,
+    }
+}
+
+/// The functions of elements, where all are functions.
+///
+/// # Proved
+///
+/// ```text
+/// ensures { IfOk result (λ o. MatchOption o (binary.functions_in (map items_of elements.now) ≡ None) (λ xs. binary.functions_in (map items_of elements.now) ≡ Some xs.items)) }
+/// ```
+fn functions_in(
+    alloc: Global,
+    elements: &[Vec<Instruction>],
+) -> Result<Option<Vec<usize>>, AllocError> {
+    let mut functions = Vec::new(alloc);
+    for element in elements {
+        match function_in(element) {
+            Some(index) => functions.push(index)?,
+            None => return Ok(None),
+        }
+    }
+    Ok(Some(functions))
+}
+
+/// The same, where they are of the type of functions.
+///
+/// # Proved
+///
+/// ```text
+/// ensures { IfOk result (λ o. MatchOption o (binary.functions_by of (map items_of elements.now) ≡ None) (λ xs. binary.functions_by of (map items_of elements.now) ≡ Some xs.items)) }
+/// ```
+fn functions_by(
+    alloc: Global,
+    of: ReferenceType,
+    elements: &[Vec<Instruction>],
+) -> Result<Option<Vec<usize>>, AllocError> {
+    match of {
+        ReferenceType::Func => functions_in(alloc, elements),
+        ReferenceType::Extern => Ok(None),
+    }
+}
+
+/// Appends functions by their indices.
+///
+/// # Proved
+///
+/// ```text
+/// ensures { OnOk result (out.new.items ≡ out.old.items ++ binary.index_list functions.now) }
+/// ```
+fn put_functions_of(out: &mut Vec<u8>, functions: &[usize]) -> Result<(), AllocError> {
+    put(out, functions.len())?;
+    for index in functions {
+        put(out, *index)?;
+    }
+    Ok(())
+}
+
+/// Appends an expression.
+///
+/// # Proved
+///
+/// ```text
+/// ensures { OnOk result (out.new.items ≡ out.old.items ++ binary.expression_bytes (map type_of types.now) instructions.now) }
+/// ```
+fn put_expression(
+    out: &mut Vec<u8>,
+    types: &[FunctionType],
+    instructions: &[Instruction],
+) -> Result<(), AllocError> {
+    put_instructions(out, types, instructions)?;
+    out.push(0x0B)?;
+    Ok(())
+}
+
+/// Appends elements by their instructions.
+///
+/// # Proved
+///
+/// ```text
+/// ensures { OnOk result (out.new.items ≡ out.old.items ++ binary.element_list (map type_of types.now) (map items_of elements.now)) }
+/// ```
+fn put_elements_of(
+    out: &mut Vec<u8>,
+    types: &[FunctionType],
+    elements: &[Vec<Instruction>],
+) -> Result<(), AllocError> {
+    put(out, elements.len())?;
+    for element in elements {
+        put_expression(out, types, element)?;
+    }
+    Ok(())
+}
+
+/// Appends a segment of functions that is put into a table.
+///
+/// # Proved
+///
+/// ```text
+/// ensures { OnOk result (out.new.items ≡ out.old.items ++ binary.function_segment (map type_of types.now) (grammar.Active (grammar.target index offset.now)) functions.now) }
+/// ```
+fn put_active_functions(
+    out: &mut Vec<u8>,
+    types: &[FunctionType],
+    index: usize,
+    offset: &[Instruction],
+    functions: &[usize],
+) -> Result<(), AllocError> {
+    if index > 0 {
+        out.push(0x02)?;
+        put(out, index)?;
+        put_expression(out, types, offset)?;
+        out.push(0x00)?;
+        return put_functions_of(out, functions);
+    }
+    out.push(0x00)?;
+    put_expression(out, types, offset)?;
+    put_functions_of(out, functions)
+}
+
+/// Appends a segment of functions.
+///
+/// # Proved
+///
+/// ```text
+/// ensures { OnOk result (out.new.items ≡ out.old.items ++ binary.function_segment (map type_of types.now) (elem_place_of place.entry) functions.now) }
+/// ```
+fn put_function_segment(
+    out: &mut Vec<u8>,
+    types: &[FunctionType],
+    place: ElemPlace<'_>,
+    functions: &[usize],
+) -> Result<(), AllocError> {
+    match place {
+        ElemPlace::Passive => {
+            out.push(0x01)?;
+            out.push(0x00)?;
+            put_functions_of(out, functions)
+        }
+        ElemPlace::Declarative => {
+            out.push(0x03)?;
+            out.push(0x00)?;
+            put_functions_of(out, functions)
+        }
+        ElemPlace::At(target) => {
+            put_active_functions(out, types, target.index, &target.offset, functions)
+        }
+        ElemPlace::Begin(index) => put_active_functions(out, types, index, &[zero()], functions),
+    }
+}
+
+/// Whether it is the type of functions.
+///
+/// # Proved
+///
+/// ```text
+/// ensures { result ≡ binary.is_funcref of }
+/// ```
+fn is_funcref(of: ReferenceType) -> bool {
+    match of {
+        ReferenceType::Func => true,
+        ReferenceType::Extern => false,
+    }
+}
+
+/// Appends a segment of any elements that is put into a table.
+///
+/// # Proved
+///
+/// ```text
+/// ensures { OnOk result (out.new.items ≡ out.old.items ++ binary.other_segment (map type_of types.now) (grammar.Active (grammar.target index offset.now)) of (map items_of elements.now)) }
+/// ```
+fn put_active_elements(
+    out: &mut Vec<u8>,
+    types: &[FunctionType],
+    index: usize,
+    offset: &[Instruction],
+    of: ReferenceType,
+    elements: &[Vec<Instruction>],
+) -> Result<(), AllocError> {
+    if index == 0 && is_funcref(of) {
+        out.push(0x04)?;
+        put_expression(out, types, offset)?;
+        return put_elements_of(out, types, elements);
+    }
+    out.push(0x06)?;
+    put(out, index)?;
+    put_expression(out, types, offset)?;
+    out.push(reference_byte(of))?;
+    put_elements_of(out, types, elements)
+}
+
+/// Appends a segment of any elements.
+///
+/// # Proved
+///
+/// ```text
+/// ensures { OnOk result (out.new.items ≡ out.old.items ++ binary.other_segment (map type_of types.now) (elem_place_of place.entry) of (map items_of elements.now)) }
+/// ```
+fn put_other_segment(
+    out: &mut Vec<u8>,
+    types: &[FunctionType],
+    place: ElemPlace<'_>,
+    of: ReferenceType,
+    elements: &[Vec<Instruction>],
+) -> Result<(), AllocError> {
+    match place {
+        ElemPlace::Passive => {
+            out.push(0x05)?;
+            out.push(reference_byte(of))?;
+            put_elements_of(out, types, elements)
+        }
+        ElemPlace::Declarative => {
+            out.push(0x07)?;
+            out.push(reference_byte(of))?;
+            put_elements_of(out, types, elements)
+        }
+        ElemPlace::At(target) => {
+            put_active_elements(out, types, target.index, &target.offset, of, elements)
+        }
+        ElemPlace::Begin(index) => put_active_elements(out, types, index, &[zero()], of, elements),
+    }
+}
+
+/// Appends an element segment.
+///
+/// # Proved
+///
+/// ```text
+/// ensures { OnOk result (out.new.items ≡ out.old.items ++ binary.elem_bytes (map type_of types.now) (element_segment_of segment.entry)) }
+/// ```
+fn put_element_segment(
+    alloc: Global,
+    out: &mut Vec<u8>,
+    types: &[FunctionType],
+    segment: ElementSegment<'_>,
+) -> Result<(), AllocError> {
+    match functions_by(alloc, segment.of, segment.elements)? {
+        Some(functions) => put_function_segment(out, types, segment.place, &functions),
+        None => put_other_segment(out, types, segment.place, segment.of, segment.elements),
+    }
+}
+
+/// Appends the element section.
+///
+/// # Proved
+///
+/// ```text
+/// ensures { OnOk result (out.new.items ≡ out.old.items ++ binary.list_section 9 (binary.elem_bytes (map type_of types.now)) (map element_segment_of segments.now)) }
+/// ```
+fn put_elements(
+    alloc: Global,
+    out: &mut Vec<u8>,
+    types: &[FunctionType],
+    segments: &[ElementSegment<'_>],
+) -> Result<(), AllocError> {
+    let mut items = Vec::new(alloc);
+    for segment in segments {
+        put_element_segment(alloc, &mut items, types, *segment)?;
+    }
+    put_section(alloc, out, 9, segments.len(), &items)
+}
+
 /// The bytes of a module of these fields.
 ///
 /// # Proved
@@ -1053,6 +1658,10 @@ pub(crate) fn module_bytes(alloc: Global, fields: &[Field<'_>]) -> Result<Vec<u8
     let exports = exports_of(alloc, fields)?;
     put_exports(alloc, &mut bytes, &exports)?;
     put_start(alloc, &mut bytes, fields)?;
+    let elements = elements_of(alloc, fields)?;
+    put_elements(alloc, &mut bytes, &types, &elements)?;
     put_codes(alloc, &mut bytes, &types, fields)?;
+    let segments = data_of(alloc, fields)?;
+    put_data(alloc, &mut bytes, &types, &segments)?;
     Ok(bytes)
 }

@@ -3,8 +3,10 @@
 
 use wat_lex::shim::prelude::*;
 use crate::fields::binary::module_bytes;
+use crate::fields::elements::table_at;
 use crate::fields::header::{after, closed, exports, utf8_text, variables};
 use crate::fields::names::{Names, names_in, names_of, variable_names};
+use crate::fields::segments::{memory_at, segment};
 use crate::fields::types::{global_type, limits, space_of, table_type, twice_closed};
 use crate::fields::uses::{type_at, type_use};
 use wat_lex::shim::alloc::Global;
@@ -80,18 +82,48 @@ pub struct GlobalType {
     pub value: ValueType,
 }
 
-/// A table.
+/// A table, and the elements that it brings with it, if any: each by its instructions.
 pub struct Table<'p> {
     pub name: Name<'p>,
     pub exports: Vec<&'p [u8]>,
     pub of: TableType,
+    pub elements: Option<Vec<Vec<Instruction>>>,
 }
 
-/// A memory.
+/// A memory, and the bytes that it brings with it, if any.
 pub struct Memory<'p> {
     pub name: Name<'p>,
     pub exports: Vec<&'p [u8]>,
     pub limits: Limits,
+    pub data: Option<Vec<u8>>,
+}
+
+/// Where a segment is put: a memory or a table, by its index, and the offset in it, by instructions.
+pub struct Target {
+    pub index: usize,
+    pub offset: Vec<Instruction>,
+}
+
+/// What is done with an element segment.
+pub enum ElemMode {
+    Passive,
+    Active(Target),
+    Declarative,
+}
+
+/// An element segment: its elements are of a type, each by its instructions.
+pub struct Elem<'p> {
+    pub name: Name<'p>,
+    pub mode: ElemMode,
+    pub of: ReferenceType,
+    pub elements: Vec<Vec<Instruction>>,
+}
+
+/// A data segment: passive, or put where its target says; and its bytes.
+pub struct Data<'p> {
+    pub name: Name<'p>,
+    pub target: Option<Target>,
+    pub bytes: Vec<u8>,
 }
 
 /// A global variable, and the instructions of its first value.
@@ -137,6 +169,8 @@ pub enum Field<'p> {
     Global(GlobalVariable<'p>),
     Export(Export<'p>),
     Start(usize),
+    Data(Data<'p>),
+    Elem(Elem<'p>),
 }
 
 /// What is left to read.
@@ -344,7 +378,12 @@ fn imports_first(fields: &[Field<'_>]) -> bool {
 fn is_definition(field: &Field<'_>) -> bool {
     match field {
         Field::Func(_) | Field::Table(_) | Field::Memory(_) | Field::Global(_) => true,
-        Field::Type(_) | Field::Import(_) | Field::Export(_) | Field::Start(_) => false,
+        Field::Type(_)
+        | Field::Import(_)
+        | Field::Export(_)
+        | Field::Start(_)
+        | Field::Data(_)
+        | Field::Elem(_) => false,
     }
 }
 
@@ -396,6 +435,7 @@ fn fields<'p, 'a>(
     pieces: &'p [Piece<'a>],
 ) -> Result<(Vec<Field<'p>>, &'p [Piece<'a>]), Refusal<'p, 'a>> {
     crate::instructions::laws::machine_is_grammar();
+    crate::instructions::laws::folded_is_grammar();
     crate::instructions::laws::instructions_are_balanced();
     let mut found = Vec::new(alloc);
     let mut left = Left { pieces };
@@ -549,8 +589,8 @@ fn defined<'p, 'a>(
 ) -> Result<(Field<'p>, &'p [Piece<'a>]), Refusal<'p, 'a>> {
     match space {
         IndexSpace::Func => func(alloc, names, name, exports, pieces),
-        IndexSpace::Table => Ok(table_at(name, exports, pieces)?),
-        IndexSpace::Mem => Ok(memory_at(name, exports, pieces)?),
+        IndexSpace::Table => table_at(alloc, names, name, exports, pieces),
+        IndexSpace::Mem => memory_at(alloc, name, exports, pieces),
         IndexSpace::Global => global(alloc, names, name, exports, pieces),
     }
 }
@@ -581,51 +621,6 @@ fn func<'p, 'a>(
             uses,
             locals,
             body,
-        }),
-        rest,
-    ))
-}
-
-/// A table, after its name and its exports.
-///
-/// # Proved
-///
-/// ```text
-/// ensures { MatchResult result
-/// (λ r. reading.table_at (label name.entry) (map text_of exports.entry.items) (map terminal pieces.now) ≡ Ok (field_of r.0 ∷ [], map terminal r.1.now))
-/// (λ f. reading.table_at (label name.entry) (map text_of exports.entry.items) (map terminal pieces.now) ≡ Err (fault_of f)) }
-/// ```
-fn table_at<'p, 'a>(
-    name: Name<'p>,
-    exports: Vec<&'p [u8]>,
-    pieces: &'p [Piece<'a>],
-) -> Result<(Field<'p>, &'p [Piece<'a>]), Fault<'p, 'a>> {
-    let (of, rest) = table_type(pieces)?;
-    let rest = closed(rest)?;
-    Ok((Field::Table(Table { name, exports, of }), rest))
-}
-
-/// A memory, after its name and its exports.
-///
-/// # Proved
-///
-/// ```text
-/// ensures { MatchResult result
-/// (λ r. reading.memory_at (label name.entry) (map text_of exports.entry.items) (map terminal pieces.now) ≡ Ok (field_of r.0 ∷ [], map terminal r.1.now))
-/// (λ f. reading.memory_at (label name.entry) (map text_of exports.entry.items) (map terminal pieces.now) ≡ Err (fault_of f)) }
-/// ```
-fn memory_at<'p, 'a>(
-    name: Name<'p>,
-    exports: Vec<&'p [u8]>,
-    pieces: &'p [Piece<'a>],
-) -> Result<(Field<'p>, &'p [Piece<'a>]), Fault<'p, 'a>> {
-    let (limits, rest) = limits(pieces)?;
-    let rest = closed(rest)?;
-    Ok((
-        Field::Memory(Memory {
-            name,
-            exports,
-            limits,
         }),
         rest,
     ))
@@ -771,8 +766,8 @@ fn inline_import<'p, 'a>(
     ))
 }
 
-/// A type, an import, an export or a start function, after its word, with which all these tokens
-/// begin.
+/// A type, an import, an export, a start function or a segment, after its word, with which all
+/// these tokens begin.
 ///
 /// # Proved
 ///
@@ -800,10 +795,7 @@ fn other<'p, 'a>(
     if word == "start" {
         return Ok(start_at(names, pieces)?);
     }
-    Err(Refusal::Text(Fault {
-        kind: FaultKind::UnknownWord,
-        left: all,
-    }))
+    segment(alloc, names, word, all, pieces)
 }
 
 /// A type, after its word.
@@ -1096,7 +1088,7 @@ fn start_at<'p, 'a>(
 /// ```text
 /// ensures { scope_of result ≡ with_names locals.now (context_of names.now) }
 /// ```
-fn scope<'s, 'n>(names: &'s Names<'n>, locals: &'s IndexedNames<'n>) -> Scope<'s, 'n> {
+pub(crate) fn scope<'s, 'n>(names: &'s Names<'n>, locals: &'s IndexedNames<'n>) -> Scope<'s, 'n> {
     Scope {
         type_names: &names.type_names,
         types: &names.types,
@@ -1105,6 +1097,8 @@ fn scope<'s, 'n>(names: &'s Names<'n>, locals: &'s IndexedNames<'n>) -> Scope<'s
         tables: &names.tables,
         memories: &names.memories,
         globals: &names.globals,
+        elems: &names.elems,
+        datas: &names.datas,
     }
 }
 

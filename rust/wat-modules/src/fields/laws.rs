@@ -11,6 +11,7 @@ use wat_lex::shim::prelude::*;
 /// ```
 pub fn reading_is_grammar() {
     crate::instructions::laws::machine_is_grammar();
+    crate::instructions::laws::folded_is_grammar();
     crate::instructions::laws::instructions_are_balanced();
 }
 

@@ -3,6 +3,7 @@
 
 use wat_lex::shim::prelude::*;
 use crate::fields::fields::{Definition, IndexSpace, Left, Variable};
+use crate::fields::header::{after, exports};
 use crate::fields::types::space_of;
 use crate::fields::uses::type_at;
 use wat_lex::shim::alloc::{AllocError, Global};
@@ -31,6 +32,8 @@ pub(crate) struct Names<'p> {
     pub(crate) tables: IndexedNames<'p>,
     pub(crate) memories: IndexedNames<'p>,
     pub(crate) globals: IndexedNames<'p>,
+    pub(crate) elems: IndexedNames<'p>,
+    pub(crate) datas: IndexedNames<'p>,
     pub(crate) type_names: IndexedNames<'p>,
     pub(crate) types: Vec<FunctionType>,
 }
@@ -41,9 +44,9 @@ pub(crate) struct Names<'p> {
 /// # Proved
 ///
 /// ```text
-/// ensures context { IfOk result (λ found. IfSome found (λ names. context_of names ≡ grammar.context_of (grammar.types_in (flat_map reading.definition_at (reading.starts reading.Before [] (map terminal pieces.now)))) (flat_map reading.binding_at (reading.starts reading.Before [] (map terminal pieces.now))))) }
+/// ensures context { IfOk result (λ found. IfSome found (λ names. context_of names ≡ grammar.context_of (grammar.types_in (flat_map reading.definition_at (reading.starts reading.Before [] (map terminal pieces.now)))) (flat_map reading.binding_at (reading.starts reading.Before [] (map terminal pieces.now))) (flat_map reading.elem_name_at (reading.starts reading.Before [] (map terminal pieces.now))) (flat_map reading.data_name_at (reading.starts reading.Before [] (map terminal pieces.now))))) }
 /// ensures types { IfOk result (λ found. IfSome found (λ names. types_of names ≡ grammar.types_in (flat_map reading.definition_at (reading.starts reading.Before [] (map terminal pieces.now))))) }
-/// ensures distinct { IfOk result (λ found. is_some found ≡ all_distinct (grammar.types_in (flat_map reading.definition_at (reading.starts reading.Before [] (map terminal pieces.now)))) (grammar.context_of (grammar.types_in (flat_map reading.definition_at (reading.starts reading.Before [] (map terminal pieces.now)))) (flat_map reading.binding_at (reading.starts reading.Before [] (map terminal pieces.now))))) }
+/// ensures distinct { IfOk result (λ found. is_some found ≡ all_distinct (grammar.types_in (flat_map reading.definition_at (reading.starts reading.Before [] (map terminal pieces.now)))) (grammar.context_of (grammar.types_in (flat_map reading.definition_at (reading.starts reading.Before [] (map terminal pieces.now)))) (flat_map reading.binding_at (reading.starts reading.Before [] (map terminal pieces.now))) (flat_map reading.elem_name_at (reading.starts reading.Before [] (map terminal pieces.now))) (flat_map reading.data_name_at (reading.starts reading.Before [] (map terminal pieces.now))))) }
 /// ```
 pub(crate) fn names_of<'p, 'a>(
     alloc: Global,
@@ -52,29 +55,37 @@ pub(crate) fn names_of<'p, 'a>(
     let starts = starts(alloc, pieces)?;
     let bindings = bindings(alloc, &starts)?;
     let (type_names, types) = definitions(alloc, &starts)?;
-    let funcs = names_among(alloc, &bindings, IndexSpace::Func)?;
-    let tables = names_among(alloc, &bindings, IndexSpace::Table)?;
-    let memories = names_among(alloc, &bindings, IndexSpace::Mem)?;
-    let globals = names_among(alloc, &bindings, IndexSpace::Global)?;
-    match (
+    let Some(type_names) = IndexedNames::new(alloc, type_names)? else {
+        return Ok(None);
+    };
+    let Some(funcs) = names_among(alloc, &bindings, IndexSpace::Func)? else {
+        return Ok(None);
+    };
+    let Some(tables) = names_among(alloc, &bindings, IndexSpace::Table)? else {
+        return Ok(None);
+    };
+    let Some(memories) = names_among(alloc, &bindings, IndexSpace::Mem)? else {
+        return Ok(None);
+    };
+    let Some(globals) = names_among(alloc, &bindings, IndexSpace::Global)? else {
+        return Ok(None);
+    };
+    let Some(elems) = IndexedNames::new(alloc, elem_names(alloc, &starts)?)? else {
+        return Ok(None);
+    };
+    let Some(datas) = IndexedNames::new(alloc, data_names(alloc, &starts)?)? else {
+        return Ok(None);
+    };
+    Ok(Some(Names {
         funcs,
         tables,
         memories,
         globals,
-        IndexedNames::new(alloc, type_names)?,
-    ) {
-        (Some(funcs), Some(tables), Some(memories), Some(globals), Some(type_names)) => {
-            Ok(Some(Names {
-                funcs,
-                tables,
-                memories,
-                globals,
-                type_names,
-                types,
-            }))
-        }
-        _ => Ok(None),
-    }
+        elems,
+        datas,
+        type_names,
+        types,
+    }))
 }
 
 /// Whether two index spaces are the same.
@@ -323,6 +334,178 @@ fn open_binding<'p>(pieces: &'p [Piece<'_>]) -> Option<Binding<'p>> {
 fn word_binding<'p>(pieces: &'p [Piece<'_>]) -> Option<Binding<'p>> {
     match pieces {
         [Piece::Word(word), rest @ ..] => binding_named(space_of(word), rest),
+        [
+            Piece::Open
+            | Piece::Close
+            | Piece::Id(_)
+            | Piece::Integer(_, _)
+            | Piece::Text(_)
+            | Piece::Float(_, _)
+            | Piece::Other,
+            ..,
+        ] => None,
+        [] => None,
+    }
+}
+
+/// The data segments that fields bring.
+///
+/// # Proved
+///
+/// ```text
+/// ensures { IfOk result (λ names. map label names.items ≡ flat_map reading.data_name_at (map left_of starts.now)) }
+/// ```
+fn data_names<'p, 'a>(alloc: Global, starts: &[Left<'p, 'a>]) -> Result<Vec<Name<'p>>, AllocError> {
+    let mut names = Vec::new(alloc);
+    for start in starts {
+        if let Some(name) = data_name_at(alloc, start.pieces)? {
+            names.push(name)?;
+        }
+    }
+    Ok(names)
+}
+
+/// The data segment that a field brings.
+///
+/// # Proved
+///
+/// ```text
+/// ensures { IfOk result (λ o. MatchOption o (reading.data_name_at (map terminal pieces.now) ≡ []) (λ n. reading.data_name_at (map terminal pieces.now) ≡ label n ∷ [])) }
+/// ```
+fn data_name_at<'p, 'a>(
+    alloc: Global,
+    pieces: &'p [Piece<'a>],
+) -> Result<Option<Name<'p>>, AllocError> {
+    match pieces {
+        [Piece::Word(word), rest @ ..] => {
+            let (name, rest) = label(rest);
+            if *word == "data" {
+                return Ok(Some(name));
+            }
+            if *word == "memory" {
+                return inline_data(alloc, rest);
+            }
+            Ok(None)
+        }
+        [
+            Piece::Open
+            | Piece::Close
+            | Piece::Id(_)
+            | Piece::Integer(_, _)
+            | Piece::Text(_)
+            | Piece::Float(_, _)
+            | Piece::Other,
+            ..,
+        ] => Ok(None),
+        [] => Ok(None),
+    }
+}
+
+/// The data segment that a memory brings, after its name.
+///
+/// # Proved
+///
+/// ```text
+/// ensures { IfOk result (λ o. MatchOption o (reading.inline_data (reading.all reading.export_item (map terminal pieces.now)) ≡ []) (λ n. reading.inline_data (reading.all reading.export_item (map terminal pieces.now)) ≡ label n ∷ [])) }
+/// ```
+fn inline_data<'p, 'a>(
+    alloc: Global,
+    pieces: &'p [Piece<'a>],
+) -> Result<Option<Name<'p>>, AllocError> {
+    match exports(alloc, pieces) {
+        Ok((_, rest)) => match after("data", rest) {
+            Some(_) => Ok(Some(Name::Absent)),
+            None => Ok(None),
+        },
+        Err(Refusal::Text(_)) => Ok(None),
+        Err(Refusal::Memory(refused)) => Err(refused),
+    }
+}
+
+/// The element segments that fields bring.
+///
+/// # Proved
+///
+/// ```text
+/// ensures { IfOk result (λ names. map label names.items ≡ flat_map reading.elem_name_at (map left_of starts.now)) }
+/// ```
+fn elem_names<'p, 'a>(alloc: Global, starts: &[Left<'p, 'a>]) -> Result<Vec<Name<'p>>, AllocError> {
+    let mut names = Vec::new(alloc);
+    for start in starts {
+        if let Some(name) = elem_name_at(alloc, start.pieces)? {
+            names.push(name)?;
+        }
+    }
+    Ok(names)
+}
+
+/// The element segment that a field brings.
+///
+/// # Proved
+///
+/// ```text
+/// ensures { IfOk result (λ o. MatchOption o (reading.elem_name_at (map terminal pieces.now) ≡ []) (λ n. reading.elem_name_at (map terminal pieces.now) ≡ label n ∷ [])) }
+/// ```
+fn elem_name_at<'p, 'a>(
+    alloc: Global,
+    pieces: &'p [Piece<'a>],
+) -> Result<Option<Name<'p>>, AllocError> {
+    match pieces {
+        [Piece::Word(word), rest @ ..] => {
+            let (name, rest) = label(rest);
+            if *word == "elem" {
+                return Ok(Some(name));
+            }
+            if *word == "table" {
+                return inline_elem(alloc, rest);
+            }
+            Ok(None)
+        }
+        [
+            Piece::Open
+            | Piece::Close
+            | Piece::Id(_)
+            | Piece::Integer(_, _)
+            | Piece::Text(_)
+            | Piece::Float(_, _)
+            | Piece::Other,
+            ..,
+        ] => Ok(None),
+        [] => Ok(None),
+    }
+}
+
+/// The element segment that a table brings, after its name.
+///
+/// # Proved
+///
+/// ```text
+/// ensures { IfOk result (λ o. MatchOption o (reading.inline_elem (reading.all reading.export_item (map terminal pieces.now)) ≡ []) (λ n. reading.inline_elem (reading.all reading.export_item (map terminal pieces.now)) ≡ label n ∷ [])) }
+/// ```
+fn inline_elem<'p, 'a>(
+    alloc: Global,
+    pieces: &'p [Piece<'a>],
+) -> Result<Option<Name<'p>>, AllocError> {
+    match exports(alloc, pieces) {
+        Ok((_, rest)) => Ok(elem_after_type(rest)),
+        Err(Refusal::Text(_)) => Ok(None),
+        Err(Refusal::Memory(refused)) => Err(refused),
+    }
+}
+
+/// The same, after its exports.
+///
+/// # Proved
+///
+/// ```text
+/// ensures { MatchOption result (reading.elem_after_type (map terminal pieces.now) ≡ []) (λ n. reading.elem_after_type (map terminal pieces.now) ≡ label n ∷ []) }
+/// ```
+fn elem_after_type<'p>(pieces: &'p [Piece<'_>]) -> Option<Name<'p>> {
+    match pieces {
+        [Piece::Word(_), rest @ ..] => match after("elem", rest) {
+            Some(_) => Some(Name::Absent),
+            None => None,
+        },
         [
             Piece::Open
             | Piece::Close

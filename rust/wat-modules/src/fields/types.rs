@@ -35,7 +35,7 @@ pub(crate) fn space_of(word: &str) -> Option<IndexSpace> {
 /// ```text
 /// ensures { result ≡ reference_type word.now }
 /// ```
-fn reference_of(word: &str) -> Option<ReferenceType> {
+pub(crate) fn reference_of(word: &str) -> Option<ReferenceType> {
     if word == "funcref" {
         Some(ReferenceType::Func)
     } else if word == "externref" {

@@ -11,6 +11,15 @@ use wat_lex::shim::prelude::*;
 /// ```
 pub fn machine_is_grammar() {}
 
+/// The same of one folded instruction. The function does nothing: its contract is the law.
+///
+/// # Proved
+///
+/// ```text
+/// ensures { FoldedIsGrammar }
+/// ```
+pub fn folded_is_grammar() {}
+
 /// Instructions have as many `(` as `)`, and what is left is no longer. The function does nothing.
 ///
 /// # Proved

@@ -45,6 +45,72 @@ pub fn instructions<'p, 'a>(
     }
 }
 
+/// One folded instruction after its `(`, and what comes after its `)`.
+///
+/// # Proved
+///
+/// ```text
+/// ensures { MatchResult result
+/// (λ r. spec.folded (scope_of scope.now) (map terminal pieces.now) ≡ Ok (r.0.items, map terminal r.1.now))
+/// (λ e. Faults (spec.folded (scope_of scope.now) (map terminal pieces.now)) e) }
+/// ```
+pub fn one_folded<'p, 'a>(
+    alloc: Global,
+    scope: &Scope<'_, 'p>,
+    pieces: &'p [Piece<'a>],
+) -> Result<(Vec<Instruction>, &'p [Piece<'a>]), Refusal<'p, 'a>> {
+    let mut out = Vec::new(alloc);
+    let mut frames = Vec::new(alloc);
+    match first_step(alloc, scope, &mut frames, &mut out, pieces) {
+        Ok(rest) => match steps(alloc, scope, &mut frames, &mut out, rest) {
+            Ok(rest) => Ok((out, rest)),
+            Err(refusal) => Err(refusal),
+        },
+        Err(refusal) => Err(refusal),
+    }
+}
+
+/// The first step of one folded instruction, after its `(`.
+///
+/// # Proved
+///
+/// ```text
+/// requires { stack frames.now.items ≡ [] }
+/// ensures { MatchResult result
+///     (λ r. Stepped (spec.first_step (scope_of scope.now) (map terminal pieces.now)) out.old.items out.new.items (stack frames.new.items) (map terminal r.now))
+///     (λ e. Faults (spec.first_step (scope_of scope.now) (map terminal pieces.now)) e) }
+/// ```
+fn first_step<'p, 'a>(
+    alloc: Global,
+    scope: &Scope<'_, 'p>,
+    frames: &mut Vec<Frame<'p>>,
+    out: &mut Vec<Instruction>,
+    pieces: &'p [Piece<'a>],
+) -> Result<&'p [Piece<'a>], Refusal<'p, 'a>> {
+    match pieces {
+        [Piece::Word(word), rest @ ..] => {
+            folded_instruction(alloc, scope, frames, out, word, pieces, rest)
+        }
+        [
+            Piece::Open
+            | Piece::Close
+            | Piece::Id(_)
+            | Piece::Integer(_, _)
+            | Piece::Text(_)
+            | Piece::Float(_, _)
+            | Piece::Other,
+            ..,
+        ] => Err(Refusal::Text(Fault {
+            kind: FaultKind::Unexpected,
+            left: pieces,
+        })),
+        [] => Err(Refusal::Text(Fault {
+            kind: FaultKind::Unexpected,
+            left: pieces,
+        })),
+    }
+}
+
 /// The same, until nothing is open. In a loop: no depth of the text is a depth of the stack.
 ///
 /// # Proved

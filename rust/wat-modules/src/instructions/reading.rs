@@ -12,7 +12,7 @@ use crate::instructions::types::FunctionType;
 use crate::instructions::{floats, memory, uses};
 use wat_lex::shim::alloc::Global;
 
-/// The types, and the names of the items of five index spaces, each in the order of their indices.
+/// The types, and the names of the items of seven index spaces, each in the order of their indices.
 #[derive(Clone, Copy)]
 pub struct Scope<'s, 'n> {
     pub type_names: &'s IndexedNames<'n>,
@@ -22,6 +22,8 @@ pub struct Scope<'s, 'n> {
     pub tables: &'s IndexedNames<'n>,
     pub memories: &'s IndexedNames<'n>,
     pub globals: &'s IndexedNames<'n>,
+    pub elems: &'s IndexedNames<'n>,
+    pub datas: &'s IndexedNames<'n>,
 }
 
 /// The label that a part binds.

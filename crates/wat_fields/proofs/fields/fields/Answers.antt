@@ -8,12 +8,12 @@ use Rattle.wat_fields.proofs.Manies.{leads_on, leads_out, leads_from, faulted, s
 use Rattle.wat_fields.proofs.fields.fields.Goals as goal
 
 pub fields-smaller : goal.fields-smaller
-fields-smaller c = let item = rw (c.in-Ok-Some.field-0-is) at c.in-Ok-Some.ensures in smaller (reading.field_item (types_of c.args.names.now) (context_of c.args.names.now)) (fields.FieldIs (types_of c.args.names.now) (context_of c.args.names.now)) (fields_read (record { same = c.machine_is_grammar.ensures; balanced = c.instructions_are_balanced.ensures.balanced; taken = c.instructions_are_balanced.ensures.taken }) (types_of c.args.names.now) (context_of c.args.names.now)) c.fields.left.pieces.now c.in-Ok-Some.next.pieces.now item.values item.is
+fields-smaller c = let item = rw (c.in-Ok-Some.field-0-is) at c.in-Ok-Some.ensures in smaller (reading.field_item (types_of c.args.names.now) (context_of c.args.names.now)) (fields.FieldIs (types_of c.args.names.now) (context_of c.args.names.now)) (fields_read (record { same = c.machine_is_grammar.ensures; folded = c.folded_is_grammar.ensures; balanced = c.instructions_are_balanced.ensures.balanced; taken = c.instructions_are_balanced.ensures.taken }) (types_of c.args.names.now) (context_of c.args.names.now)) c.fields.left.pieces.now c.in-Ok-Some.next.pieces.now item.values item.is
 
 pub fields-preserved : goal.fields-preserved
 fields-preserved c =
     let item = rw (c.in-Ok-Some.field-0-is) at c.in-Ok-Some.ensures in
-    λ q h. c.fields.invariant q (leads_on (reading.field_item (types_of c.args.names.now) (context_of c.args.names.now)) (map field_of c.fields.found.items) (map field_of c.next_field.new.found.items) item.values (map terminal c.fields.left.pieces.now) (map terminal c.in-Ok-Some.next.pieces.now) q item.is item.follow (smaller_terminals (reading.field_item (types_of c.args.names.now) (context_of c.args.names.now)) (fields.FieldIs (types_of c.args.names.now) (context_of c.args.names.now)) (fields_read (record { same = c.machine_is_grammar.ensures; balanced = c.instructions_are_balanced.ensures.balanced; taken = c.instructions_are_balanced.ensures.taken }) (types_of c.args.names.now) (context_of c.args.names.now)) (map terminal c.fields.left.pieces.now) (map terminal c.in-Ok-Some.next.pieces.now) item.values item.is) h)
+    λ q h. c.fields.invariant q (leads_on (reading.field_item (types_of c.args.names.now) (context_of c.args.names.now)) (map field_of c.fields.found.items) (map field_of c.next_field.new.found.items) item.values (map terminal c.fields.left.pieces.now) (map terminal c.in-Ok-Some.next.pieces.now) q item.is item.follow (smaller_terminals (reading.field_item (types_of c.args.names.now) (context_of c.args.names.now)) (fields.FieldIs (types_of c.args.names.now) (context_of c.args.names.now)) (fields_read (record { same = c.machine_is_grammar.ensures; folded = c.folded_is_grammar.ensures; balanced = c.instructions_are_balanced.ensures.balanced; taken = c.instructions_are_balanced.ensures.taken }) (types_of c.args.names.now) (context_of c.args.names.now)) (map terminal c.fields.left.pieces.now) (map terminal c.in-Ok-Some.next.pieces.now) item.values item.is) h)
 
 pub returns-in-Ok-None : goal.returns-in-Ok-None
 returns-in-Ok-None c =

@@ -1,0 +1,406 @@
+// Made by tools/erase from crates/wat_fields/src/segments.rt; do not edit.
+//! Data segments, and what segments use.
+
+use wat_lex::shim::prelude::*;
+use crate::fields::elements::elem_at;
+use crate::fields::fields::{Data, Field, Left, Limits, Memory, Target, scope};
+use crate::fields::header::{after, closed};
+use crate::fields::names::Names;
+use crate::fields::types::{limits, twice_closed};
+use wat_lex::shim::alloc::Global;
+use crate::instructions::names::IndexedNames;
+use crate::instructions::pieces::{Fault, FaultKind, Instruction, Name, Piece, Refusal};
+use crate::instructions::{machine, reading};
+
+/// The bytes of a page of a memory.
+const PAGE: usize = 0x1_0000;
+
+/// Strings, together.
+///
+/// # Proved
+///
+/// ```text
+/// ensures { MatchResult result
+/// (λ r. reading.all reading.string_item (map terminal pieces.now) ≡ Ok (r.0.items, map terminal r.1.now))
+/// (λ e. Faults (reading.all reading.string_item (map terminal pieces.now)) e) }
+/// ```
+fn strings<'p, 'a>(
+    alloc: Global,
+    pieces: &'p [Piece<'a>],
+) -> Result<(Vec<u8>, &'p [Piece<'a>]), Refusal<'p, 'a>> {
+    let mut found = Vec::new(alloc);
+    let mut left = Left { pieces };
+    'strings: loop {
+        match next_string(&mut found, left) {
+            Ok(Some(next)) => {
+                left = next;
+            }
+            Ok(None) => return Ok((found, left.pieces)),
+            Err(refusal) => return Err(refusal),
+        }
+    }
+}
+
+/// One string, where there is one.
+///
+/// # Proved
+///
+/// ```text
+/// ensures { MatchResult result
+/// (λ o. MatchOption o
+/// (NoItem (reading.string_item (map terminal left.entry.pieces.now)) (found.old.items) (found.new.items))
+/// (λ l. IsItem (reading.string_item (map terminal left.entry.pieces.now)) (found.old.items) (found.new.items) (map terminal l.pieces.now)))
+/// (λ e. ItemFaults (reading.string_item (map terminal left.entry.pieces.now)) e) }
+/// ```
+fn next_string<'p, 'a>(
+    found: &mut Vec<u8>,
+    left: Left<'p, 'a>,
+) -> Result<Option<Left<'p, 'a>>, Refusal<'p, 'a>> {
+    match left.pieces {
+        [Piece::Text(text), pieces @ ..] => {
+            found.extend_from_slice(text)?;
+            Ok(Some(Left { pieces }))
+        }
+        [
+            Piece::Open
+            | Piece::Close
+            | Piece::Word(_)
+            | Piece::Id(_)
+            | Piece::Integer(_, _)
+            | Piece::Float(_, _)
+            | Piece::Other,
+            ..,
+        ] => Ok(None),
+        [] => Ok(None),
+    }
+}
+
+/// A memory, after its name and its exports.
+///
+/// # Proved
+///
+/// ```text
+/// ensures { MatchResult result
+/// (λ r. reading.memory_at (label name.entry) (map text_of exports.entry.items) (map terminal pieces.now) ≡ Ok (field_of r.0 ∷ [], map terminal r.1.now))
+/// (λ e. Faults (reading.memory_at (label name.entry) (map text_of exports.entry.items) (map terminal pieces.now)) e) }
+/// ```
+pub(crate) fn memory_at<'p, 'a>(
+    alloc: Global,
+    name: Name<'p>,
+    exports: Vec<&'p [u8]>,
+    pieces: &'p [Piece<'a>],
+) -> Result<(Field<'p>, &'p [Piece<'a>]), Refusal<'p, 'a>> {
+    match after("data", pieces) {
+        Some(rest) => memory_data(alloc, name, exports, rest),
+        None => Ok(memory_type(name, exports, pieces)?),
+    }
+}
+
+/// A memory that brings no bytes.
+///
+/// # Proved
+///
+/// ```text
+/// ensures { MatchResult result
+/// (λ r. reading.memory_type (label name.entry) (map text_of exports.entry.items) (map terminal pieces.now) ≡ Ok (field_of r.0 ∷ [], map terminal r.1.now))
+/// (λ f. reading.memory_type (label name.entry) (map text_of exports.entry.items) (map terminal pieces.now) ≡ Err (fault_of f)) }
+/// ```
+fn memory_type<'p, 'a>(
+    name: Name<'p>,
+    exports: Vec<&'p [u8]>,
+    pieces: &'p [Piece<'a>],
+) -> Result<(Field<'p>, &'p [Piece<'a>]), Fault<'p, 'a>> {
+    let (limits, rest) = limits(pieces)?;
+    let rest = closed(rest)?;
+    Ok((
+        Field::Memory(Memory {
+            name,
+            exports,
+            limits,
+            data: None,
+        }),
+        rest,
+    ))
+}
+
+/// A memory after `(data`.
+///
+/// # Proved
+///
+/// ```text
+/// ensures { MatchResult result
+/// (λ r. reading.memory_data (label name.entry) (map text_of exports.entry.items) (map terminal pieces.now) ≡ Ok (field_of r.0 ∷ [], map terminal r.1.now))
+/// (λ e. Faults (reading.memory_data (label name.entry) (map text_of exports.entry.items) (map terminal pieces.now)) e) }
+/// ```
+fn memory_data<'p, 'a>(
+    alloc: Global,
+    name: Name<'p>,
+    exports: Vec<&'p [u8]>,
+    pieces: &'p [Piece<'a>],
+) -> Result<(Field<'p>, &'p [Piece<'a>]), Refusal<'p, 'a>> {
+    let (bytes, rest) = strings(alloc, pieces)?;
+    let rest = twice_closed(rest)?;
+    Ok(memory_of(name, exports, pieces, bytes, rest)?)
+}
+
+/// A memory of as many pages as hold these bytes, which it brings.
+///
+/// # Proved
+///
+/// ```text
+/// ensures { MatchResult result
+/// (λ r. reading.memory_of (label name.entry) (map text_of exports.entry.items) (map terminal all.now) bytes.items (map terminal rest.now) ≡ Ok (field_of r.0 ∷ [], map terminal r.1.now))
+/// (λ f. reading.memory_of (label name.entry) (map text_of exports.entry.items) (map terminal all.now) bytes.items (map terminal rest.now) ≡ Err (fault_of f)) }
+/// ```
+fn memory_of<'p, 'a>(
+    name: Name<'p>,
+    exports: Vec<&'p [u8]>,
+    all: &'p [Piece<'a>],
+    bytes: Vec<u8>,
+    rest: &'p [Piece<'a>],
+) -> Result<(Field<'p>, &'p [Piece<'a>]), Fault<'p, 'a>> {
+    let pages = pages_of(&bytes);
+    if pages >= 0x1_0000_0000 {
+        return Err(Fault {
+            kind: FaultKind::OutOfRange,
+            left: all,
+        });
+    }
+    let size = pages as u32;
+    Ok((
+        Field::Memory(Memory {
+            name,
+            exports,
+            limits: Limits {
+                min: size,
+                max: Some(size),
+            },
+            data: Some(bytes),
+        }),
+        rest,
+    ))
+}
+
+/// How many pages hold these bytes.
+///
+/// # Proved
+///
+/// ```text
+/// ensures { result ≡ grammar.pages_of bytes.now }
+/// ```
+fn pages_of(bytes: &[u8]) -> usize {
+    (bytes.len() + (PAGE - 1)) / PAGE
+}
+
+/// The memory or the table that a segment uses: the one that is said after the word, or the first.
+///
+/// # Proved
+///
+/// ```text
+/// ensures { MatchResult result
+/// (λ r. reading.used_at word.now names.now (map terminal pieces.now) ≡ Ok (r.0, map terminal r.1.now))
+/// (λ f. reading.used_at word.now names.now (map terminal pieces.now) ≡ Err (fault_of f)) }
+/// ```
+pub(crate) fn used<'p, 'a>(
+    word: &str,
+    names: &IndexedNames<'_>,
+    pieces: &'p [Piece<'a>],
+) -> Result<(usize, &'p [Piece<'a>]), Fault<'p, 'a>> {
+    match after(word, pieces) {
+        Some(rest) => {
+            let (index, rest) = reading::index(names, rest)?;
+            let rest = closed(rest)?;
+            Ok((index, rest))
+        }
+        None => Ok((0, pieces)),
+    }
+}
+
+/// An expression after `(` and a word, up to its `)`; or one folded instruction.
+///
+/// # Proved
+///
+/// ```text
+/// ensures { MatchResult result
+/// (λ r. reading.expression_at word.now (context_of names.now) (map terminal pieces.now) ≡ Ok (r.0.items, map terminal r.1.now))
+/// (λ e. Faults (reading.expression_at word.now (context_of names.now) (map terminal pieces.now)) e) }
+/// ```
+pub(crate) fn expression<'p, 'a>(
+    alloc: Global,
+    names: &Names<'p>,
+    word: &str,
+    pieces: &'p [Piece<'a>],
+) -> Result<(Vec<Instruction>, &'p [Piece<'a>]), Refusal<'p, 'a>> {
+    match after(word, pieces) {
+        Some(rest) => {
+            let locals = IndexedNames::none(alloc);
+            let scope = scope(names, &locals);
+            machine::instructions(alloc, &scope, rest)
+        }
+        None => one_instruction(alloc, names, pieces),
+    }
+}
+
+/// One folded instruction.
+///
+/// # Proved
+///
+/// ```text
+/// ensures { MatchResult result
+/// (λ r. reading.one_at (context_of names.now) (map terminal pieces.now) ≡ Ok (r.0.items, map terminal r.1.now))
+/// (λ e. Faults (reading.one_at (context_of names.now) (map terminal pieces.now)) e) }
+/// ```
+fn one_instruction<'p, 'a>(
+    alloc: Global,
+    names: &Names<'p>,
+    pieces: &'p [Piece<'a>],
+) -> Result<(Vec<Instruction>, &'p [Piece<'a>]), Refusal<'p, 'a>> {
+    match pieces {
+        [Piece::Open, rest @ ..] => {
+            let locals = IndexedNames::none(alloc);
+            let scope = scope(names, &locals);
+            machine::one_folded(alloc, &scope, rest)
+        }
+        [
+            Piece::Close
+            | Piece::Word(_)
+            | Piece::Id(_)
+            | Piece::Integer(_, _)
+            | Piece::Text(_)
+            | Piece::Float(_, _)
+            | Piece::Other,
+            ..,
+        ] => Err(Refusal::Text(Fault {
+            kind: FaultKind::Unexpected,
+            left: pieces,
+        })),
+        [] => Err(Refusal::Text(Fault {
+            kind: FaultKind::Unexpected,
+            left: pieces,
+        })),
+    }
+}
+
+/// A segment, after its word, with which all these tokens begin.
+///
+/// # Proved
+///
+/// ```text
+/// ensures { MatchResult result
+/// (λ r. reading.segment_at (context_of names.now) word.now (map terminal all.now) (map terminal pieces.now) ≡ Ok (field_of r.0 ∷ [], map terminal r.1.now))
+/// (λ e. Faults (reading.segment_at (context_of names.now) word.now (map terminal all.now) (map terminal pieces.now)) e) }
+/// ```
+pub(crate) fn segment<'p, 'a>(
+    alloc: Global,
+    names: &Names<'p>,
+    word: &str,
+    all: &'p [Piece<'a>],
+    pieces: &'p [Piece<'a>],
+) -> Result<(Field<'p>, &'p [Piece<'a>]), Refusal<'p, 'a>> {
+    if word == "data" {
+        return data_at(alloc, names, pieces);
+    }
+    if word == "elem" {
+        return elem_at(alloc, names, pieces);
+    }
+    Err(Refusal::Text(Fault {
+        kind: FaultKind::UnknownWord,
+        left: all,
+    }))
+}
+
+/// A data segment, after its word.
+///
+/// # Proved
+///
+/// ```text
+/// ensures { MatchResult result
+/// (λ r. reading.data_at (context_of names.now) (label_of (map terminal pieces.now)) ≡ Ok (field_of r.0 ∷ [], map terminal r.1.now))
+/// (λ e. Faults (reading.data_at (context_of names.now) (label_of (map terminal pieces.now))) e) }
+/// ```
+fn data_at<'p, 'a>(
+    alloc: Global,
+    names: &Names<'p>,
+    pieces: &'p [Piece<'a>],
+) -> Result<(Field<'p>, &'p [Piece<'a>]), Refusal<'p, 'a>> {
+    let (name, rest) = reading::label(pieces);
+    data_after(alloc, names, name, rest)
+}
+
+/// A data segment, after its name.
+///
+/// # Proved
+///
+/// ```text
+/// ensures { MatchResult result
+/// (λ r. reading.data_after (context_of names.now) (label name.entry) (map terminal pieces.now) ≡ Ok (field_of r.0 ∷ [], map terminal r.1.now))
+/// (λ e. Faults (reading.data_after (context_of names.now) (label name.entry) (map terminal pieces.now)) e) }
+/// ```
+fn data_after<'p, 'a>(
+    alloc: Global,
+    names: &Names<'p>,
+    name: Name<'p>,
+    pieces: &'p [Piece<'a>],
+) -> Result<(Field<'p>, &'p [Piece<'a>]), Refusal<'p, 'a>> {
+    match pieces {
+        [Piece::Open, ..] => active_data(alloc, names, name, pieces),
+        [
+            Piece::Close
+            | Piece::Word(_)
+            | Piece::Id(_)
+            | Piece::Integer(_, _)
+            | Piece::Text(_)
+            | Piece::Float(_, _)
+            | Piece::Other,
+            ..,
+        ] => data_strings(alloc, name, None, pieces),
+        [] => data_strings(alloc, name, None, pieces),
+    }
+}
+
+/// A data segment that is put into a memory, after its name.
+///
+/// # Proved
+///
+/// ```text
+/// ensures { MatchResult result
+/// (λ r. reading.active_data (context_of names.now) (label name.entry) (map terminal pieces.now) ≡ Ok (field_of r.0 ∷ [], map terminal r.1.now))
+/// (λ e. Faults (reading.active_data (context_of names.now) (label name.entry) (map terminal pieces.now)) e) }
+/// ```
+fn active_data<'p, 'a>(
+    alloc: Global,
+    names: &Names<'p>,
+    name: Name<'p>,
+    pieces: &'p [Piece<'a>],
+) -> Result<(Field<'p>, &'p [Piece<'a>]), Refusal<'p, 'a>> {
+    let (index, rest) = used("memory", &names.memories, pieces)?;
+    let (offset, rest) = expression(alloc, names, "offset", rest)?;
+    data_strings(alloc, name, Some(Target { index, offset }), rest)
+}
+
+/// The bytes of a data segment, and `)`.
+///
+/// # Proved
+///
+/// ```text
+/// ensures { MatchResult result
+/// (λ r. reading.data_strings (label name.entry) (target_of target) (map terminal pieces.now) ≡ Ok (field_of r.0 ∷ [], map terminal r.1.now))
+/// (λ e. Faults (reading.data_strings (label name.entry) (target_of target) (map terminal pieces.now)) e) }
+/// ```
+fn data_strings<'p, 'a>(
+    alloc: Global,
+    name: Name<'p>,
+    target: Option<Target>,
+    pieces: &'p [Piece<'a>],
+) -> Result<(Field<'p>, &'p [Piece<'a>]), Refusal<'p, 'a>> {
+    let (bytes, rest) = strings(alloc, pieces)?;
+    let rest = closed(rest)?;
+    Ok((
+        Field::Data(Data {
+            name,
+            target,
+            bytes,
+        }),
+        rest,
+    ))
+}
