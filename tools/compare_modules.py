@@ -684,44 +684,29 @@ def compare_texts(program, folder):
                 counts["both refuse" if ours[0] is None else "same bytes"] += 1
             else:
                 differ.append(f"{path}: {ours[1] or 'other bytes'}")
-    print(*differ[:20], sep="\n")
+    for line in differ[:20]:
+        print(line)
     print(f"compare_modules.py: {folder}: " + "".join(f"{n} {what}, " for what, n in counts.items()) + f"{len(differ)} differ")
     return bool(differ)
 
 
-def main():
-    """Makes the texts, and compares what is made of them."""
-    parser = argparse.ArgumentParser()
-    parser.add_argument("--modules", type=int, default=200)
-    parser.add_argument("--mutants", type=int, default=400)
-    parser.add_argument("--seed", type=int, default=1)
-    parser.add_argument("--texts", help="a folder with texts, which are compared in the place of made ones")
-    parser.add_argument("--show", action="store_true", help="shows each text that a known departure explains")
-    parser.add_argument("--write", type=int, help="writes a module of so many functions, and compares nothing")
-    parser.add_argument("--named", action="store_true", help="each of these has a name")
-    parser.add_argument("program", nargs="*")
-    given = parser.parse_args()
-    if not given.write and not given.program:
-        parser.error("PROGRAM is not given")
-    if given.texts:
-        sys.exit(compare_texts(given.program, given.texts))
+def made_texts(given, rows):
+    """Modules and mutants of them, each by whether it is one, its tokens and its text."""
     rng = random.Random(given.seed)
-    with open(TABLE, encoding="utf-8") as it:
-        rows = ROW.findall(it.read())
-    if given.write:
-        names = {**{kind: [] for kind in KINDS + ("type",)}, "func": [f"$f{at}" if given.named else None for at in range(given.write)]}
-        print(" ".join(module(rng, rows, names)).replace(" ( func", "\n( func"))
-        return
     texts = []
     while len(texts) < given.modules:
-        tokens = module(rng, rows, some_names(rng))
-        texts.append((False, tokens))
+        texts.append((False, module(rng, rows, some_names(rng))))
     whole = [tokens for _, tokens in texts]
     while len(texts) < given.modules + given.mutants:
         tokens = mutated(rng, rng.choice(whole))
         if tokens and not has_empty_else(tokens):
             texts.append((True, tokens))
-    texts = [(mutant, tokens, laid(rng, tokens)) for mutant, tokens in texts]
+    return rng, [(mutant, tokens, laid(rng, tokens)) for mutant, tokens in texts]
+
+
+def compare_made(given, rows):
+    """Compares what is made of these, and answers whether any two differ."""
+    rng, texts = made_texts(given, rows)
     counts, differ = {"same bytes": 0, "both refuse": 0, CONDITIONS: 0, STOPPED: 0, **{name: 0 for name in (*DEPARTURES, SHORT, OUTSIDE, EMPTY)}}, []
     with tempfile.TemporaryDirectory() as room:
         for mutant, tokens, text in texts:
@@ -737,7 +722,36 @@ def main():
     for mutant, text, ours, theirs in differ[:20]:
         print("--- mutant" if mutant else "--- module", text, f"ours:   {ours[0]} {ours[1]}", f"theirs: {theirs[0]} {theirs[1]}", sep="\n")
     print(f"compare_modules.py: {given.modules} modules, {given.mutants} mutants: " + "".join(f"{n} {what}, " for what, n in counts.items()) + f"{len(differ)} differ")
-    sys.exit(1 if differ else 0)
+    return bool(differ)
+
+
+def write_module(given, rows):
+    """Prints a module of so many functions."""
+    names = {**{kind: [] for kind in KINDS + ("type",)}, "func": [f"$f{at}" if given.named else None for at in range(given.write)]}
+    print(" ".join(module(random.Random(given.seed), rows, names)).replace(" ( func", "\n( func"))
+
+
+def main():
+    """Does what is asked for."""
+    parser = argparse.ArgumentParser()
+    parser.add_argument("--modules", type=int, default=200)
+    parser.add_argument("--mutants", type=int, default=400)
+    parser.add_argument("--seed", type=int, default=1)
+    parser.add_argument("--texts", help="a folder with texts, which are compared in the place of made ones")
+    parser.add_argument("--show", action="store_true", help="shows each text that a known departure explains")
+    parser.add_argument("--write", type=int, help="writes a module of so many functions, and compares nothing")
+    parser.add_argument("--named", action="store_true", help="each of these has a name")
+    parser.add_argument("program", nargs="*")
+    given = parser.parse_args()
+    if not given.write and not given.program:
+        parser.error("PROGRAM is not given")
+    rows = ROW.findall(TABLE.read_text(encoding="utf-8"))
+    if given.write:
+        write_module(given, rows)
+    elif given.texts:
+        sys.exit(compare_texts(given.program, given.texts))
+    else:
+        sys.exit(compare_made(given, rows))
 
 
 if __name__ == "__main__":
