@@ -674,7 +674,7 @@ def reference(text, room):
 
 
 def compare_texts(program, folder):
-    """Compares what is made of the texts of a folder, and answers whether any two differ."""
+    """Compares what is made of the texts of a folder, and answers whether any two differ, or none is the same."""
     counts, differ = {"same bytes": 0, "both refuse": 0}, []
     with tempfile.TemporaryDirectory() as room:
         for path in sorted(pathlib.Path(folder).rglob("*.wat")):
@@ -687,7 +687,7 @@ def compare_texts(program, folder):
     for line in differ[:20]:
         print(line)
     print(f"compare_modules.py: {folder}: " + "".join(f"{n} {what}, " for what, n in counts.items()) + f"{len(differ)} differ")
-    return bool(differ)
+    return bool(differ) or not counts["same bytes"]
 
 
 def made_texts(given, rows):
