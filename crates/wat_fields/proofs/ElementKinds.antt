@@ -4,14 +4,14 @@ use Rattle.std.specs.Prelude.{if◌then◌else◌, bytes_eq, codes}
 use Rattle.wat_instructions.specs.declared.pieces.FaultKind.TheVariants.{UnknownWord, OutOfRange}
 use Rattle.wat_instructions.specs.declared.pieces.Instruction.{Instruction}
 use Rattle.wat_instructions.specs.declared.pieces.Sign.TheVariants as sign
-use Rattle.wat_instructions.specs.Grammar.{Context, Folded, index, label_of, past}
+use Rattle.wat_instructions.specs.Grammar.{Context, Folded, index, label_of, past, reference_type}
 use Rattle.wat_instructions.specs.Grammar as grammar
-use Rattle.wat_instructions.specs.Table.{mnemonics, low, high}
+use Rattle.wat_instructions.specs.Table.{mnemonics, low, high, prefixed, low_vectors, high_vectors}
 use Rattle.wat_instructions.specs.Terminals.{Terminal, Open, Close, Word, Id, Integer, Text, Float, Other, Label}
-use Rattle.wat_fields.specs.declared.fields.ReferenceType.{ReferenceType}
-use Rattle.wat_fields.specs.declared.fields.ReferenceType.TheVariants as reference
+use Rattle.wat_instructions.specs.declared.pieces.ReferenceType.{ReferenceType}
+use Rattle.wat_instructions.specs.declared.pieces.ReferenceType.TheVariants as reference
 use Rattle.wat_fields.specs.declared.fields.Limits.{Limits}
-use Rattle.wat_fields.specs.Fields.{Many, by_none, by_more, by_number, by_identifier, LimitsAre, by_min, by_min_max, UseIs, by_use, by_no_use, ExpressionIs, by_word_expression, by_instruction, Elements, ElemMode, Passive, Active, Declarative, target, ItemIs, by_item, FunctionIs, by_function, ElementsAre, by_items, by_functions, ref_func, table_of, Field, Table, Elem, FieldIs, by_passive_elem, by_declarative_elem, by_active_elem, by_function_elem, is_u32, reference_type}
+use Rattle.wat_fields.specs.Fields.{Many, by_none, by_more, by_number, by_identifier, LimitsAre, by_min, by_min_max, UseIs, by_use, by_no_use, ExpressionIs, by_word_expression, by_instruction, Elements, ElemMode, Passive, Active, Declarative, target, ItemIs, by_item, FunctionIs, by_function, ElementsAre, by_items, by_functions, ref_func, table_of, Field, Table, Elem, FieldIs, by_passive_elem, by_declarative_elem, by_active_elem, by_function_elem, is_u32}
 use Rattle.wat_instructions.specs.Types.{Types}
 use Rattle.wat_fields.specs.Reading.{Read, and_then, after, all, closed, closing, twice_closed, expression_at, one_element, element_item, one_function, function_item, either_at, table_limits, table_with, table_elements, table_open, table_by, table_at, used_at, elements_by, elements_at, elem_list, functions_list, first_table, said_table, active_elem, elem_word, elem_after, elem_at}
 use Rattle.wat_fields.proofs.Headers.{IsNoInstruction}
@@ -21,11 +21,11 @@ use Rattle.wat_fields.proofs.SegmentKinds.{Laws, Keeps, used_sound, used_complet
 use Rattle.wat_fields.proofs.TypeRules.{index_sound, index_complete, index_pass, twice_closed_is}
 
 pub table_is_none : IsNoInstruction (codes "table")
-unfolding grammar.plain mnemonics low high
+unfolding grammar.plain mnemonics low high prefixed low_vectors high_vectors
 table_is_none = record { plain_not = λ context ls ts. refl; structured_not = refl }
 
 pub item_is_none : IsNoInstruction (codes "item")
-unfolding grammar.plain mnemonics low high
+unfolding grammar.plain mnemonics low high prefixed low_vectors high_vectors
 item_is_none = record { plain_not = λ context ls ts. refl; structured_not = refl }
 
 past_short : (d : ℕ) (ts : List Terminal) → length (past d ts) ≤ length ts

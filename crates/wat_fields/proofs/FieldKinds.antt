@@ -4,7 +4,7 @@ use Rattle.std.specs.Prelude.{if◌then◌else◌, bytes_eq, codes, slice_get}
 use Rattle.std.specs.Str.{is_utf8}
 use Rattle.wat_instructions.specs.declared.pieces.FaultKind.TheVariants.{UnknownWord, Duplicate, NotUtf8, OtherType}
 use Rattle.wat_instructions.specs.declared.pieces.Instruction.{Instruction}
-use Rattle.wat_instructions.specs.Grammar.{Context, Body, index, label_of}
+use Rattle.wat_instructions.specs.Grammar.{Context, Body, index, label_of, reference_type}
 use Rattle.wat_instructions.specs.Law.{past}
 use Rattle.wat_instructions.specs.Machine as machine
 use Rattle.wat_instructions.specs.Terminals.{Terminal, Open, Close, Word, Id, Integer, Text, Float, Other, Label}
@@ -12,9 +12,9 @@ use Rattle.wat_fields.specs.declared.fields.IndexSpace.{IndexSpace}
 use Rattle.wat_fields.specs.declared.fields.IndexSpace.TheVariants as space
 use Rattle.wat_fields.specs.declared.fields.TableType.{TableType}
 use Rattle.wat_instructions.specs.Types.{FunctionType, Types, same_type}
-use Rattle.wat_fields.specs.declared.fields.ReferenceType.{ReferenceType}
-use Rattle.wat_fields.specs.declared.fields.ReferenceType.TheVariants as reference
-use Rattle.wat_fields.specs.Fields.{Many, Group, InlineExport, IndexIs, by_number, by_identifier, LimitsAre, TypeUseIs, by_lists, by_index, by_both, ExternIs, by_type_use, by_table_type, by_memory_type, by_global_type, Variable, TypeUse, type_use, function_type, ExternType, FuncType, OfTable, OfMemory, OfGlobal, extern_space, Definition, definition, Field, TypeField, Import, Func, Table, Memory, Global, Export, Start, FieldIs, by_type, by_import, by_inline_import, by_func, by_table, by_memory, by_global, by_export, by_start, name_of, names_of, unnamed, with_locals, space_of, Data, StringIs, target, Elem, Passive, Active, Declarative, Elements, table_of, is_u32, reference_type, by_table_items, by_table_functions, by_passive_elem, by_declarative_elem, by_active_elem, by_function_elem, by_memory_data, by_passive_data, by_active_data}
+use Rattle.wat_instructions.specs.declared.pieces.ReferenceType.{ReferenceType}
+use Rattle.wat_instructions.specs.declared.pieces.ReferenceType.TheVariants as reference
+use Rattle.wat_fields.specs.Fields.{Many, Group, InlineExport, IndexIs, by_number, by_identifier, LimitsAre, TypeUseIs, by_lists, by_index, by_both, ExternIs, by_type_use, by_table_type, by_memory_type, by_global_type, Variable, TypeUse, type_use, function_type, ExternType, FuncType, OfTable, OfMemory, OfGlobal, extern_space, Definition, definition, Field, TypeField, Import, Func, Table, Memory, Global, Export, Start, FieldIs, by_type, by_import, by_inline_import, by_func, by_table, by_memory, by_global, by_export, by_start, name_of, names_of, unnamed, with_locals, space_of, Data, StringIs, target, Elem, Passive, Active, Declarative, Elements, table_of, is_u32, by_table_items, by_table_functions, by_passive_elem, by_declarative_elem, by_active_elem, by_function_elem, by_memory_data, by_passive_data, by_active_data}
 use Rattle.wat_instructions.specs.Names.{are_distinct}
 use Rattle.wat_fields.specs.Reading.{and_then, after, all, closed, closing, utf8_text, export, export_item, group_item, group, function, func_at, locals, instructions, agreed, lists_after, listed_use, indexed_use, use_by, use_at, limits_at, table_type_at, table_limits, table_open, table_by, table_at, elem_at, memory_type, memory_by, memory_at, segment_at, data_at, global_type_at, global_at, defined, import_names, func_type, extern_at, imported, inline_import, item_by, item_at, import_by, import_word, import_open, import_at, type_by, type_at, type_field, twice_closed, external_by, external_word, external_at, export_at, start_at, field_by, field, field_item}
 use Rattle.wat_fields.proofs.FunctionTypes.{type_is, type_same}

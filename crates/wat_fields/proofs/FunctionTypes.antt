@@ -5,13 +5,15 @@ use Rattle.std.specs.Prelude.{Vec}
 use Rattle.wat_instructions.specs.declared.pieces.Instruction.{Instruction}
 use Rattle.std.specs.Prelude.{◌==◌, ◌&&◌, if◌then◌else◌, slice_get, slice_index_or}
 use Rattle.std.proofs.lemmas.Bool.Decides.{Decides-eqb}
+use Rattle.wat_instructions.specs.declared.pieces.ReferenceType.{ReferenceType}
+use Rattle.wat_instructions.specs.declared.pieces.ReferenceType.TheVariants as reference
 use Rattle.wat_instructions.specs.declared.pieces.ValueType.{ValueType}
 use Rattle.wat_instructions.specs.declared.pieces.ValueType.TheVariants as value
 use Rattle.std.specs.List.{flat_map}
 use Rattle.std.proofs.lemmas.List.{drop_more}
 use Rattle.wat_fields.specs.declared.fields.Field as declared
 use Rattle.wat_fields.specs.Views.{field_of, items_of}
-use Rattle.wat_instructions.specs.Types.{FunctionType, same_type, same_values, type_byte}
+use Rattle.wat_instructions.specs.Types.{FunctionType, reference_byte, same_type, same_values, type_byte}
 use Rattle.wat_fields.specs.Binary.{expression_types, has_type, type_index, types_after, types_of, used_by, with_type}
 use Rattle.wat_fields.specs.Fields.{definition_type, definitions_of}
 use Rattle.wat_fields.specs.Law.{TypesAreThere}
@@ -23,11 +25,22 @@ both false b e = cc
 
 -- value types of one byte are equal
 
+reference_is : (t u : ReferenceType) → reference_byte t ≡ reference_byte u → t ≡ u
+reference_is reference.Func reference.Func e = refl
+reference_is reference.Extern reference.Extern e = refl
+reference_is reference.Func reference.Extern e = absurd (omega (arith, e))
+reference_is reference.Extern reference.Func e = absurd (omega (arith, e))
+
+is_below : (t : ReferenceType) → reference_byte t < 0x7B
+is_below reference.Func = omega arith
+is_below reference.Extern = omega arith
+
 value_is : (t u : ValueType) → type_byte t ≡ type_byte u → t ≡ u
 value_is value.I32 value.I32 e = refl
 value_is value.I64 value.I64 e = refl
 value_is value.F32 value.F32 e = refl
 value_is value.F64 value.F64 e = refl
+value_is value.V128 value.V128 e = refl
 value_is value.I32 value.I64 e = absurd (omega (arith, e))
 value_is value.I32 value.F32 e = absurd (omega (arith, e))
 value_is value.I32 value.F64 e = absurd (omega (arith, e))
@@ -40,6 +53,25 @@ value_is value.F32 value.F64 e = absurd (omega (arith, e))
 value_is value.F64 value.I32 e = absurd (omega (arith, e))
 value_is value.F64 value.I64 e = absurd (omega (arith, e))
 value_is value.F64 value.F32 e = absurd (omega (arith, e))
+value_is value.I32 value.V128 e = absurd (omega (arith, e))
+value_is value.V128 value.I32 e = absurd (omega (arith, e))
+value_is value.I64 value.V128 e = absurd (omega (arith, e))
+value_is value.V128 value.I64 e = absurd (omega (arith, e))
+value_is value.F32 value.V128 e = absurd (omega (arith, e))
+value_is value.V128 value.F32 e = absurd (omega (arith, e))
+value_is value.F64 value.V128 e = absurd (omega (arith, e))
+value_is value.V128 value.F64 e = absurd (omega (arith, e))
+value_is (value.Reference t) (value.Reference u) e = ap value.Reference (reference_is t u e)
+value_is value.I32 (value.Reference t) e = absurd (omega (arith, e, is_below t))
+value_is value.I64 (value.Reference t) e = absurd (omega (arith, e, is_below t))
+value_is value.F32 (value.Reference t) e = absurd (omega (arith, e, is_below t))
+value_is value.F64 (value.Reference t) e = absurd (omega (arith, e, is_below t))
+value_is value.V128 (value.Reference t) e = absurd (omega (arith, e, is_below t))
+value_is (value.Reference t) value.V128 e = absurd (omega (arith, e, is_below t))
+value_is (value.Reference t) value.I32 e = absurd (omega (arith, e, is_below t))
+value_is (value.Reference t) value.I64 e = absurd (omega (arith, e, is_below t))
+value_is (value.Reference t) value.F32 e = absurd (omega (arith, e, is_below t))
+value_is (value.Reference t) value.F64 e = absurd (omega (arith, e, is_below t))
 
 values_are : (ts us : List ValueType) → same_values ts us ≡ true → ts ≡ us
 values_are [] [] e = refl

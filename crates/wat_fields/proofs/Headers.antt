@@ -5,7 +5,7 @@ use Rattle.wat_instructions.specs.declared.pieces.FaultKind.TheVariants.{Unknown
 use Rattle.wat_instructions.specs.declared.pieces.Instruction.{Instruction}
 use Rattle.wat_instructions.specs.Grammar.{Context, Fault, Instructions, plain, structured}
 use Rattle.wat_instructions.specs.Grammar as grammar
-use Rattle.wat_instructions.specs.Table.{mnemonics, low, high}
+use Rattle.wat_instructions.specs.Table.{mnemonics, low, high, prefixed, low_vectors, high_vectors}
 use Rattle.wat_instructions.specs.Terminals.{Terminal, Close, Word, Id, Label}
 use Rattle.wat_fields.specs.Fields.{Many, by_none, by_more, Group, by_named, by_listed, Variable}
 use Rattle.wat_fields.specs.Reading.{Read, and_then, after, begun, group, group_item, params, results}
@@ -22,19 +22,19 @@ pub record IsNoInstruction (v : List ℕ) : Type 0 where
   pub structured_not : structured v ≡ None
 
 pub export_is_none : IsNoInstruction (codes "export")
-unfolding plain mnemonics low high
+unfolding plain mnemonics low high prefixed low_vectors high_vectors
 export_is_none = record { plain_not = λ context ls ts. refl; structured_not = refl }
 
 pub param_is_none : IsNoInstruction (codes "param")
-unfolding plain mnemonics low high
+unfolding plain mnemonics low high prefixed low_vectors high_vectors
 param_is_none = record { plain_not = λ context ls ts. refl; structured_not = refl }
 
 pub result_is_none : IsNoInstruction (codes "result")
-unfolding plain mnemonics low high
+unfolding plain mnemonics low high prefixed low_vectors high_vectors
 result_is_none = record { plain_not = λ context ls ts. refl; structured_not = refl }
 
 pub local_is_none : IsNoInstruction (codes "local")
-unfolding plain mnemonics low high
+unfolding plain mnemonics low high prefixed low_vectors high_vectors
 local_is_none = record { plain_not = λ context ls ts. refl; structured_not = refl }
 
 pub not_found : (v w : List ℕ) (ts : List Terminal) (b : Bool) → bytes_eq w v ≡ b → b ≡ false → (if b then Some ts else None) ≡ None
@@ -114,9 +114,9 @@ pub ends_lists : (v : List ℕ) → bytes_eq (codes "param") v ≡ false → byt
 ends_lists v a b ps rs ts ds k h = ends_groups v (codes "param") true a ts ps k.bs k.params (ends_groups v (codes "result") false b k.bs rs ds k.results h)
 
 pub type_is_none : IsNoInstruction (codes "type")
-unfolding plain mnemonics low high
+unfolding plain mnemonics low high prefixed low_vectors high_vectors
 type_is_none = record { plain_not = λ env ls ts. refl; structured_not = refl }
 
 pub import_is_none : IsNoInstruction (codes "import")
-unfolding plain mnemonics low high
+unfolding plain mnemonics low high prefixed low_vectors high_vectors
 import_is_none = record { plain_not = λ env ls ts. refl; structured_not = refl }

@@ -1,10 +1,10 @@
 -- What is read of a module is what the grammar spells.
-use Rattle.std.proofs.Common.{◌≡◌, ◌≤◌, ℕ, zero, suc, Bool, true, false, List, [], ◌∷◌, ◌++◌, length, Some, None, Result, Ok, Err, refl, sym, ap, subst, ◌∙◌, arith, append_assoc, append-nil}
+use Rattle.std.proofs.Common.{◌≡◌, ◌≤◌, ℕ, zero, suc, Bool, true, false, List, [], ◌∷◌, ◌++◌, length, Option, Some, None, Result, Ok, Err, refl, sym, ap, subst, ◌∙◌, arith, append_assoc, append-nil}
 use Rattle.std.specs.Prelude.{if◌then◌else◌, bytes_eq, codes, nat_lt}
 use Rattle.std.specs.List.{flat_map}
 use Rattle.std.proofs.lemmas.Bool.Decides.{Decides-ltb}
 use Rattle.std.proofs.lemmas.Grind.{flat_map-append}
-use Rattle.wat_instructions.specs.declared.pieces.FaultKind.TheVariants.{UnknownWord, Duplicate, SecondStart, LateImport}
+use Rattle.wat_instructions.specs.declared.pieces.FaultKind.TheVariants.{Duplicate, SecondStart, LateImport}
 use Rattle.wat_instructions.specs.Grammar.{Context, Fault, label_of}
 use Rattle.wat_instructions.specs.Law.{past}
 use Rattle.wat_instructions.specs.Terminals.{Terminal, Open, Close, Word, Id, Integer, Text, Float, Other}
@@ -12,14 +12,15 @@ use Rattle.wat_fields.specs.declared.fields.IndexSpace.{IndexSpace}
 use Rattle.wat_fields.specs.declared.fields.Limits.{Limits}
 use Rattle.wat_fields.specs.declared.fields.IndexSpace.TheVariants as space
 use Rattle.wat_instructions.specs.Types.{Types}
-use Rattle.wat_fields.specs.Fields.{Many, by_none, by_more, Field, FieldIs, by_type, by_import, by_inline_import, by_func, by_table, by_memory, by_global, by_export, by_start, Binding, binding, Definition, Module, by_module, all_distinct, context_of, types_in, binding_of, bindings_of, definition_of, definitions_of, imports_first, space_of, starts_of, InlineExport, LimitsAre, by_min, by_min_max, elem_of, elems_of, data_of, datas_of, by_table_items, by_table_functions, by_passive_elem, by_declarative_elem, by_active_elem, by_function_elem, by_memory_data, by_passive_data, by_active_data}
+use Rattle.wat_fields.specs.Fields.{Many, by_none, by_more, Field, FieldIs, by_type, by_import, by_inline_import, by_func, by_table, by_memory, by_global, by_export, by_start, Binding, binding, Definition, FieldsAre, Module, by_module, by_fields, all_distinct, context_of, types_in, binding_of, bindings_of, definition_of, definitions_of, imports_first, space_of, starts_of, InlineExport, LimitsAre, by_min, by_min_max, elem_of, elems_of, data_of, datas_of, by_table_items, by_table_functions, by_passive_elem, by_declarative_elem, by_active_elem, by_function_elem, by_memory_data, by_passive_data, by_active_data}
 use Rattle.wat_fields.specs.Law.{ReadingIsGrammar}
-use Rattle.wat_fields.specs.Reading.{Read, after, all, export, export_item, elem_name_at, inline_elem, elem_after_type, data_name_at, inline_data, unnamed_by, field_item, fields_at, fields_of, binding_by, import_binding, binding_at, definition_by, definition_at, type_at, whole, module_word, ended, ordered, starts, Before, Inside}
+use Rattle.wat_fields.specs.Reading.{Read, after, all, export, export_item, elem_name_at, inline_elem, elem_after_type, data_name_at, inline_data, unnamed_by, field_item, fields_at, fields_of, binding_by, import_binding, binding_at, definition_by, definition_at, type_at, whole, whole_by, ended, at_end, ended_by, ordered, starts, Before, Inside}
 use Rattle.wat_fields.proofs.Headers.{item_ends, other_word}
-use Rattle.wat_fields.proofs.Items.{word_is, is_word, after_is, exports_read}
+use Rattle.wat_fields.proofs.Items.{Finds, word_is, begins, after_is, exports_read}
 use Rattle.wat_fields.proofs.TypeRules.{limits_no_data, limits_no_export}
 use Rattle.wat_fields.proofs.FieldKinds.{Laws, Closes, field_after, fields_read, label_past, extern_space_is, type_complete}
 use Rattle.wat_fields.proofs.Manies.{all_sound, all_complete}
+use Rattle.wat_fields.proofs.Manies as manies
 
 -- Where fields begin, by the parentheses alone.
 
@@ -214,9 +215,15 @@ fields_found laws types context _ _ r (by_more {ts = ts} {us = us} {vs = fs} {ws
       elems = flat_map-append elem_name_at a.ss b.ss ∙ ap (λ x. x ++ flat_map elem_name_at b.ss) a.elems ∙ ap (λ x. elems_of fs ++ x) b.elems ∙ sym (flat_map-append elem_of fs gs);
     }
 
-close_starts : (ss : List (List Terminal)) → starts Before ss (Close ∷ []) ≡ ss
+-- what is left after the fields
+abbrev tail : Bool → List Terminal
+tail true = Close ∷ []
+tail false = []
+
+tail_starts : (enclosed : Bool) (ss : List (List Terminal)) → starts Before ss (tail enclosed) ≡ ss
 unfolding starts
-close_starts ss = refl
+tail_starts true ss = refl
+tail_starts false ss = refl
 
 record Context_of (ts : List Terminal) (fs : List Field) : Type 0 where
   bindings : flat_map binding_at (starts Before [] ts) ≡ bindings_of fs
@@ -224,10 +231,10 @@ record Context_of (ts : List Terminal) (fs : List Field) : Type 0 where
   datas : flat_map data_name_at (starts Before [] ts) ≡ datas_of fs
   elems : flat_map elem_name_at (starts Before [] ts) ≡ elems_of fs
 
-module_context : Laws → (types : Types) (context : Context) (ts : List Terminal) (fs : List Field) → Many (FieldIs types context) ts fs (Close ∷ []) → Context_of ts fs
-module_context laws types context ts fs m =
-    let f = fields_found laws types context ts fs (Close ∷ []) m in
-    let e : starts Before [] ts ≡ f.ss = f.begin [] ∙ close_starts f.ss in record { bindings = ap (flat_map binding_at) e ∙ f.bindings; definitions = ap (flat_map definition_at) e ∙ f.definitions; datas = ap (flat_map data_name_at) e ∙ f.datas; elems = ap (flat_map elem_name_at) e ∙ f.elems }
+module_context : Laws → (enclosed : Bool) (types : Types) (context : Context) (ts : List Terminal) (fs : List Field) → Many (FieldIs types context) ts fs (tail enclosed) → Context_of ts fs
+module_context laws enclosed types context ts fs m =
+    let f = fields_found laws types context ts fs (tail enclosed) m in
+    let e : starts Before [] ts ≡ f.ss = f.begin [] ∙ tail_starts enclosed f.ss in record { bindings = ap (flat_map binding_at) e ∙ f.bindings; definitions = ap (flat_map definition_at) e ∙ f.definitions; datas = ap (flat_map data_name_at) e ∙ f.datas; elems = ap (flat_map elem_name_at) e ∙ f.elems }
 
 -- the context that is found is the one that the fields bring
 abbrev found_context : List (List Terminal) → Context
@@ -258,6 +265,19 @@ ended_sound (Ok (gs, Float narrow wide ∷ ts)) fs e = cc
 ended_sound (Ok (gs, Other ∷ ts)) fs e = cc
 ended_sound (Err f) fs e = cc
 
+at_end_sound : (q : Read (List Field)) (fs : List Field) → at_end q ≡ Ok fs → q ≡ Ok (fs, [])
+at_end_sound (Ok (gs, [])) fs e = let k : gs ≡ fs = cc in ap (λ x. Ok (x, [])) k
+at_end_sound (Ok (gs, t ∷ ts)) fs e = cc
+at_end_sound (Err f) fs e = cc
+
+tail_sound : (enclosed : Bool) (q : Read (List Field)) (fs : List Field) → ended_by enclosed q ≡ Ok fs → q ≡ Ok (fs, tail enclosed)
+tail_sound true q fs e = ended_sound q fs e
+tail_sound false q fs e = at_end_sound q fs e
+
+tail_complete : (enclosed : Bool) (fs : List Field) → ended_by enclosed (Ok (fs, tail enclosed)) ≡ Ok fs
+tail_complete true fs = refl
+tail_complete false fs = refl
+
 started_by : (ts : List Terminal) (gs fs : List Field) (a b : Bool) → imports_first gs ≡ a → nat_lt (length (starts_of gs)) 2 ≡ b → ◌≡◌ {A = Result (List Field) Fault} (if a then (if b then Ok gs else Err (SecondStart, ts)) else Err (LateImport, ts)) (Ok fs)
     → (gs ≡ fs) × (imports_first gs ≡ true) × (length (starts_of gs) ≤ 1)
 started_by ts gs fs true true i e h = let k : gs ≡ fs = cc in let l = (Decides-ltb (length (starts_of gs)) 2).0 e in (k, i, omega (arith, l))
@@ -273,61 +293,68 @@ ordered_complete : (ts : List Terminal) (fs : List Field) → imports_first fs �
 ordered_complete ts fs i l =
     ap (λ (b : Bool). if b then (if nat_lt (length (starts_of fs)) 2 then Ok fs else Err (SecondStart, ts)) else Err (LateImport, ts)) i ∙ ap (λ (b : Bool). if b then Ok fs else Err (SecondStart, ts)) ((Decides-ltb (length (starts_of fs)) 2).1 (omega (arith, l)))
 
-of_context : Laws → (ds : List Definition) (context : Context) (w : List ℕ) (ts : List Terminal) (fs : List Field) → w ≡ codes "module" → ds ≡ flat_map definition_at (starts Before [] (label_of ts).1) → context ≡ found_context (starts Before [] (label_of ts).1)
-    → (b : Bool) → all_distinct (types_in ds) context ≡ b → (if b then ordered (label_of ts).1 (ended (all (field_item (types_in ds) context) (label_of ts).1)) else Err (Duplicate, (label_of ts).1)) ≡ Ok fs → Module (Open ∷ Word w ∷ ts) fs
-of_context laws ds context w ts fs e n o true d h =
-    let s = ordered_sound (label_of ts).1 (ended (all (field_item (types_in ds) context) (label_of ts).1)) fs h in
-    let m = (all_sound (field_item (types_in ds) context) (FieldIs (types_in ds) context) (fields_read laws (types_in ds) context) fs (label_of ts).1 (Close ∷ []) (ended_sound _ fs s.0)).0 in
-    let k = module_context laws (types_in ds) context (label_of ts).1 fs m in
+of_context : Laws → (enclosed : Bool) (ds : List Definition) (context : Context) (ts : List Terminal) (fs : List Field) → ds ≡ flat_map definition_at (starts Before [] ts) → context ≡ found_context (starts Before [] ts)
+    → (b : Bool) → all_distinct (types_in ds) context ≡ b → (if b then ordered ts (ended_by enclosed (all (field_item (types_in ds) context) ts)) else Err (Duplicate, ts)) ≡ Ok fs → FieldsAre ts fs (tail enclosed)
+of_context laws enclosed ds context ts fs n o true d h =
+    let s = ordered_sound ts (ended_by enclosed (all (field_item (types_in ds) context) ts)) fs h in
+    let m = (all_sound (field_item (types_in ds) context) (FieldIs (types_in ds) context) (fields_read laws (types_in ds) context) fs ts (tail enclosed) (tail_sound enclosed _ fs s.0)).0 in
+    let k = module_context laws enclosed (types_in ds) context ts fs m in
     let x = n ∙ k.definitions in
-    let y = o ∙ context_is (label_of ts).1 fs k in
-    by_module e (subst (λ z. Many (FieldIs (types_in z) (own_context fs)) (label_of ts).1 fs (Close ∷ [])) x (subst (λ z. Many (FieldIs (types_in ds) z) (label_of ts).1 fs (Close ∷ [])) y m))
-    (subst (λ z. all_distinct (types_in z) (own_context fs) ≡ true) x (subst (λ z. all_distinct (types_in ds) z ≡ true) y d)) s.1 s.2
-of_context laws ds context w ts fs e n o false d h = cc
+    let y = o ∙ context_is ts fs k in record {
+      spelled = subst (λ z. Many (FieldIs (types_in z) (own_context fs)) ts fs (tail enclosed)) x (subst (λ z. Many (FieldIs (types_in ds) z) ts fs (tail enclosed)) y m);
+      distinct = subst (λ z. all_distinct (types_in z) (own_context fs) ≡ true) x (subst (λ z. all_distinct (types_in ds) z ≡ true) y d);
+      imports = s.1;
+      starts = s.2;
+    }
+of_context laws enclosed ds context ts fs n o false d h = cc
 
-word_module : Laws → (w : List ℕ) (ts : List Terminal) (fs : List Field) (b : Bool) → bytes_eq w (codes "module") ≡ b → (if b then fields_at (label_of ts).1 else Err (UnknownWord, Word w ∷ ts)) ≡ Ok fs → Module (Open ∷ Word w ∷ ts) fs
-word_module laws w ts fs true e h =
-    let ss = starts Before [] (label_of ts).1 in
-    of_context laws (flat_map definition_at ss) (found_context ss) w ts fs (word_is w (codes "module") e) refl refl (all_distinct (types_in (flat_map definition_at ss)) (found_context ss)) refl h
-word_module laws w ts fs false e h = cc
+fields_sound : Laws → (enclosed : Bool) (ts : List Terminal) (fs : List Field) → fields_at enclosed ts ≡ Ok fs → FieldsAre ts fs (tail enclosed)
+fields_sound laws enclosed ts fs h =
+    let ss = starts Before [] ts in of_context laws enclosed (flat_map definition_at ss) (found_context ss) ts fs refl refl (all_distinct (types_in (flat_map definition_at ss)) (found_context ss)) refl h
 
-open_module : Laws → (ts : List Terminal) (fs : List Field) → module_word ts ≡ Ok fs → Module (Open ∷ ts) fs
-open_module laws (Word w ∷ ts) fs h = word_module laws w ts fs (bytes_eq w (codes "module")) refl h
-open_module laws [] fs h = cc
-open_module laws (Open ∷ ts) fs h = cc
-open_module laws (Close ∷ ts) fs h = cc
-open_module laws (Id x ∷ ts) fs h = cc
-open_module laws (Integer s n ∷ ts) fs h = cc
-open_module laws (Text v ∷ ts) fs h = cc
-open_module laws (Float narrow wide ∷ ts) fs h = cc
-open_module laws (Other ∷ ts) fs h = cc
+whole_sound : Laws → (ts : List Terminal) (fs : List Field) (o : Option (List Terminal)) → after (codes "module") ts ≡ o → whole_by o ts ≡ Ok fs → Module ts fs
+whole_sound laws ts fs (Some us) e h =
+    let b = begins (codes "module") ts us (subst (λ x. Finds x us) (sym e) refl) in subst (λ x. Module x fs) (sym b.is) (by_module b.same (fields_sound laws true (label_of us).1 fs h))
+whole_sound laws ts fs None e h = by_fields (fields_sound laws false ts fs h)
 
 module_sound : Laws → (ts : List Terminal) (fs : List Field) → whole ts ≡ Ok fs → Module ts fs
 unfolding whole
-module_sound laws (Open ∷ ts) fs h = open_module laws ts fs h
-module_sound laws [] fs h = cc
-module_sound laws (Close ∷ ts) fs h = cc
-module_sound laws (Word w ∷ ts) fs h = cc
-module_sound laws (Id x ∷ ts) fs h = cc
-module_sound laws (Integer s n ∷ ts) fs h = cc
-module_sound laws (Text v ∷ ts) fs h = cc
-module_sound laws (Float narrow wide ∷ ts) fs h = cc
-module_sound laws (Other ∷ ts) fs h = cc
+module_sound laws ts fs h = whole_sound laws ts fs (after (codes "module") ts) refl h
 
-no_field : (types : Types) (context : Context) → field_item types context (Close ∷ []) ≡ None
+no_field : (types : Types) (context : Context) (enclosed : Bool) → field_item types context (tail enclosed) ≡ None
 unfolding field_item
-no_field types context = refl
+no_field types context true = refl
+no_field types context false = refl
+
+fields_complete : Laws → (enclosed : Bool) (ts : List Terminal) (fs : List Field) → FieldsAre ts fs (tail enclosed) → fields_at enclosed ts ≡ Ok fs
+fields_complete laws enclosed ts fs a =
+    let types = types_in (definitions_of fs) in
+    let context = own_context fs in
+    let k = module_context laws enclosed types context ts fs a.spelled in
+    ap (λ x. fields_of enclosed (types_in x) (found_context (starts Before [] ts)) ts) k.definitions ∙ ap (λ x. fields_of enclosed types x ts) (context_is ts fs k)
+    ∙ ap (λ (x : Bool). if x then ordered ts (ended_by enclosed (all (field_item types context) ts)) else Err (Duplicate, ts)) a.distinct
+    ∙ ap (λ q. ordered ts (ended_by enclosed q)) (all_complete (field_item types context) (FieldIs types context) (fields_read laws types context) fs ts (tail enclosed) a.spelled (no_field types context enclosed))
+    ∙ ap (λ q. ordered ts q) (tail_complete enclosed fs) ∙ ordered_complete ts fs a.imports a.starts
+
+module_is_no_field : (types : Types) (context : Context) (us r : List Terminal) (fs : List Field) → manies.Brings (field_item types context (Open ∷ Word (codes "module") ∷ us)) fs r → ⊥
+unfolding field_item
+module_is_no_field types context us r fs h = h
+
+-- no field begins as a module does
+no_module_by : Laws → (types : Types) (context : Context) (ts : List Terminal) (fs : List Field) (r : List Terminal) → FieldIs types context ts fs r → (o : Option (List Terminal)) → after (codes "module") ts ≡ o → o ≡ None
+no_module_by laws types context ts fs r f (Some us) e =
+    let b = begins (codes "module") ts us (subst (λ x. Finds x us) (sym e) refl) in
+    let is = b.is ∙ ap (λ w. Open ∷ Word w ∷ us) b.same in absurd (module_is_no_field types context us r fs (subst (λ x. manies.Brings (field_item types context x) fs r) is ((fields_read laws types context).complete ts fs r f)))
+no_module_by laws types context ts fs r f None e = refl
+
+no_module : Laws → (types : Types) (context : Context) (ts : List Terminal) (fs : List Field) (r : List Terminal) → Many (FieldIs types context) ts fs r → r ≡ [] → after (codes "module") ts ≡ None
+no_module laws types context _ _ r by_none e = ap (λ x. after (codes "module") x) e
+no_module laws types context _ _ r (by_more {ts = ts} {us = us} {vs = fs} one rest) e = no_module_by laws types context ts fs us one (after (codes "module") ts) refl
 
 module_complete : Laws → (ts : List Terminal) (fs : List Field) → Module ts fs → whole ts ≡ Ok fs
 unfolding whole
-module_complete laws _ fs (by_module {w = w} {ts = ts} e m d i l) =
-    let types = types_in (definitions_of fs) in
-    let context = own_context fs in
-    let k = module_context laws types context (label_of ts).1 fs m in
-    ap (λ (x : Bool). if x then fields_at (label_of ts).1 else Err (UnknownWord, Word w ∷ ts)) (is_word w (codes "module") e)
-    ∙ ap (λ x. fields_of (types_in x) (found_context (starts Before [] (label_of ts).1)) (label_of ts).1) k.definitions ∙ ap (λ x. fields_of types x (label_of ts).1) (context_is (label_of ts).1 fs k)
-    ∙ ap (λ (x : Bool). if x then ordered (label_of ts).1 (ended (all (field_item types context) (label_of ts).1)) else Err (Duplicate, (label_of ts).1)) d
-    ∙ ap (λ q. ordered (label_of ts).1 (ended q)) (all_complete (field_item types context) (FieldIs types context) (fields_read laws types context) fs (label_of ts).1 (Close ∷ []) m (no_field types context)) ∙ ordered_complete (label_of ts).1 fs i l
+module_complete laws _ fs (by_module {w = w} {ts = ts} e a) = ap (λ o. whole_by o (Open ∷ Word w ∷ ts)) (after_is (codes "module") w ts e) ∙ fields_complete laws true (label_of ts).1 fs a
+module_complete laws ts fs (by_fields a) = ap (λ o. whole_by o ts) (no_module laws (types_in (definitions_of fs)) (own_context fs) ts fs [] a.spelled refl) ∙ fields_complete laws false ts fs a
 
 pub law : Laws → ReadingIsGrammar
 law laws ts fs = (module_sound laws ts fs, module_complete laws ts fs)

@@ -7,7 +7,7 @@ use Rattle.wat_instructions.specs.Grammar.{Context, Body, Folded, index, label_o
 use Rattle.wat_instructions.specs.Grammar as grammar
 use Rattle.wat_instructions.specs.Law.{FoldedIsGrammar, InstructionsAreBalanced, InstructionsTakeTokens, MachineIsGrammar}
 use Rattle.wat_instructions.specs.Machine.{run, run_by, open_by, at_operands, folded}
-use Rattle.wat_instructions.specs.Table.{mnemonics, low, high}
+use Rattle.wat_instructions.specs.Table.{mnemonics, low, high, prefixed, low_vectors, high_vectors}
 use Rattle.wat_instructions.specs.Terminals.{Terminal, Open, Close, Word, Id, Integer, Text, Float, Other, Label}
 use Rattle.wat_fields.specs.Fields.{Many, by_none, by_more, IndexIs, StringIs, by_string, UseIs, by_use, by_no_use, ExpressionIs, by_word_expression, by_instruction, Target, target, Field, Memory, Data, FieldIs, by_passive_data, by_active_data, is_u32, pages_of}
 use Rattle.wat_instructions.specs.Types.{Types}
@@ -89,11 +89,11 @@ used_keeps word names _ _ us by_no_use = record { short = omega arith; same = λ
 -- Expressions.
 
 pub memory_is_none : IsNoInstruction (codes "memory")
-unfolding grammar.plain mnemonics low high
+unfolding grammar.plain mnemonics low high prefixed low_vectors high_vectors
 memory_is_none = record { plain_not = λ context ls ts. refl; structured_not = refl }
 
 pub offset_is_none : IsNoInstruction (codes "offset")
-unfolding grammar.plain mnemonics low high
+unfolding grammar.plain mnemonics low high prefixed low_vectors high_vectors
 offset_is_none = record { plain_not = λ context ls ts. refl; structured_not = refl }
 
 one_sound : Laws → (context : Context) (ts : List Terminal) (is : List Instruction) (r : List Terminal) → Gives (one_at context ts) is r → Folded context ts is r

@@ -5,14 +5,14 @@ use Rattle.wat_instructions.specs.declared.pieces.FaultKind.TheVariants.{Unknown
 use Rattle.wat_instructions.specs.declared.pieces.Sign.{Sign}
 use Rattle.wat_instructions.specs.declared.pieces.Sign.TheVariants as sign
 use Rattle.wat_instructions.specs.declared.pieces.ValueType.{ValueType}
-use Rattle.wat_instructions.specs.Grammar.{index, named, position, small, value_type}
+use Rattle.wat_instructions.specs.Grammar.{index, named, position, small, value_type, reference_type}
 use Rattle.wat_instructions.specs.Law.{past}
 use Rattle.wat_instructions.specs.Terminals.{Terminal, Open, Close, Word, Id, Integer, Text, Float, Other, Label}
 use Rattle.wat_fields.specs.declared.fields.GlobalType.{GlobalType}
 use Rattle.wat_fields.specs.declared.fields.Limits.{Limits}
-use Rattle.wat_fields.specs.declared.fields.ReferenceType.{ReferenceType}
+use Rattle.wat_instructions.specs.declared.pieces.ReferenceType.{ReferenceType}
 use Rattle.wat_fields.specs.declared.fields.TableType.{TableType}
-use Rattle.wat_fields.specs.Fields.{IndexIs, by_number, by_identifier, LimitsAre, by_min, by_min_max, GlobalTypeIs, by_constant, by_mutable, is_u32, reference_type}
+use Rattle.wat_fields.specs.Fields.{IndexIs, by_number, by_identifier, LimitsAre, by_min, by_min_max, GlobalTypeIs, by_constant, by_mutable, is_u32}
 use Rattle.wat_fields.specs.Reading.{and_then, closed, limits, max_at, limits_at, reference_by, reference_at, table_type, table_type_at, global_type, constant_by, mutable_by, mutable_type, mutable_at, global_type_at, twice_closed, after, export_item}
 use Rattle.wat_fields.proofs.Items.{GivesAll, closing_inv, closed_is, word_is, is_word}
 use Rattle.wat_fields.proofs.Manies.{Gives, gives_of, and_then_inv}

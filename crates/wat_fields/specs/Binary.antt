@@ -1,25 +1,28 @@
 -- WebAssembly 2.0 specification, 5 (binary format): 5.1.3 vectors, 5.2 values, 5.3 types, 5.4 instructions, 5.5 modules (5.5.2 sections, 5.5.4 type
 -- section, 5.5.5 import section, 5.5.6 function section, 5.5.7 table section, 5.5.8 memory section, 5.5.9 global section, 5.5.10 export section, 5.5.11 start
--- section, 5.5.12 element section, 5.5.13 code section, 5.5.14 data section, 5.5.16 modules). And 6.6.3: the types that type uses without an index bring.
+-- section, 5.5.12 element section, 5.5.13 code section, 5.5.14 data section, 5.5.15 data count section, 5.5.16 modules). And 6.6.3: the types that type uses
+-- without an index bring.
 -- What the standard leaves open is fixed: integers in their shortest form, runs of local variables of one type counted together, no section without
--- content, no custom section, no data count (5.5.15), an `else` where the text has one, a data segment of the memory 0 by the flags 0, and of the bytes for
--- element segments those that `wat2wasm` writes (elem_bytes). The order of exports and segments is that of the text: an inline one is where its field is.
-use Rattle.std.specs.Prelude.{ℕ, suc, Bool, true, false, List, [], ◌∷◌, ◌++◌, length, map, Option, Some, None, ◌==◌, if◌then◌else◌, pos, ◌&&◌}
+-- content, no custom section, a data count only where it has to be, an `else` where the text has one, a data segment of the memory 0 by the flags 0, and of the
+-- bytes for valid element segments those that `wat2wasm` writes (elem_bytes). The order of exports and segments is that of the text: an inline one is where its field is.
+use Rattle.std.specs.Prelude.{ℕ, suc, Bool, true, false, List, [], ◌∷◌, ◌++◌, length, map, Option, Some, None, ◌==◌, if◌then◌else◌, pos, ◌&&◌, ◌||◌}
 use Rattle.std.specs.Int.{w32, w64, to_le_bytes}
-use Rattle.std.specs.List.{flat_map}
+use Rattle.std.specs.List.{flat_map, list_any}
 use Rattle.wat_lex.specs.binary.Encoding.{list_encoding, text_encoding}
 use Rattle.wat_lex.specs.binary.Leb128.{signed_leb128, unsigned_leb128}
 use Rattle.wat_instructions.specs.declared.pieces.Argument.{Argument}
 use Rattle.wat_instructions.specs.declared.pieces.Argument.TheVariants as argument
 use Rattle.wat_instructions.specs.declared.pieces.Instruction.{Instruction}
+use Rattle.wat_instructions.specs.declared.pieces.ReferenceType.{ReferenceType}
+use Rattle.wat_instructions.specs.declared.pieces.ReferenceType.TheVariants as reference
+use Rattle.wat_instructions.specs.declared.pieces.Opcode.{Opcode}
+use Rattle.wat_instructions.specs.declared.pieces.Opcode.TheVariants.{Byte, Prefixed}
 use Rattle.wat_instructions.specs.declared.pieces.ValueType.{ValueType}
-use Rattle.wat_instructions.specs.Types.{FunctionType, UnnamedUse, index_or, same_type, type_byte}
+use Rattle.wat_instructions.specs.Types.{FunctionType, UnnamedUse, index_or, reference_byte, same_type, type_byte}
 use Rattle.wat_fields.specs.declared.fields.GlobalType.{GlobalType}
 use Rattle.wat_fields.specs.declared.fields.IndexSpace.{IndexSpace}
 use Rattle.wat_fields.specs.declared.fields.IndexSpace.TheVariants as space
 use Rattle.wat_fields.specs.declared.fields.Limits.{Limits}
-use Rattle.wat_fields.specs.declared.fields.ReferenceType.{ReferenceType}
-use Rattle.wat_fields.specs.declared.fields.ReferenceType.TheVariants as reference
 use Rattle.wat_fields.specs.declared.fields.TableType.{TableType}
 use Rattle.wat_fields.specs.Fields.{ExternType, FuncType, OfTable, OfMemory, OfGlobal, Field, Func, Table, Memory, Global, Start, Function, TypeUse, Variable, bindings_of, definition_type, definitions_of, extern_space, function_type, names_in, starts_of, ElemMode, Passive, Active, Declarative, Elements, Target, target}
 use Rattle.wat_fields.specs.Fields as field
@@ -114,9 +117,11 @@ use_bytes types u = unsigned_leb128 (index_or u.index (type_index (used_type u) 
 abbrev pub unnamed_index : List FunctionType → UnnamedUse → ℕ
 unnamed_index types u = index_or u.index (type_index u.type types)
 
--- 5.4: what follows the first byte of an instruction, where these are the module's types; 5.1.3 vectors; 5.2.3 floats: their bits, the lowest byte first;
+-- 5.4: what follows the opcode of an instruction, where these are the module's types; 5.1.3 vectors; 5.2.3 floats: their bits, the lowest byte first;
 -- 5.4.1 br_table: the labels, and the default; call_indirect: the type, and the table; blocks: a type's index as a number with a sign, of 33 bits; 5.4.6
--- memory arguments: the exponent of the alignment, and the offset
+-- memory arguments: the exponent of the alignment, and the offset; memory.init: the data segment, and 0; memory.copy: twice 0; 5.4.2 ref.null: the reference
+-- type; 5.4.3 select with types: these; 5.4.5 table.copy, table.init: two indices; 5.4.8 lanes: a byte each, after a memory argument where there is one;
+-- v128.const: 16 bytes
 abbrev pub argument_bytes : List FunctionType → Argument → List ℕ
 argument_bytes types argument.Nothing = []
 argument_bytes types (argument.Index n) = unsigned_leb128 n
@@ -130,9 +135,22 @@ argument_bytes types (argument.Block t) = block_byte t ∷ []
 argument_bytes types (argument.BlockUse u) = signed_leb128 (pos (unnamed_index types u))
 argument_bytes types (argument.Memory align offset) = unsigned_leb128 align ++ unsigned_leb128 offset
 argument_bytes types argument.Zero = 0 ∷ []
+argument_bytes types (argument.HeapType t) = reference_byte t ∷ []
+argument_bytes types (argument.Select ts) = text_encoding (map type_byte ts)
+argument_bytes types argument.Zeros = 0 ∷ 0 ∷ []
+argument_bytes types (argument.IndexZero n) = unsigned_leb128 n ++ 0 ∷ []
+argument_bytes types (argument.Pair p) = unsigned_leb128 p.0 ++ unsigned_leb128 p.1
+argument_bytes types (argument.Lane n) = n ∷ []
+argument_bytes types (argument.MemoryLane align offset n) = unsigned_leb128 align ++ (unsigned_leb128 offset ++ n ∷ [])
+argument_bytes types (argument.Bytes bs) = bs
+
+-- 5.4: a byte; or a prefix, and a number after it
+abbrev pub opcode_bytes : Opcode → List ℕ
+opcode_bytes (Byte b) = b ∷ []
+opcode_bytes (Prefixed p n) = p ∷ unsigned_leb128 n
 
 abbrev pub instruction_bytes : List FunctionType → Instruction → List ℕ
-instruction_bytes types i = i.opcode ∷ argument_bytes types i.argument
+instruction_bytes types i = opcode_bytes i.opcode ++ argument_bytes types i.argument
 
 -- 5.5.6: the index of the function's type
 abbrev pub function_bytes : List FunctionType → Function → List ℕ
@@ -145,11 +163,6 @@ min_max_bytes n (Some m) = 0x01 ∷ (unsigned_leb128 n ++ unsigned_leb128 m)
 -- 5.3.7 limits, 5.3.8 memory types
 abbrev pub limits_bytes : Limits → List ℕ
 limits_bytes l = min_max_bytes l.min l.max
-
--- 5.3.3 reference types
-abbrev pub reference_byte : ReferenceType → ℕ
-reference_byte reference.Func = 0x70
-reference_byte reference.Extern = 0x6F
 
 -- 5.3.9 table types
 abbrev pub table_bytes : TableType → List ℕ
@@ -267,7 +280,7 @@ data_segment t bytes = record { target = t; bytes = bytes }
 
 -- i32.const 0
 abbrev pub at_zero : List Instruction
-at_zero = record { opcode = 0x41; argument = argument.I32 (pos 0) } ∷ []
+at_zero = record { opcode = Byte 0x41; argument = argument.I32 (pos 0) } ∷ []
 
 -- the data segments of a field after others: 6.6.7, one that a memory brings is put into that memory
 abbrev pub field_data : List Field → Field → List DataSegment
@@ -310,8 +323,12 @@ abbrev pub index_of : Argument → Option ℕ
 index_of (argument.Index x) = Some x
 index_of a = None
 
+abbrev pub is_byte : ℕ → Opcode → Bool
+is_byte b (Byte c) = c == b
+is_byte b (Prefixed p n) = false
+
 abbrev pub function_in : List Instruction → Option ℕ
-function_in (i ∷ []) = if i.opcode == 0xD2 then index_of i.argument else None
+function_in (i ∷ []) = if is_byte 0xD2 i.opcode then index_of i.argument else None
 function_in is = None
 
 abbrev pub before_some : Option ℕ → Option (List ℕ) → Option (List ℕ)
@@ -371,6 +388,27 @@ mode_bytes types (Some t) = target_bytes types t
 
 abbrev pub data_bytes : List FunctionType → DataSegment → List ℕ
 data_bytes types d = mode_bytes types d.target ++ text_encoding d.bytes
+
+-- 5.5.15: an instruction that has the index of a data segment: memory.init or data.drop
+abbrev pub is_of_data : Opcode → Bool
+is_of_data (Byte b) = false
+is_of_data (Prefixed p n) = (p == 0xFC) && ((n == 8) || (n == 9))
+
+abbrev pub has_data_index : Instruction → Bool
+has_data_index i = is_of_data i.opcode
+
+-- 5.5.16: a field whose code has one; other expressions are no code
+abbrev pub needs_data_count : Field → Bool
+needs_data_count (field.TypeField l t) = false
+needs_data_count (field.Import m n l ns t) = false
+needs_data_count (Func f) = list_any has_data_index f.body
+needs_data_count (Table l ns t es) = false
+needs_data_count (Memory l ns t bytes) = false
+needs_data_count (Global l ns t is) = false
+needs_data_count (field.Export n s i) = false
+needs_data_count (Start i) = false
+needs_data_count (field.Elem l m t es) = false
+needs_data_count (field.Data l t bytes) = false
 
 -- 5.5.2: a section: its number, its size and its content, which are written as a vector of bytes is
 abbrev pub section : ℕ → List ℕ → List ℕ
@@ -447,9 +485,13 @@ code_section fs = list_section 10 (code_bytes (types_of fs)) (functions_of fs)
 abbrev pub element_section : List Field → List ℕ
 element_section fs = list_section 9 (elem_bytes (types_of fs)) (elements_of fs)
 
+-- 5.5.15, 5.5.16: how many data segments there are, where some function's code has the index of one
+abbrev pub data_count_section : List Field → List ℕ
+data_count_section fs = if list_any needs_data_count fs then section 12 (unsigned_leb128 (length (data_of fs))) else []
+
 abbrev pub data_section : List Field → List ℕ
 data_section fs = list_section 11 (data_bytes (types_of fs)) (data_of fs)
 
 -- 5.5.16: a module of these fields
 unfoldable pub module_bytes : List Field → List ℕ
-module_bytes fs = ((((((((((header ++ type_section fs) ++ import_section fs) ++ function_section fs) ++ table_section fs) ++ memory_section fs) ++ global_section fs) ++ export_section fs) ++ start_section fs) ++ element_section fs) ++ code_section fs) ++ data_section fs
+module_bytes fs = (((((((((((header ++ type_section fs) ++ import_section fs) ++ function_section fs) ++ table_section fs) ++ memory_section fs) ++ global_section fs) ++ export_section fs) ++ start_section fs) ++ element_section fs) ++ data_count_section fs) ++ code_section fs) ++ data_section fs

@@ -1,16 +1,18 @@
 -- WebAssembly 2.0 specification, 6.6 (text format, modules): 6.6.1 indices, 6.6.2 types, 6.6.3 type uses, 6.6.4 imports, 6.6.5 functions, 6.6.6 tables,
 -- 6.6.7 memories, 6.6.8 globals, 6.6.9 exports, 6.6.10 start function, 6.6.11 element segments, 6.6.12 data segments, 6.6.13 modules; 6.4 (types). Over
--- the tokens that count. A rule takes tokens from a place on, and leaves the rest. Left out of the standard: v128, funcref and externref as value types, a
--- module without its parentheses, and a type use by the index of a type that no field `type` defines (one that a type use brings, 6.6.3); and what
--- Table and Grammar of `wat_instructions` leave out: select with types, references, tables, bulk memory, saturating conversions, vectors.
+-- the tokens that count. A rule takes tokens from a place on, and leaves the rest. Left out of the standard: a type use by the index of a type that no field
+-- `type` defines (one that a type use brings, 6.6.3).
 use Rattle.std.specs.Prelude.{◌≡◌, ◌&&◌, ◌^◌, ◌+◌, ◌/◌, ◌≤◌, ℕ, Bool, true, false, List, [], ◌∷◌, ◌++◌, length, map, codes, bytes_eq, nat_lt, slice_get, Option, Some, None, if◌then◌else◌}
 use Rattle.std.specs.List.{flat_map}
 use Rattle.std.specs.Str.{is_utf8}
 use Rattle.wat_instructions.specs.declared.pieces.Argument.TheVariants as argument
 use Rattle.wat_instructions.specs.declared.pieces.Instruction.{Instruction}
+use Rattle.wat_instructions.specs.declared.pieces.Opcode.TheVariants.{Byte}
 use Rattle.wat_instructions.specs.declared.pieces.Sign.TheVariants.{Absent}
+use Rattle.wat_instructions.specs.declared.pieces.ReferenceType.{ReferenceType}
+use Rattle.wat_instructions.specs.declared.pieces.ReferenceType.TheVariants as reference
 use Rattle.wat_instructions.specs.declared.pieces.ValueType.{ValueType}
-use Rattle.wat_instructions.specs.Grammar.{Body, Context, Folded, label_of, position, value_type}
+use Rattle.wat_instructions.specs.Grammar.{Body, Context, Folded, label_of, position, reference_type, value_type}
 use Rattle.wat_instructions.specs.Names.{are_distinct}
 use Rattle.wat_instructions.specs.Terminals.{Terminal, Open, Close, Word, Id, Integer, Text, Label}
 use Rattle.wat_instructions.specs.Types.{FunctionType, Types, from_to}
@@ -18,8 +20,6 @@ use Rattle.wat_fields.specs.declared.fields.GlobalType.{GlobalType}
 use Rattle.wat_fields.specs.declared.fields.IndexSpace.{IndexSpace}
 use Rattle.wat_fields.specs.declared.fields.IndexSpace.TheVariants as space
 use Rattle.wat_fields.specs.declared.fields.Limits.{Limits}
-use Rattle.wat_fields.specs.declared.fields.ReferenceType.{ReferenceType}
-use Rattle.wat_fields.specs.declared.fields.ReferenceType.TheVariants as reference
 use Rattle.wat_fields.specs.declared.fields.TableType.{TableType}
 
 -- a parameter, a result (which has no name) or a local variable
@@ -264,10 +264,6 @@ pub data Group (word : List ℕ) (may_have_name : Bool) : List Terminal → List
 pub data InlineExport : List Terminal → List (List ℕ) → List Terminal → Type 0 where
   by_inline_export : {ts : List Terminal} {v n : List ℕ} → v ≡ codes "export" → is_utf8 n ≡ true → InlineExport (Open ∷ Word v ∷ Text n ∷ Close ∷ ts) (n ∷ []) ts
 
--- 6.4.3: reftype
-abbrev pub reference_type : List ℕ → Option ReferenceType
-reference_type w = if bytes_eq w (codes "funcref") then Some reference.Func else if bytes_eq w (codes "externref") then Some reference.Extern else None
-
 -- 6.3.1: u32
 abbrev pub is_u32 : ℕ → Bool
 is_u32 n = nat_lt n (2 ^ 32)
@@ -339,7 +335,7 @@ pub data ItemIs (context : Context) : List Terminal → Elements → List Termin
 
 -- ref.func x
 abbrev pub ref_func : ℕ → List Instruction
-ref_func x = record { opcode = 0xD2; argument = argument.Index x } ∷ []
+ref_func x = record { opcode = Byte 0xD2; argument = argument.Index x } ∷ []
 
 -- 6.6.11: an index x in the place of an element is `(` ref.func x `)`
 pub data FunctionIs (context : Context) : List Terminal → Elements → List Terminal → Type 0 where
@@ -420,10 +416,14 @@ pub data FieldIs (types : Types) (context : Context) : List Terminal → List Fi
   by_active_data : {w : List ℕ} {ts os bs r : List Terminal} {i : ℕ} {is : List Instruction} {bytes : List ℕ}
       → w ≡ codes "data" → UseIs (codes "memory") context.memories (label_of ts).1 i os → ExpressionIs (codes "offset") context os is bs → Many StringIs bs bytes (Close ∷ r) → FieldIs types context (Open ∷ Word w ∷ ts) (Data (label_of ts).0 (Some (target i is)) bytes ∷ []) r
 
--- 6.6.13: module = `(` module id? field* `)`, and nothing after it. The context is the one that the fields themselves bring; imports come first, and there
--- is one start function at most.
+-- 6.6.13: field*, up to these tokens. The context is the one that the fields themselves bring; imports come first, and there is one start function at most.
+pub record FieldsAre (ts : List Terminal) (fs : List Field) (r : List Terminal) : Type 0 where
+  pub spelled : Many (FieldIs (types_in (definitions_of fs)) (context_of (types_in (definitions_of fs)) (bindings_of fs) (elems_of fs) (datas_of fs))) ts fs r
+  pub distinct : all_distinct (types_in (definitions_of fs)) (context_of (types_in (definitions_of fs)) (bindings_of fs) (elems_of fs) (datas_of fs)) ≡ true
+  pub imports : imports_first fs ≡ true
+  pub starts : length (starts_of fs) ≤ 1
+
+-- 6.6.13: module = `(` module id? field* `)`, or field* alone, of which there may be none; and nothing after it
 pub data Module : List Terminal → List Field → Type 0 where
-  by_module : {w : List ℕ} {ts : List Terminal} {fs : List Field}
-      → w ≡ codes "module" → Many (FieldIs (types_in (definitions_of fs)) (context_of (types_in (definitions_of fs)) (bindings_of fs) (elems_of fs) (datas_of fs))) (label_of ts).1 fs (Close ∷ [])
-      → all_distinct (types_in (definitions_of fs)) (context_of (types_in (definitions_of fs)) (bindings_of fs) (elems_of fs) (datas_of fs)) ≡ true
-      → imports_first fs ≡ true → length (starts_of fs) ≤ 1 → Module (Open ∷ Word w ∷ ts) fs
+  by_module : {w : List ℕ} {ts : List Terminal} {fs : List Field} → w ≡ codes "module" → FieldsAre (label_of ts).1 fs (Close ∷ []) → Module (Open ∷ Word w ∷ ts) fs
+  by_fields : {ts : List Terminal} {fs : List Field} → FieldsAre ts fs [] → Module ts fs

@@ -4,8 +4,10 @@ use Rattle.std.specs.List.{flat_map}
 use Rattle.std.specs.Str.{is_utf8}
 use Rattle.wat_instructions.specs.declared.pieces.Instruction.{Instruction}
 use Rattle.wat_instructions.specs.declared.pieces.FaultKind.TheVariants.{Unexpected, UnknownWord, UnknownName, OutOfRange, Duplicate, NotUtf8, SecondStart, OtherType, LateImport}
+use Rattle.wat_instructions.specs.declared.pieces.ReferenceType.{ReferenceType}
+use Rattle.wat_instructions.specs.declared.pieces.ReferenceType.TheVariants as reference
 use Rattle.wat_instructions.specs.declared.pieces.ValueType.{ValueType}
-use Rattle.wat_instructions.specs.Grammar.{Context, Fault, index, label_of, small, value_type}
+use Rattle.wat_instructions.specs.Grammar.{Context, Fault, index, label_of, reference_type, small, value_type}
 use Rattle.wat_instructions.specs.Machine.{body, folded}
 use Rattle.wat_instructions.specs.Types.{FunctionType, Types, same_type}
 use Rattle.wat_instructions.specs.Terminals.{Terminal, Open, Close, Word, Id, Integer, Text, Label}
@@ -13,10 +15,8 @@ use Rattle.wat_fields.specs.declared.fields.GlobalType.{GlobalType}
 use Rattle.wat_fields.specs.declared.fields.IndexSpace.{IndexSpace}
 use Rattle.wat_fields.specs.declared.fields.IndexSpace.TheVariants as space
 use Rattle.wat_fields.specs.declared.fields.Limits.{Limits}
-use Rattle.wat_fields.specs.declared.fields.ReferenceType.{ReferenceType}
-use Rattle.wat_fields.specs.declared.fields.ReferenceType.TheVariants as reference
 use Rattle.wat_fields.specs.declared.fields.TableType.{TableType}
-use Rattle.wat_fields.specs.Fields.{Field, Func, Table, Memory, Global, Export, Import, TypeField, Start, Function, TypeUse, ExternType, FuncType, OfTable, OfMemory, OfGlobal, Definition, Binding, Variable, binding, definition, function_type, type_use, variable, unnamed, name_of, names_of, context_of, types_in, with_locals, all_distinct, imports_first, reference_type, space_of, starts_of, Data, Elem, ElemMode, Passive, Active, Declarative, Elements, ref_func, table_of, Target, target, is_u32, pages_of}
+use Rattle.wat_fields.specs.Fields.{Field, Func, Table, Memory, Global, Export, Import, TypeField, Start, Function, TypeUse, ExternType, FuncType, OfTable, OfMemory, OfGlobal, Definition, Binding, Variable, binding, definition, function_type, type_use, variable, unnamed, name_of, names_of, context_of, types_in, with_locals, all_distinct, imports_first, space_of, starts_of, Data, Elem, ElemMode, Passive, Active, Declarative, Elements, ref_func, table_of, Target, target, is_u32, pages_of}
 use Rattle.wat_instructions.specs.Names.{are_distinct}
 
 -- a value and the tokens after it, or the fault
@@ -565,26 +565,35 @@ ended (Ok (fs, Close ∷ t ∷ ts)) = Err (Unexpected, t ∷ ts)
 ended (Ok (fs, ts)) = Err (Unexpected, ts)
 ended (Err f) = Err f
 
+-- the end
+abbrev pub at_end : Read (List Field) → Result (List Field) Fault
+at_end (Ok (fs, [])) = Ok fs
+at_end (Ok (fs, t ∷ ts)) = Err (Unexpected, t ∷ ts)
+at_end (Err f) = Err f
+
+-- what comes after the fields of a module, in parentheses or not
+abbrev pub ended_by : Bool → Read (List Field) → Result (List Field) Fault
+ended_by true q = ended q
+ended_by false q = at_end q
+
 -- imports come first, and there is one start function at most; the fields begin there
 abbrev pub ordered : List Terminal → Result (List Field) Fault → Result (List Field) Fault
 ordered ts (Ok fs) = if imports_first fs then (if nat_lt (length (starts_of fs)) 2 then Ok fs else Err (SecondStart, ts)) else Err (LateImport, ts)
 ordered ts (Err f) = Err f
 
--- the fields of a module, in a context
-abbrev pub fields_of : Types → Context → List Terminal → Result (List Field) Fault
-fields_of types context ts = if all_distinct types context then ordered ts (ended (all (field_item types context) ts)) else Err (Duplicate, ts)
+-- the fields of a module, in parentheses or not, in a context
+abbrev pub fields_of : Bool → Types → Context → List Terminal → Result (List Field) Fault
+fields_of enclosed types context ts = if all_distinct types context then ordered ts (ended_by enclosed (all (field_item types context) ts)) else Err (Duplicate, ts)
 
-abbrev pub fields_from : List (List Terminal) → List Terminal → Result (List Field) Fault
-fields_from ss ts = fields_of (types_in (flat_map definition_at ss)) (context_of (types_in (flat_map definition_at ss)) (flat_map binding_at ss) (flat_map elem_name_at ss) (flat_map data_name_at ss)) ts
+abbrev pub fields_from : Bool → List (List Terminal) → List Terminal → Result (List Field) Fault
+fields_from enclosed ss ts = fields_of enclosed (types_in (flat_map definition_at ss)) (context_of (types_in (flat_map definition_at ss)) (flat_map binding_at ss) (flat_map elem_name_at ss) (flat_map data_name_at ss)) ts
 
-abbrev pub fields_at : List Terminal → Result (List Field) Fault
-fields_at ts = fields_from (starts Before [] ts) ts
+abbrev pub fields_at : Bool → List Terminal → Result (List Field) Fault
+fields_at enclosed ts = fields_from enclosed (starts Before [] ts) ts
 
--- a module after its `(`
-abbrev pub module_word : List Terminal → Result (List Field) Fault
-module_word (Word w ∷ ts) = if bytes_eq w (codes "module") then fields_at (label_of ts).1 else Err (UnknownWord, Word w ∷ ts)
-module_word ts = Err (Unexpected, ts)
+abbrev pub whole_by : Option (List Terminal) → List Terminal → Result (List Field) Fault
+whole_by (Some us) ts = fields_at true (label_of us).1
+whole_by None ts = fields_at false ts
 
 unfoldable pub whole : List Terminal → Result (List Field) Fault
-whole (Open ∷ ts) = module_word ts
-whole ts = Err (Unexpected, ts)
+whole ts = whole_by (after (codes "module") ts) ts

@@ -1,6 +1,6 @@
 //! The bytes of a module.
 ghost use Rattle.std.specs.Prelude.{◌≡◌, ◌<◌, ◌≤◌, pos, ◌++◌, ◌^◌, ◌∷◌, [], ℕ, List, OnOk, IfOk, MatchOption, length, map, None, Some};
-ghost use Rattle.std.specs.List.{flat_map};
+ghost use Rattle.std.specs.List.{flat_map, list_any};
 ghost use Rattle.wat_fields.specs.Binary as binary;
 ghost use Rattle.wat_fields.specs.Fields as grammar;
 ghost use Rattle.wat_fields.specs.Views.{AreBelow, count, counted, counted_section, counts_of, export_of, exports_by, extern_of, field_of, fields_of, function_of, import_of, more, run_of, text_of, use_of, variable_of, data_by, elem_place_of, element_segment_of, elements_by, items_of, mode_of, place_of, segment_of};
@@ -12,12 +12,14 @@ ghost use Rattle.wat_instructions.specs.Views as unnamed;
 
 use crate::fields::{
     ElemMode, Export, ExternType, Field, Function, GlobalType, Import, IndexSpace, Limits,
-    ReferenceType, TableType, Target, TypeUse, Variable,
+    TableType, Target, TypeUse, Variable,
 };
 use crate::uses::function_type;
 use std::alloc::{AllocError, Global};
-use wat_instructions::pieces::{Argument, Instruction, ValueType};
-use wat_instructions::types::{FunctionType, UnnamedUse, copied, same_type, type_byte};
+use wat_instructions::pieces::{Argument, Instruction, Opcode, ReferenceType, ValueType};
+use wat_instructions::types::{
+    FunctionType, UnnamedUse, copied, reference_byte, same_type, type_byte,
+};
 use wat_lex::encode::{Encode, EncodeError};
 
 /// The magic number and the version.
@@ -79,6 +81,33 @@ fn put_labels(out: &mut Vec<u8>, labels: &[usize]) -> Result<(), AllocError>
     Ok(())
 }
 
+/// Appends value types after their number.
+fn put_values(out: &mut Vec<u8>, types: &[ValueType]) -> Result<(), AllocError>
+    ensures { OnOk result (out.new.items ≡ out.old.items ++ text_encoding (map type_byte types.now)) }
+{
+    put(out, types.len())?;
+    for of in types {
+        out.push(type_byte(*of))?;
+    }
+    Ok(())
+}
+
+/// Appends what an instruction begins with.
+fn put_opcode(out: &mut Vec<u8>, opcode: Opcode) -> Result<(), AllocError>
+    ensures { OnOk result (out.new.items ≡ out.old.items ++ binary.opcode_bytes opcode) }
+{
+    match opcode {
+        Opcode::Byte(byte) => {
+            out.push(byte)?;
+            Ok(())
+        }
+        Opcode::Prefixed(prefix, number) => {
+            out.push(prefix)?;
+            put(out, usize::from(number))
+        }
+    }
+}
+
 /// Appends an instruction.
 fn put_instruction(
     out: &mut Vec<u8>,
@@ -87,8 +116,19 @@ fn put_instruction(
 ) -> Result<(), AllocError>
     ensures { OnOk result (out.new.items ≡ out.old.items ++ binary.instruction_bytes (map type_of types.now) instruction.now) }
 {
-    out.push(instruction.opcode)?;
-    match &instruction.argument {
+    put_opcode(out, instruction.opcode)?;
+    put_argument(out, types, &instruction.argument)
+}
+
+/// Appends the immediate of an instruction.
+fn put_argument(
+    out: &mut Vec<u8>,
+    types: &[FunctionType],
+    argument: &Argument,
+) -> Result<(), AllocError>
+    ensures { OnOk result (out.new.items ≡ out.old.items ++ binary.argument_bytes (map type_of types.now) argument.now) }
+{
+    match argument {
         Argument::Nothing => Ok(()),
         Argument::Index(n) => put(out, *n),
         Argument::Labels(table) => {
@@ -127,6 +167,38 @@ fn put_instruction(
         }
         Argument::Zero => {
             out.push(0)?;
+            Ok(())
+        }
+        Argument::HeapType(of) => {
+            out.push(reference_byte(*of))?;
+            Ok(())
+        }
+        Argument::Select(types) => put_values(out, types.types()),
+        Argument::Zeros => {
+            out.extend_from_slice(&[0, 0])?;
+            Ok(())
+        }
+        Argument::IndexZero(n) => {
+            put(out, *n)?;
+            out.push(0)?;
+            Ok(())
+        }
+        Argument::Pair(pair) => {
+            put(out, pair.first())?;
+            put(out, pair.second())
+        }
+        Argument::Lane(n) => {
+            out.push(*n)?;
+            Ok(())
+        }
+        Argument::MemoryLane(align, offset, n) => {
+            put(out, usize::from(*align))?;
+            put(out, *offset as usize)?;
+            out.push(*n)?;
+            Ok(())
+        }
+        Argument::Bytes(vector) => {
+            out.extend_from_slice(vector.bytes())?;
             Ok(())
         }
     }
@@ -221,7 +293,15 @@ fn instruction_use(instruction: &Instruction) -> Option<&UnnamedUse>
         | Argument::F64(_)
         | Argument::Block(_)
         | Argument::Memory(_, _)
-        | Argument::Zero => None,
+        | Argument::Zero
+        | Argument::HeapType(_)
+        | Argument::Select(_)
+        | Argument::Zeros
+        | Argument::IndexZero(_)
+        | Argument::Pair(_)
+        | Argument::Lane(_)
+        | Argument::MemoryLane(_, _, _)
+        | Argument::Bytes(_) => None,
     }
 }
 
@@ -851,16 +931,6 @@ fn put_limits(out: &mut Vec<u8>, limits: Limits) -> Result<(), AllocError>
     }
 }
 
-/// The byte of a reference type.
-fn reference_byte(of: ReferenceType) -> u8
-    ensures { result ≡ binary.reference_byte of }
-{
-    match of {
-        ReferenceType::Func => 0x70,
-        ReferenceType::Extern => 0x6F,
-    }
-}
-
 /// Appends the type of a table.
 fn put_table(out: &mut Vec<u8>, of: TableType) -> Result<(), AllocError>
     ensures { OnOk result (out.new.items ≡ out.old.items ++ binary.table_bytes of) }
@@ -1079,8 +1149,18 @@ fn zero() -> Instruction
     ensures { result ∷ [] ≡ binary.at_zero }
 {
     Instruction {
-        opcode: 0x41,
+        opcode: Opcode::Byte(0x41),
         argument: Argument::I32(0),
+    }
+}
+
+/// Whether it is this byte.
+fn is_byte(byte: u8, opcode: Opcode) -> bool
+    ensures { result ≡ binary.is_byte byte opcode }
+{
+    match opcode {
+        Opcode::Byte(of) => of == byte,
+        Opcode::Prefixed(_, _) => false,
     }
 }
 
@@ -1090,7 +1170,7 @@ fn function_in(element: &[Instruction]) -> Option<usize>
 {
     match element {
         [instruction] => {
-            if instruction.opcode != 0xD2 {
+            if !is_byte(0xD2, instruction.opcode) {
                 return None;
             }
             index_of(&instruction.argument)
@@ -1116,7 +1196,15 @@ fn index_of(argument: &Argument) -> Option<usize>
         | Argument::Block(_)
         | Argument::BlockUse(_)
         | Argument::Memory(_, _)
-        | Argument::Zero => None,
+        | Argument::Zero
+        | Argument::HeapType(_)
+        | Argument::Select(_)
+        | Argument::Zeros
+        | Argument::IndexZero(_)
+        | Argument::Pair(_)
+        | Argument::Lane(_)
+        | Argument::MemoryLane(_, _, _)
+        | Argument::Bytes(_) => None,
     }
 }
 
@@ -1335,6 +1423,77 @@ fn put_elements(
     put_section(alloc, out, 9, segments.len(), &items)
 }
 
+/// Whether an instruction has the index of a data segment.
+fn has_data_index(instruction: &Instruction) -> bool
+    ensures { result ≡ binary.has_data_index instruction.now }
+{
+    match instruction.opcode {
+        Opcode::Byte(_) => false,
+        Opcode::Prefixed(prefix, number) => prefix == 0xFC && (number == 8 || number == 9),
+    }
+}
+
+/// Whether an instruction of these does.
+fn have_data_index(instructions: &[Instruction]) -> bool
+    ensures { result ≡ list_any binary.has_data_index instructions.now }
+{
+    for instruction in instructions {
+        if has_data_index(instruction) {
+            return true;
+        }
+    }
+    false
+}
+
+/// Whether a field has to be after a count of the data segments.
+fn needs_data_count(field: &Field<'_>) -> bool
+    ensures { result ≡ binary.needs_data_count (field_of field.now) }
+{
+    match field {
+        Field::Func(function) => have_data_index(&function.body),
+        Field::Type(_)
+        | Field::Import(_)
+        | Field::Table(_)
+        | Field::Memory(_)
+        | Field::Global(_)
+        | Field::Export(_)
+        | Field::Start(_)
+        | Field::Elem(_)
+        | Field::Data(_) => false,
+    }
+}
+
+/// Whether one of these fields has to be.
+fn need_data_count(fields: &[Field<'_>]) -> bool
+    ensures { result ≡ list_any binary.needs_data_count (fields_of fields.now) }
+{
+    for field in fields {
+        if needs_data_count(field) {
+            return true;
+        }
+    }
+    false
+}
+
+/// Appends the data count section of so many segments, where it has to be.
+fn put_data_count(
+    alloc: Global,
+    out: &mut Vec<u8>,
+    fields: &[Field<'_>],
+    segments: &[Segment<'_>],
+) -> Result<(), AllocError>
+    requires { map segment_of segments.now ≡ binary.data_of (fields_of fields.now) }
+    ensures { OnOk result (out.new.items ≡ out.old.items ++ binary.data_count_section (fields_of fields.now)) }
+{
+    if !need_data_count(fields) {
+        return Ok(());
+    }
+    let mut content = Vec::new(alloc);
+    put(&mut content, segments.len())?;
+    out.push(12)?;
+    put_sized(out, &content)
+}
+
 /// The bytes of a module of these fields.
 #[tactic(auto, unfolding(crate::specs::Binary::module_bytes))]
 pub(crate) fn module_bytes(alloc: Global, fields: &[Field<'_>]) -> Result<Vec<u8>, AllocError>
@@ -1354,8 +1513,9 @@ pub(crate) fn module_bytes(alloc: Global, fields: &[Field<'_>]) -> Result<Vec<u8
     put_start(alloc, &mut bytes, fields)?;
     let elements = elements_of(alloc, fields)?;
     put_elements(alloc, &mut bytes, &types, &elements)?;
-    put_codes(alloc, &mut bytes, &types, fields)?;
     let segments = data_of(alloc, fields)?;
+    put_data_count(alloc, &mut bytes, fields, &segments)?;
+    put_codes(alloc, &mut bytes, &types, fields)?;
     put_data(alloc, &mut bytes, &types, &segments)?;
     Ok(bytes)
 }

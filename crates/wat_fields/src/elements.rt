@@ -3,17 +3,19 @@ ghost use Rattle.std.specs.Prelude.{◌≡◌, [], ◌∷◌, Ok, Err, Some, IfO
 ghost use Rattle.wat_fields.specs.Fields as grammar;
 ghost use Rattle.wat_fields.specs.Reading as reading;
 ghost use Rattle.wat_fields.specs.Views.{IsItem, ItemFaults, NoItem, context_of, field_of, items_of, mode_of, text_of};
-ghost use Rattle.wat_instructions.specs.Grammar.{label_of};
+ghost use Rattle.wat_instructions.specs.Grammar.{label_of, reference_type};
 ghost use Rattle.wat_instructions.specs.Parts.{Faults, fault_of};
 ghost use Rattle.wat_instructions.specs.Terminals.{label, terminal};
 
-use crate::fields::{Elem, ElemMode, Field, Left, Limits, ReferenceType, Table, TableType, Target};
+use crate::fields::{Elem, ElemMode, Field, Left, Limits, Table, TableType, Target};
 use crate::header::{after, closed};
 use crate::names::Names;
 use crate::segments::{expression, used};
-use crate::types::{reference_of, table_type, twice_closed};
+use crate::types::{table_type, twice_closed};
 use std::alloc::{AllocError, Global};
-use wat_instructions::pieces::{Argument, Fault, FaultKind, Instruction, Name, Piece, Refusal};
+use wat_instructions::pieces::{
+    Argument, Fault, FaultKind, Instruction, Name, Opcode, Piece, ReferenceType, Refusal,
+};
 use wat_instructions::reading;
 
 /// Elements by their instructions.
@@ -143,7 +145,7 @@ fn ref_func(alloc: Global, index: usize) -> Result<Vec<Instruction>, AllocError>
 {
     let mut element = Vec::new(alloc);
     element.push(Instruction {
-        opcode: 0xD2,
+        opcode: Opcode::Byte(0xD2),
         argument: Argument::Index(index),
     })?;
     Ok(element)
@@ -190,7 +192,7 @@ pub(crate) fn table_at<'p, 'a>(
         (λ e. Faults (reading.table_at (context_of names.now) (label name.entry) (map text_of exports.entry.items) (map terminal pieces.now)) e) }
 {
     match pieces {
-        [Piece::Word(word), rest @ ..] => match reference_of(word) {
+        [Piece::Word(word), rest @ ..] => match reading::reference_type(word) {
             Some(of) => table_open(alloc, names, name, exports, of, rest),
             None => Err(Refusal::Text(Fault {
                 kind: FaultKind::UnknownWord,
@@ -353,10 +355,10 @@ fn elements_after<'p, 'a>(
     pieces: &'p [Piece<'a>],
 ) -> Result<((ReferenceType, Vec<Vec<Instruction>>), &'p [Piece<'a>]), Refusal<'p, 'a>>
     ensures { MatchResult result
-        (λ r. reading.elements_by (context_of names.now) word.now (grammar.reference_type word.now) (map terminal all.now) (map terminal pieces.now) ≡ Ok ((r.0.0, map items_of r.0.1.items), map terminal r.1.now))
-        (λ e. Faults (reading.elements_by (context_of names.now) word.now (grammar.reference_type word.now) (map terminal all.now) (map terminal pieces.now)) e) }
+        (λ r. reading.elements_by (context_of names.now) word.now (reference_type word.now) (map terminal all.now) (map terminal pieces.now) ≡ Ok ((r.0.0, map items_of r.0.1.items), map terminal r.1.now))
+        (λ e. Faults (reading.elements_by (context_of names.now) word.now (reference_type word.now) (map terminal all.now) (map terminal pieces.now)) e) }
 {
-    match reference_of(word) {
+    match reading::reference_type(word) {
         Some(of) => {
             let (elements, rest) = items(alloc, names, pieces)?;
             Ok(((of, elements), rest))

@@ -6,7 +6,7 @@ ghost use Rattle.wat_fields.specs.Reading as reading;
 ghost use Rattle.wat_fields.specs.Views.{IsItem, ItemFaults, NoItem, context_of, extern_of, field_of, fields_of, text_of, types_of, use_of, variable_of, with_names};
 ghost use Rattle.wat_instructions.specs.Grammar.{label_of};
 ghost use Rattle.wat_instructions.specs.Parts.{Faults, IsMemory, fault_of, scope_of};
-ghost use Rattle.wat_instructions.specs.Terminals.{Close, label, terminal};
+ghost use Rattle.wat_instructions.specs.Terminals.{label, terminal};
 
 use crate::binary::module_bytes;
 use crate::elements::table_at;
@@ -18,7 +18,9 @@ use crate::uses::{type_at, type_use};
 use std::alloc::Global;
 use wat_instructions::machine;
 use wat_instructions::names::IndexedNames;
-use wat_instructions::pieces::{Fault, FaultKind, Instruction, Name, Piece, Refusal, ValueType};
+use wat_instructions::pieces::{
+    Fault, FaultKind, Instruction, Name, Piece, ReferenceType, Refusal, ValueType,
+};
 use wat_instructions::reading::{self, Scope};
 use wat_instructions::types::FunctionType;
 
@@ -61,13 +63,6 @@ pub enum IndexSpace {
     Table,
     Mem,
     Global,
-}
-
-/// A reference type.
-#[derive(Clone, Copy)]
-pub enum ReferenceType {
-    Func,
-    Extern,
 }
 
 /// The least size of a memory or a table, and the largest where there is one.
@@ -222,77 +217,24 @@ fn module<'p, 'a>(alloc: Global, pieces: &'p [Piece<'a>]) -> Result<Vec<Field<'p
         (λ fs. reading.whole (map terminal pieces.now) ≡ Ok (fields_of fs.items))
         (λ e. Faults (reading.whole (map terminal pieces.now)) e) }
 {
-    match pieces {
-        [Piece::Open, rest @ ..] => module_word(alloc, rest),
-        [
-            Piece::Close
-            | Piece::Word(_)
-            | Piece::Id(_)
-            | Piece::Integer(_, _)
-            | Piece::Text(_)
-            | Piece::Float(_, _)
-            | Piece::Other,
-            ..
-        ] => Err(Refusal::Text(Fault {
-            kind: FaultKind::Unexpected,
-            left: pieces,
-        })),
-        [] => Err(Refusal::Text(Fault {
-            kind: FaultKind::Unexpected,
-            left: pieces,
-        })),
-    }
-}
-
-/// The fields of a module, after its `(`.
-fn module_word<'p, 'a>(
-    alloc: Global,
-    pieces: &'p [Piece<'a>],
-) -> Result<Vec<Field<'p>>, Refusal<'p, 'a>>
-    ensures { MatchResult result
-        (λ fs. reading.module_word (map terminal pieces.now) ≡ Ok (fields_of fs.items))
-        (λ e. Faults (reading.module_word (map terminal pieces.now)) e) }
-{
-    match pieces {
-        [Piece::Word(word), rest @ ..] => {
-            if *word == "module" {
-                let (_, rest) = reading::label(rest);
-                module_fields(alloc, rest)
-            } else {
-                Err(Refusal::Text(Fault {
-                    kind: FaultKind::UnknownWord,
-                    left: pieces,
-                }))
-            }
+    match after("module", pieces) {
+        Some(rest) => {
+            let (_, rest) = reading::label(rest);
+            module_fields(alloc, true, rest)
         }
-        [
-            Piece::Open
-            | Piece::Close
-            | Piece::Id(_)
-            | Piece::Integer(_, _)
-            | Piece::Text(_)
-            | Piece::Float(_, _)
-            | Piece::Other,
-            ..
-        ] => Err(Refusal::Text(Fault {
-            kind: FaultKind::Unexpected,
-            left: pieces,
-        })),
-        [] => Err(Refusal::Text(Fault {
-            kind: FaultKind::Unexpected,
-            left: pieces,
-        })),
+        None => module_fields(alloc, false, pieces),
     }
 }
 
-/// The fields of a module, after its word and its name.
+/// The fields of a module: after its word and its name, up to its `)`; or alone.
 fn module_fields<'p, 'a>(
     alloc: Global,
+    enclosed: bool,
     pieces: &'p [Piece<'a>],
 ) -> Result<Vec<Field<'p>>, Refusal<'p, 'a>>
     ensures { MatchResult result
-        (λ fs. reading.fields_at (map terminal pieces.now) ≡ Ok (fields_of fs.items))
-        (λ e. Faults (reading.fields_at (map terminal pieces.now)) e) }
+        (λ fs. reading.fields_at enclosed (map terminal pieces.now) ≡ Ok (fields_of fs.items))
+        (λ e. Faults (reading.fields_at enclosed (map terminal pieces.now)) e) }
 {
     let Some(names) = names_of(alloc, pieces)? else {
         return Err(Refusal::Text(Fault {
@@ -301,7 +243,7 @@ fn module_fields<'p, 'a>(
         }));
     };
     let (fields, rest) = fields(alloc, &names, pieces)?;
-    ended(rest)?;
+    ended_by(enclosed, rest)?;
     if !imports_first(&fields) {
         return Err(Refusal::Text(Fault {
             kind: FaultKind::LateImport,
@@ -317,10 +259,23 @@ fn module_fields<'p, 'a>(
     Ok(fields)
 }
 
+/// Whether the end comes next; or, in parentheses, `)` and then the end.
+fn ended_by<'p, 'a>(enclosed: bool, pieces: &'p [Piece<'a>]) -> Result<(), Fault<'p, 'a>>
+    ensures { MatchResult result
+        (λ _. (fs : List grammar.Field) → reading.ended_by enclosed (Ok (fs, map terminal pieces.now)) ≡ Ok fs)
+        (λ f. (fs : List grammar.Field) → reading.ended_by enclosed (Ok (fs, map terminal pieces.now)) ≡ Err (fault_of f)) }
+{
+    if enclosed {
+        ended(pieces)
+    } else {
+        at_end(pieces)
+    }
+}
+
 /// Whether `)` comes next, and then the end.
 fn ended<'p, 'a>(pieces: &'p [Piece<'a>]) -> Result<(), Fault<'p, 'a>>
     ensures { MatchResult result
-        (λ _. map terminal pieces.now ≡ Close ∷ [])
+        (λ _. (fs : List grammar.Field) → reading.ended (Ok (fs, map terminal pieces.now)) ≡ Ok fs)
         (λ f. (fs : List grammar.Field) → reading.ended (Ok (fs, map terminal pieces.now)) ≡ Err (fault_of f)) }
 {
     match pieces {
@@ -343,6 +298,21 @@ fn ended<'p, 'a>(pieces: &'p [Piece<'a>]) -> Result<(), Fault<'p, 'a>>
             left: pieces,
         }),
         [] => Err(Fault {
+            kind: FaultKind::Unexpected,
+            left: pieces,
+        }),
+    }
+}
+
+/// Whether the end comes next.
+fn at_end<'p, 'a>(pieces: &'p [Piece<'a>]) -> Result<(), Fault<'p, 'a>>
+    ensures { MatchResult result
+        (λ _. (fs : List grammar.Field) → reading.at_end (Ok (fs, map terminal pieces.now)) ≡ Ok fs)
+        (λ f. (fs : List grammar.Field) → reading.at_end (Ok (fs, map terminal pieces.now)) ≡ Err (fault_of f)) }
+{
+    match pieces {
+        [] => Ok(()),
+        [_, ..] => Err(Fault {
             kind: FaultKind::Unexpected,
             left: pieces,
         }),

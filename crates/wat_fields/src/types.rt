@@ -1,15 +1,15 @@
-//! Limits, reference types, types of globals, and index spaces.
+//! Limits, types of tables and globals, and index spaces.
 ghost use Rattle.std.specs.Prelude.{◌≡◌, true, Ok, Err, Some, map, MatchResult};
-ghost use Rattle.wat_fields.specs.Fields.{reference_type, space_of};
+ghost use Rattle.wat_fields.specs.Fields.{space_of};
 ghost use Rattle.wat_fields.specs.Reading as reading;
 ghost use Rattle.wat_instructions.specs.Grammar.{small};
 ghost use Rattle.wat_instructions.specs.Parts.{fault_of};
 ghost use Rattle.wat_instructions.specs.Terminals.{terminal};
 
-use crate::fields::{GlobalType, IndexSpace, Limits, ReferenceType, TableType};
+use crate::fields::{GlobalType, IndexSpace, Limits, TableType};
 use crate::header::closed;
-use wat_instructions::pieces::{Fault, FaultKind, Piece, Sign, ValueType};
-use wat_instructions::reading::value_type;
+use wat_instructions::pieces::{Fault, FaultKind, Piece, ReferenceType, Sign, ValueType};
+use wat_instructions::reading::{self, value_type};
 
 /// The index space of a word.
 pub(crate) fn space_of(word: &str) -> Option<IndexSpace>
@@ -23,19 +23,6 @@ pub(crate) fn space_of(word: &str) -> Option<IndexSpace>
         Some(IndexSpace::Mem)
     } else if word == "global" {
         Some(IndexSpace::Global)
-    } else {
-        None
-    }
-}
-
-/// The reference type of a word.
-pub(crate) fn reference_of(word: &str) -> Option<ReferenceType>
-    ensures { result ≡ reference_type word.now }
-{
-    if word == "funcref" {
-        Some(ReferenceType::Func)
-    } else if word == "externref" {
-        Some(ReferenceType::Extern)
     } else {
         None
     }
@@ -157,7 +144,7 @@ fn reference_type<'p, 'a>(
         (λ f. reading.reference_at (map terminal pieces.now) ≡ Err (fault_of f)) }
 {
     match pieces {
-        [Piece::Word(word), rest @ ..] => match reference_of(word) {
+        [Piece::Word(word), rest @ ..] => match reading::reference_type(word) {
             Some(of) => Ok((of, rest)),
             None => Err(Fault {
                 kind: FaultKind::UnknownWord,

@@ -11,3 +11,4 @@ pub mod Labels
 pub mod SameTypes
 pub mod Listed
 pub mod Folding
+pub mod Lanes

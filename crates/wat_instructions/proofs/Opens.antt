@@ -1,6 +1,6 @@
 -- Steps over plain values, as the code's proofs cite them.
-use Rattle.std.proofs.Common.{◌≡◌, ◌≤◌, ◌<◌, ◌+◌, ◌-◌, ℕ, suc, Bool, true, false, List, [], ◌∷◌, ◌++◌, length, take, get_or, Option, Some, None, Ok, refl, sym, ap, subst, ◌∙◌, arith, add-one, append-nil}
-use Rattle.std.specs.Prelude.{if◌then◌else◌, bytes_eq}
+use Rattle.std.proofs.Common.{◌≡◌, ◌≤◌, ◌<◌, ◌+◌, ◌-◌, ℕ, suc, Bool, true, false, List, [], ◌∷◌, ◌++◌, length, take, get_or, Option, Some, None, Ok, refl, sym, ap, ◌∙◌, arith, add-one, append-nil}
+use Rattle.std.specs.Prelude.{if◌then◌else◌}
 use Rattle.std.proofs.lemmas.List.{length-take}
 use Rattle.wat_instructions.specs.declared.pieces.Frame.{Frame}
 use Rattle.wat_instructions.specs.declared.pieces.Argument.{Argument}
@@ -8,7 +8,7 @@ use Rattle.wat_instructions.specs.declared.pieces.Instruction.{Instruction}
 use Rattle.wat_instructions.specs.Grammar.{Context, block_type, instruction, is_if, plain, label_of, structured, position, is_name}
 use Rattle.wat_instructions.specs.Machine.{Part, Condition, at_condition, at_group, open_block, Operands, open_by, at_operands, bound, labels_in}
 use Rattle.wat_instructions.specs.Parts.{Stepped, part, stack}
-use Rattle.wat_instructions.specs.Terminals.{Terminal, Open, Close, Word, Id, Integer, Text, Float, Other, Label}
+use Rattle.wat_instructions.specs.Terminals.{Terminal, Label}
 use Rattle.wat_instructions.proofs.Stacks.{stack_top}
 
 pub at_operands_output : (context : Context) (all us left : List Terminal) (w : List ℕ) (i : Instruction) (ps qs : List Part) (out : List Instruction) → structured w ≡ None → plain context (labels_in ps) all ≡ Ok (i, left) → qs ≡ Operands i ∷ ps → Stepped (open_by context (structured w) all us ps) out out qs left

@@ -1,18 +1,21 @@
 -- What a rule leaves is no longer than what it takes from, and has the same groups open.
-use Rattle.std.proofs.Common.{◌≡◌, ◌<◌, ◌≤◌, ℕ, suc, Bool, true, false, List, [], ◌∷◌, length, Option, Some, None, Result, Ok, Err, refl, subst, ◌∙◌, arith}
+use Rattle.std.proofs.Common.{◌≡◌, ◌<◌, ◌≤◌, ℕ, zero, suc, Bool, true, false, List, [], ◌∷◌, length, Option, Some, None, Result, Ok, Err, refl, subst, ◌∙◌, arith}
 use Rattle.std.specs.Prelude.{if◌then◌else◌, bytes_eq, codes, nat_lt, slice_get, ◌||◌, ◌^◌, ℤ}
 use Rattle.std.specs.Float.{binary32, binary64}
 use Rattle.wat_floats.specs.Literals.{of_integer}
 use Rattle.wat_instructions.specs.declared.pieces.Argument.{Argument}
 use Rattle.wat_instructions.specs.declared.pieces.Argument.TheVariants as argument
 use Rattle.wat_instructions.specs.declared.pieces.Instruction.{Instruction}
+use Rattle.wat_instructions.specs.declared.pieces.Opcode.{Opcode}
 use Rattle.wat_instructions.specs.declared.pieces.FaultKind.TheVariants.{WrongLabel, OutOfRange, OtherType}
 use Rattle.wat_instructions.specs.declared.pieces.Sign.{Sign}
 use Rattle.wat_instructions.specs.declared.pieces.Sign.TheVariants as sign
+use Rattle.wat_instructions.specs.declared.pieces.ReferenceType.{ReferenceType}
 use Rattle.wat_instructions.specs.declared.pieces.ValueType.{ValueType}
 use Rattle.wat_instructions.specs.declared.table.Immediate.{Immediate}
 use Rattle.wat_instructions.specs.Branches.{Branches}
 use Rattle.wat_instructions.specs.declared.table.Immediate.TheVariants as immediate
+use Rattle.wat_instructions.specs.declared.vectors.Lane.TheVariants as lane
 use Rattle.wat_instructions.specs.Table.{Mnemonic, found, mnemonics}
 use Rattle.wat_instructions.specs.Types.{FunctionType, Types, UnnamedUse, same_type, unnamed_use}
 use Rattle.wat_instructions.specs.Terminals.{Terminal, Open, Close, Word, Id, Integer, Text, Float, Other, Label}
@@ -105,21 +108,17 @@ i64_keeps (Text v ∷ ts) = tt
 i64_keeps (Float narrow wide ∷ ts) = tt
 i64_keeps (Other ∷ ts) = tt
 
-f32_by_keeps : (o : Option ℕ) (all ts : List Terminal) → Passes all ts → Keeps (grammar.f32_by o all ts) all
-f32_by_keeps (Some n) all ts h = h
-f32_by_keeps None all ts h = tt
-
-f64_by_keeps : (o : Option ℕ) (all ts : List Terminal) → Passes all ts → Keeps (grammar.f64_by o all ts) all
-f64_by_keeps (Some n) all ts h = h
-f64_by_keeps None all ts h = tt
+bits_by_keeps : (o : Option ℕ) (all ts : List Terminal) → Passes all ts → Keeps (grammar.bits_by o all ts) all
+bits_by_keeps (Some n) all ts h = h
+bits_by_keeps None all ts h = tt
 
 after_float : (narrow wide : Option ℕ) (ts : List Terminal) → Passes (Float narrow wide ∷ ts) ts
 after_float narrow wide ts = record { short = omega arith; same = λ d. refl }
 
 f32_keeps : (ts : List Terminal) → Keeps (grammar.f32 ts) ts
 f32_keeps [] = tt
-f32_keeps (Integer s n ∷ ts) = f32_by_keeps (of_integer binary32 (grammar.is_minus s) n) (Integer s n ∷ ts) ts (after_integer s n ts)
-f32_keeps (Float narrow wide ∷ ts) = f32_by_keeps narrow (Float narrow wide ∷ ts) ts (after_float narrow wide ts)
+f32_keeps (Integer s n ∷ ts) = bits_by_keeps (of_integer binary32 (grammar.is_minus s) n) (Integer s n ∷ ts) ts (after_integer s n ts)
+f32_keeps (Float narrow wide ∷ ts) = bits_by_keeps narrow (Float narrow wide ∷ ts) ts (after_float narrow wide ts)
 f32_keeps (Id x ∷ ts) = tt
 f32_keeps (Open ∷ ts) = tt
 f32_keeps (Close ∷ ts) = tt
@@ -129,8 +128,8 @@ f32_keeps (Other ∷ ts) = tt
 
 f64_keeps : (ts : List Terminal) → Keeps (grammar.f64 ts) ts
 f64_keeps [] = tt
-f64_keeps (Integer s n ∷ ts) = f64_by_keeps (of_integer binary64 (grammar.is_minus s) n) (Integer s n ∷ ts) ts (after_integer s n ts)
-f64_keeps (Float narrow wide ∷ ts) = f64_by_keeps wide (Float narrow wide ∷ ts) ts (after_float narrow wide ts)
+f64_keeps (Integer s n ∷ ts) = bits_by_keeps (of_integer binary64 (grammar.is_minus s) n) (Integer s n ∷ ts) ts (after_integer s n ts)
+f64_keeps (Float narrow wide ∷ ts) = bits_by_keeps wide (Float narrow wide ∷ ts) ts (after_float narrow wide ts)
 f64_keeps (Id x ∷ ts) = tt
 f64_keeps (Open ∷ ts) = tt
 f64_keeps (Close ∷ ts) = tt
@@ -138,8 +137,23 @@ f64_keeps (Word w ∷ ts) = tt
 f64_keeps (Text v ∷ ts) = tt
 f64_keeps (Other ∷ ts) = tt
 
+with_f32_keeps : (q : Result (ℕ × List Terminal) Fault) (ts : List Terminal) → Keeps q ts → Keeps (grammar.with_f32 q) ts
+with_f32_keeps (Ok (n, us)) ts h = h
+with_f32_keeps (Err f) ts h = tt
+
+with_f64_keeps : (q : Result (ℕ × List Terminal) Fault) (ts : List Terminal) → Keeps q ts → Keeps (grammar.with_f64 q) ts
+with_f64_keeps (Ok (n, us)) ts h = h
+with_f64_keeps (Err f) ts h = tt
+
 pub on : (ts us vs : List Terminal) → Passes ts us → Passes us vs → Passes ts vs
 on ts us vs h k = record { short = omega (arith, h.short, k.short); same = λ d. h.same d ∙ k.same d }
+
+after_word : (w : List ℕ) (ts us : List Terminal) → Passes ts us → Passes (Word w ∷ ts) us
+after_word w ts us h = record { short = omega (arith, h.short); same = h.same }
+
+on_keeps : {A : Type 0} (q : Result (A × List Terminal) Fault) (ts us : List Terminal) → Passes ts us → Keeps q us → Keeps q ts
+on_keeps (Ok (a, vs)) ts us h k = on ts us vs h k
+on_keeps (Err f) ts us h k = tt
 
 number_passes : (n : ℕ) (o : Option ℕ) (w : List ℕ) (ts : List Terminal) → Passes (Word w ∷ ts) (grammar.number_or n o (Word w ∷ ts) ts).1
 number_passes n (Some m) w ts = record { short = omega arith; same = λ d. refl }
@@ -350,6 +364,141 @@ indirect_keeps : (types : Types) (q : Result (ℕ × List Terminal) Fault) (ts :
 indirect_keeps types (Ok (n, us)) ts h = with_use_keeps n (grammar.use_of types us) ts us h (use_keeps types us)
 indirect_keeps types (Err f) ts h = tt
 
+heap_by_keeps : (o : Option ReferenceType) (w : List ℕ) (ts : List Terminal) → Keeps (grammar.heap_by o (Word w ∷ ts) ts) (Word w ∷ ts)
+heap_by_keeps (Some t) w ts = record { short = omega arith; same = λ d. refl }
+heap_by_keeps None w ts = tt
+
+heap_keeps : (ts : List Terminal) → Keeps (grammar.heap_of ts) ts
+heap_keeps (Word w ∷ ts) = heap_by_keeps (grammar.heap_type w) w ts
+heap_keeps [] = tt
+heap_keeps (Open ∷ ts) = tt
+heap_keeps (Close ∷ ts) = tt
+heap_keeps (Id x ∷ ts) = tt
+heap_keeps (Integer s n ∷ ts) = tt
+heap_keeps (Text v ∷ ts) = tt
+heap_keeps (Float narrow wide ∷ ts) = tt
+heap_keeps (Other ∷ ts) = tt
+
+with_types_keeps : (q : Result (List ValueType × List Terminal) Fault) (ts : List Terminal) → Keeps q ts → Keeps (grammar.with_types q) ts
+with_types_keeps (Ok (us, vs)) ts h = h
+with_types_keeps (Err f) ts h = tt
+
+select_keeps : (o : Option (List Terminal)) (ts : List Terminal) → Keeps (grammar.select_by o ts) ts
+select_keeps None ts = stay ts
+select_keeps (Some us) ts = with_types_keeps (grammar.listed (codes "result") false ts) ts (listed_keeps (codes "result") false ts)
+
+-- Tables and segments.
+
+with_zero_keeps : (q : Result (ℕ × List Terminal) Fault) (ts : List Terminal) → Keeps q ts → Keeps (grammar.with_zero q) ts
+with_zero_keeps (Ok (n, us)) ts h = h
+with_zero_keeps (Err f) ts h = tt
+
+with_source_keeps : (n : ℕ) (q : Result (ℕ × List Terminal) Fault) (ts us : List Terminal) → Passes ts us → Keeps q us → Keeps (grammar.with_source n q) ts
+with_source_keeps n (Ok (m, vs)) ts us h k = on ts us vs h k
+with_source_keeps n (Err f) ts us h k = tt
+
+copy_by_keeps : (ls : List Label) (q : Result (ℕ × List Terminal) Fault) (ts : List Terminal) → Keeps q ts → Keeps (grammar.copy_by ls q) ts
+copy_by_keeps ls (Ok (n, us)) ts h = with_source_keeps n (grammar.index ls us) ts us h (index_keeps ls us)
+copy_by_keeps ls (Err f) ts h = tt
+
+copy_keeps : (b : Bool) (ls : List Label) (ts : List Terminal) → Keeps (if b then grammar.copy_by ls (grammar.index ls ts) else Ok (argument.Pair (0, 0), ts)) ts
+copy_keeps true ls ts = copy_by_keeps ls (grammar.index ls ts) ts (index_keeps ls ts)
+copy_keeps false ls ts = stay ts
+
+init_table_keeps : (b : Bool) (ls : List Label) (ts : List Terminal) → Keeps (if b then grammar.index ls ts else Ok (0, ts)) ts
+init_table_keeps true ls ts = index_keeps ls ts
+init_table_keeps false ls ts = stay ts
+
+with_elements_keeps : (n : ℕ) (q : Result (ℕ × List Terminal) Fault) (ts us : List Terminal) → Passes ts us → Keeps q us → Keeps (grammar.with_elements n q) ts
+with_elements_keeps n (Ok (m, vs)) ts us h k = on ts us vs h k
+with_elements_keeps n (Err f) ts us h k = tt
+
+init_keeps : (ls : List Label) (q : Result (ℕ × List Terminal) Fault) (ts : List Terminal) → Keeps q ts → Keeps (grammar.init_by ls q) ts
+init_keeps ls (Ok (n, us)) ts h = with_elements_keeps n (grammar.index ls us) ts us h (index_keeps ls us)
+init_keeps ls (Err f) ts h = tt
+
+-- Vectors.
+
+lane_index_keeps : (ts : List Terminal) → Keeps (grammar.lane_index ts) ts
+lane_index_keeps [] = tt
+lane_index_keeps (Integer sign.Absent n ∷ ts) = small_by (nat_lt n (2 ^ 8)) n (Integer sign.Absent n ∷ ts) ts (after_integer sign.Absent n ts)
+lane_index_keeps (Integer sign.Plus n ∷ ts) = tt
+lane_index_keeps (Integer sign.Minus n ∷ ts) = tt
+lane_index_keeps (Id x ∷ ts) = tt
+lane_index_keeps (Open ∷ ts) = tt
+lane_index_keeps (Close ∷ ts) = tt
+lane_index_keeps (Word w ∷ ts) = tt
+lane_index_keeps (Text v ∷ ts) = tt
+lane_index_keeps (Float narrow wide ∷ ts) = tt
+lane_index_keeps (Other ∷ ts) = tt
+
+with_lane_keeps : (q : Result (ℕ × List Terminal) Fault) (ts : List Terminal) → Keeps q ts → Keeps (grammar.with_lane q) ts
+with_lane_keeps (Ok (n, us)) ts h = h
+with_lane_keeps (Err f) ts h = tt
+
+with_memory_keeps : (align offset : ℕ) (q : Result (ℕ × List Terminal) Fault) (ts us : List Terminal) → Passes ts us → Keeps q us → Keeps (grammar.with_memory align offset q) ts
+with_memory_keeps align offset (Ok (n, vs)) ts us h k = on ts us vs h k
+with_memory_keeps align offset (Err f) ts us h k = tt
+
+memory_lane_keeps : (n : ℕ) (ts : List Terminal) → Keeps (grammar.memory_lane n ts) ts
+memory_lane_keeps n ts =
+    let us = (grammar.align_of n (grammar.offset_of ts).1).1 in with_memory_keeps (grammar.align_of n (grammar.offset_of ts).1).0 (grammar.offset_of ts).0 (grammar.lane_index us) ts us (memory_keeps n ts) (lane_index_keeps us)
+
+integer_keeps : (half : ℕ) (ts : List Terminal) → Keeps (grammar.integer half ts) ts
+integer_keeps half [] = tt
+integer_keeps half (Integer s n ∷ ts) = bits_by_keeps (grammar.integer_bits half s n) (Integer s n ∷ ts) ts (after_integer s n ts)
+integer_keeps half (Id x ∷ ts) = tt
+integer_keeps half (Open ∷ ts) = tt
+integer_keeps half (Close ∷ ts) = tt
+integer_keeps half (Word w ∷ ts) = tt
+integer_keeps half (Text v ∷ ts) = tt
+integer_keeps half (Float narrow wide ∷ ts) = tt
+integer_keeps half (Other ∷ ts) = tt
+
+lane_keeps : (k : grammar.Lane) (ts : List Terminal) → Keeps (grammar.lane_of k ts) ts
+lane_keeps lane.Index ts = lane_index_keeps ts
+lane_keeps lane.I8 ts = integer_keeps (2 ^ 7) ts
+lane_keeps lane.I16 ts = integer_keeps (2 ^ 15) ts
+lane_keeps lane.I32 ts = integer_keeps (2 ^ 31) ts
+lane_keeps lane.I64 ts = integer_keeps (2 ^ 63) ts
+lane_keeps lane.F32 ts = f32_keeps ts
+lane_keeps lane.F64 ts = f64_keeps ts
+
+before_bytes_keeps : (bs : List ℕ) (q : Result (List ℕ × List Terminal) Fault) (ts us : List Terminal) → Passes ts us → Keeps q us → Keeps (grammar.before_bytes bs q) ts
+before_bytes_keeps bs (Ok (cs, vs)) ts us h k = on ts us vs h k
+before_bytes_keeps bs (Err f) ts us h k = tt
+
+and_lanes_keeps : (k : grammar.Lane) (q : Result (ℕ × List Terminal) Fault) (others : List Terminal → Result (List ℕ × List Terminal) Fault) (ts : List Terminal) → Keeps q ts → ((us : List Terminal) → Keeps (others us) us) → Keeps (grammar.and_lanes k q others) ts
+and_lanes_keeps k (Ok (n, us)) others ts h each = before_bytes_keeps (grammar.lane_bytes k n) (others us) ts us h (each us)
+and_lanes_keeps k (Err f) others ts h each = tt
+
+lanes_keep : (k : grammar.Lane) (n : ℕ) (ts : List Terminal) → Keeps (grammar.lanes_from k n ts) ts
+unfolding grammar.lanes_from
+lanes_keep k zero ts = stay ts
+lanes_keep k (suc n) ts = and_lanes_keeps k (grammar.lane_of k ts) (grammar.lanes_from k n) ts (lane_keeps k ts) (λ us. lanes_keep k n us)
+
+with_bytes_keeps : (q : Result (List ℕ × List Terminal) Fault) (ts : List Terminal) → Keeps q ts → Keeps (grammar.with_bytes q) ts
+with_bytes_keeps (Ok (bs, us)) ts h = h
+with_bytes_keeps (Err f) ts h = tt
+
+vector_keeps : (k : grammar.Lane) (ts : List Terminal) → Keeps (grammar.vector_of k ts) ts
+vector_keeps k ts = with_bytes_keeps (grammar.lanes_from k (grammar.lane_count k) ts) ts (lanes_keep k (grammar.lane_count k) ts)
+
+constant_by_keeps : (o : Option grammar.Lane) (w : List ℕ) (ts : List Terminal) → Keeps (grammar.constant_by o (Word w ∷ ts) ts) (Word w ∷ ts)
+constant_by_keeps None w ts = tt
+constant_by_keeps (Some k) w ts = on_keeps (grammar.vector_of k ts) (Word w ∷ ts) ts (after_word w ts ts (stay ts)) (vector_keeps k ts)
+
+constant_keeps : (ts : List Terminal) → Keeps (grammar.constant ts) ts
+constant_keeps [] = tt
+constant_keeps (Word w ∷ ts) = constant_by_keeps (grammar.shape w) w ts
+constant_keeps (Integer s n ∷ ts) = tt
+constant_keeps (Id x ∷ ts) = tt
+constant_keeps (Open ∷ ts) = tt
+constant_keeps (Close ∷ ts) = tt
+constant_keeps (Text v ∷ ts) = tt
+constant_keeps (Float narrow wide ∷ ts) = tt
+constant_keeps (Other ∷ ts) = tt
+
 immediate_keeps : (context : Context) (ls : List Label) (k : Immediate) (ts : List Terminal) → Keeps (grammar.immediate_of context ls k ts) ts
 immediate_keeps context ls immediate.No ts = stay ts
 immediate_keeps context ls immediate.Local ts = with_index_keeps (grammar.index context.locals ts) ts (index_keeps context.locals ts)
@@ -360,15 +509,25 @@ immediate_keeps context ls immediate.Indirect ts = indirect_keeps context.types 
 immediate_keeps context ls immediate.Global ts = with_index_keeps (grammar.index context.globals ts) ts (index_keeps context.globals ts)
 immediate_keeps context ls immediate.I32 ts = i32_keeps ts
 immediate_keeps context ls immediate.I64 ts = i64_keeps ts
-immediate_keeps context ls immediate.F32 ts = f32_keeps ts
-immediate_keeps context ls immediate.F64 ts = f64_keeps ts
+immediate_keeps context ls immediate.F32 ts = with_f32_keeps (grammar.f32 ts) ts (f32_keeps ts)
+immediate_keeps context ls immediate.F64 ts = with_f64_keeps (grammar.f64 ts) ts (f64_keeps ts)
 immediate_keeps context ls (immediate.Memory natural) ts = memory_keeps natural ts
 immediate_keeps context ls immediate.Zero ts = stay ts
+immediate_keeps context ls immediate.HeapType ts = heap_keeps ts
+immediate_keeps context ls immediate.Select ts = select_keeps (grammar.after (codes "result") ts) ts
+immediate_keeps context ls immediate.Zeros ts = stay ts
+immediate_keeps context ls immediate.Data ts = with_index_keeps (grammar.index context.datas ts) ts (index_keeps context.datas ts)
+immediate_keeps context ls immediate.MemoryInit ts = with_zero_keeps (grammar.index context.datas ts) ts (index_keeps context.datas ts)
+immediate_keeps context ls immediate.Elem ts = with_index_keeps (grammar.index context.elems ts) ts (index_keeps context.elems ts)
+immediate_keeps context ls immediate.Table ts = with_index_keeps (grammar.table_of context.tables ts) ts (table_keeps context.tables ts)
+immediate_keeps context ls immediate.TableCopy ts = copy_keeps (grammar.is_index ts) context.tables ts
+immediate_keeps context ls immediate.TableInit ts = init_keeps context.elems (grammar.init_table context.tables ts) ts (init_table_keeps (grammar.are_indices ts) context.tables ts)
+immediate_keeps context ls immediate.Lane ts = with_lane_keeps (grammar.lane_index ts) ts (lane_index_keeps ts)
+immediate_keeps context ls (immediate.MemoryLane natural) ts = memory_lane_keeps natural ts
+immediate_keeps context ls immediate.Shuffle ts = vector_keeps lane.Index ts
+immediate_keeps context ls immediate.Vector ts = constant_keeps ts
 
-after_word : (w : List ℕ) (ts us : List Terminal) → Passes ts us → Passes (Word w ∷ ts) us
-after_word w ts us h = record { short = omega (arith, h.short); same = h.same }
-
-with_opcode_keeps : (o : ℕ) (q : Result (Argument × List Terminal) Fault) (w : List ℕ) (ts : List Terminal) → Keeps q ts → Keeps (grammar.with_opcode o q) (Word w ∷ ts)
+with_opcode_keeps : (o : Opcode) (q : Result (Argument × List Terminal) Fault) (w : List ℕ) (ts : List Terminal) → Keeps q ts → Keeps (grammar.with_opcode o q) (Word w ∷ ts)
 with_opcode_keeps o (Ok (a, us)) w ts h = after_word w ts us h
 with_opcode_keeps o (Err f) w ts h = tt
 
@@ -384,7 +543,7 @@ abbrev pub Takes : {A : Type 0} → Result (A × List Terminal) Fault → List T
 Takes (Ok (a, us)) ts = length us < length ts
 Takes (Err f) ts = Unit {0}
 
-with_opcode_takes : (o : ℕ) (q : Result (Argument × List Terminal) Fault) (w : List ℕ) (ts : List Terminal) → Keeps q ts → Takes (grammar.with_opcode o q) (Word w ∷ ts)
+with_opcode_takes : (o : Opcode) (q : Result (Argument × List Terminal) Fault) (w : List ℕ) (ts : List Terminal) → Keeps q ts → Takes (grammar.with_opcode o q) (Word w ∷ ts)
 with_opcode_takes o (Ok (a, us)) w ts h = omega (arith, h.short)
 with_opcode_takes o (Err f) w ts h = tt
 
@@ -434,10 +593,6 @@ end_keeps l (Other ∷ ts) = stay (Other ∷ ts)
 
 pub end_passes : (l : Label) (ts us : List Terminal) → end_label l ts ≡ Ok us → Passes ts us
 end_passes l ts us e = let K : Result (List Terminal) Fault → Type 0 = λ q. KeepsAll q ts in subst K e (end_keeps l ts)
-
-on_keeps : {A : Type 0} (q : Result (A × List Terminal) Fault) (ts us : List Terminal) → Passes ts us → Keeps q us → Keeps q ts
-on_keeps (Ok (a, vs)) ts us h k = on ts us vs h k
-on_keeps (Err f) ts us h k = tt
 
 -- the label and the type of a block
 pub head_keeps : (types : Types) (ts : List Terminal) → Keeps (block_type types (label_of ts).1) ts

@@ -3,7 +3,7 @@ use Rattle.std.proofs.Common.{◌≡◌, ◌<◌, ◌≤◌, ℕ, zero, suc, Boo
 use Rattle.std.specs.Prelude.{if◌then◌else◌, ◌&&◌, codes}
 use Rattle.std.proofs.lemmas.Slice.Eq.{bytes_eq-Decides}
 use Rattle.wat_instructions.specs.declared.pieces.Argument.{Argument}
-use Rattle.wat_instructions.specs.Table.{mnemonics, low, high}
+use Rattle.wat_instructions.specs.Table.{mnemonics, low, high, prefixed, low_vectors, high_vectors}
 use Rattle.wat_instructions.specs.declared.pieces.Instruction.{Instruction}
 use Rattle.wat_instructions.specs.declared.pieces.FaultKind.TheVariants.{Unexpected, UnknownWord}
 use Rattle.wat_instructions.specs.Terminals.{Terminal, Open, Close, Word, Id, Integer, Text, Float, Other, Label}
@@ -496,7 +496,7 @@ then_is : (w : List ℕ) → is_then w ≡ true → w ≡ codes "then"
 then_is w e = (bytes_eq-Decides w (codes "then")).0 e
 
 end_is_no_plain : (context : Context) (ls : List Label) (ts : List Terminal) → plain context ls (Word (codes "end") ∷ ts) ≡ Err (UnknownWord, Word (codes "end") ∷ ts)
-unfolding plain mnemonics low high
+unfolding plain mnemonics low high prefixed low_vectors high_vectors
 end_is_no_plain context ls ts = refl
 
 no_end_plain : (context : Context) (ls : List Label) (w : List ℕ) (ts : List Terminal) (x : Instruction × List Terminal) → plain context ls (Word w ∷ ts) ≡ Ok x → (b : Bool) → is_end w ≡ b → b ≡ false
@@ -509,7 +509,7 @@ no_end_structured w o e true k = let f : structured w ≡ None = subst (λ v. st
 no_end_structured w o e false k = refl
 
 else_is_no_plain : (context : Context) (ls : List Label) (ts : List Terminal) → plain context ls (Word (codes "else") ∷ ts) ≡ Err (UnknownWord, Word (codes "else") ∷ ts)
-unfolding plain mnemonics low high
+unfolding plain mnemonics low high prefixed low_vectors high_vectors
 else_is_no_plain context ls ts = refl
 
 no_else_plain : (context : Context) (ls : List Label) (w : List ℕ) (ts : List Terminal) (x : Instruction × List Terminal) → plain context ls (Word w ∷ ts) ≡ Ok x → (b : Bool) → is_else w ≡ b → b ≡ false
@@ -522,7 +522,7 @@ no_else_structured w o e true k = let f : structured w ≡ None = subst (λ v. s
 no_else_structured w o e false k = refl
 
 then_is_no_plain : (context : Context) (ls : List Label) (ts : List Terminal) → plain context ls (Word (codes "then") ∷ ts) ≡ Err (UnknownWord, Word (codes "then") ∷ ts)
-unfolding plain mnemonics low high
+unfolding plain mnemonics low high prefixed low_vectors high_vectors
 then_is_no_plain context ls ts = refl
 
 no_then_plain : (context : Context) (ls : List Label) (w : List ℕ) (ts : List Terminal) (x : Instruction × List Terminal) → plain context ls (Word w ∷ ts) ≡ Ok x → (b : Bool) → is_then w ≡ b → b ≡ false

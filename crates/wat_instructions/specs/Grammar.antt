@@ -1,21 +1,29 @@
--- WebAssembly 2.0 specification, 6.5 (text format, instructions): 6.5.1 labels, 6.5.2 control instructions, 6.5.4 to 6.5.8 plain instructions,
+-- WebAssembly 2.0 specification, 6.5 (text format, instructions): 6.5.1 labels, 6.5.2 control instructions, 6.5.2 to 6.5.9 plain instructions,
 -- 6.5.10 folded instructions. Over the tokens that count. A rule takes tokens from a place on, and leaves the rest. What is spelled is a list of instructions as
 -- the binary format has them (5.4): `end` and `else` are among them, and a folded instruction comes after its operands.
 -- Which fault a text has that the grammar does not spell is no part of the standard: a rule of our own.
-use Rattle.std.specs.Prelude.{◌≡◌, ℕ, suc, Bool, true, false, List, [], ◌∷◌, ◌++◌, codes, Option, Some, None, Result, Ok, Err, bytes_eq, nat_lt, nat_le, ◌^◌, ◌*◌, ◌==◌, ◌||◌, if◌then◌else◌, slice_get, ℤ, pos, ◌-ℤ◌, zero}
+use Rattle.std.specs.Prelude.{◌≡◌, ℕ, suc, Bool, true, false, List, [], ◌∷◌, ◌++◌, codes, Option, Some, None, Result, Ok, Err, bytes_eq, nat_lt, nat_le, ◌^◌, ◌*◌, ◌-◌, ◌==◌, ◌||◌, if◌then◌else◌, slice_get, ℤ, pos, ◌-ℤ◌, zero}
 use Rattle.std.specs.Float.{binary32, binary64}
+use Rattle.std.specs.Int.{Width, w8, w16, w32, w64, to_le_bytes}
+use Rattle.std.specs.Option.{option_map}
 use Rattle.wat_floats.specs.Literals.{of_integer}
 use Rattle.wat_instructions.specs.declared.pieces.Argument.{Argument}
 use Rattle.wat_instructions.specs.declared.pieces.Argument.TheVariants as argument
 use Rattle.wat_instructions.specs.declared.pieces.Instruction.{Instruction}
+use Rattle.wat_instructions.specs.declared.pieces.Opcode.{Opcode}
+use Rattle.wat_instructions.specs.declared.pieces.Opcode.TheVariants.{Byte}
 use Rattle.wat_instructions.specs.declared.pieces.FaultKind.{FaultKind}
 use Rattle.wat_instructions.specs.declared.pieces.FaultKind.TheVariants.{Unexpected, UnknownWord, UnknownName, WrongLabel, OutOfRange, OtherType}
 use Rattle.wat_instructions.specs.declared.pieces.Sign.{Sign}
 use Rattle.wat_instructions.specs.declared.pieces.Sign.TheVariants as sign
+use Rattle.wat_instructions.specs.declared.pieces.ReferenceType.{ReferenceType}
+use Rattle.wat_instructions.specs.declared.pieces.ReferenceType.TheVariants as reference
 use Rattle.wat_instructions.specs.declared.pieces.ValueType.{ValueType}
 use Rattle.wat_instructions.specs.declared.pieces.ValueType.TheVariants as value
 use Rattle.wat_instructions.specs.declared.table.Immediate.{Immediate}
 use Rattle.wat_instructions.specs.declared.table.Immediate.TheVariants as immediate
+use Rattle.wat_instructions.specs.declared.vectors.Lane as declared_lane
+use Rattle.wat_instructions.specs.declared.vectors.Lane.TheVariants as lane
 use Rattle.wat_instructions.specs.Branches.{Branches, branches}
 use Rattle.wat_instructions.specs.Memory.{offset, align}
 use Rattle.wat_instructions.specs.Table.{Mnemonic, found, mnemonics}
@@ -94,23 +102,28 @@ abbrev pub is_minus : Sign → Bool
 is_minus sign.Minus = true
 is_minus s = false
 
-abbrev pub f32_by : Option ℕ → List Terminal → List Terminal → Result (Argument × List Terminal) Fault
-f32_by (Some bits) all ts = Ok (argument.F32 bits, ts)
-f32_by None all ts = Err (OutOfRange, all)
+abbrev pub bits_by : Option ℕ → List Terminal → List Terminal → Result (ℕ × List Terminal) Fault
+bits_by (Some bits) all ts = Ok (bits, ts)
+bits_by None all ts = Err (OutOfRange, all)
 
-abbrev pub f64_by : Option ℕ → List Terminal → List Terminal → Result (Argument × List Terminal) Fault
-f64_by (Some bits) all ts = Ok (argument.F64 bits, ts)
-f64_by None all ts = Err (OutOfRange, all)
-
-abbrev pub f32 : List Terminal → Result (Argument × List Terminal) Fault
-f32 (Integer s n ∷ ts) = f32_by (of_integer binary32 (is_minus s) n) (Integer s n ∷ ts) ts
-f32 (Float narrow wide ∷ ts) = f32_by narrow (Float narrow wide ∷ ts) ts
+-- by its bits
+abbrev pub f32 : List Terminal → Result (ℕ × List Terminal) Fault
+f32 (Integer s n ∷ ts) = bits_by (of_integer binary32 (is_minus s) n) (Integer s n ∷ ts) ts
+f32 (Float narrow wide ∷ ts) = bits_by narrow (Float narrow wide ∷ ts) ts
 f32 ts = Err (Unexpected, ts)
 
-abbrev pub f64 : List Terminal → Result (Argument × List Terminal) Fault
-f64 (Integer s n ∷ ts) = f64_by (of_integer binary64 (is_minus s) n) (Integer s n ∷ ts) ts
-f64 (Float narrow wide ∷ ts) = f64_by wide (Float narrow wide ∷ ts) ts
+abbrev pub f64 : List Terminal → Result (ℕ × List Terminal) Fault
+f64 (Integer s n ∷ ts) = bits_by (of_integer binary64 (is_minus s) n) (Integer s n ∷ ts) ts
+f64 (Float narrow wide ∷ ts) = bits_by wide (Float narrow wide ∷ ts) ts
 f64 ts = Err (Unexpected, ts)
+
+abbrev pub with_f32 : Result (ℕ × List Terminal) Fault → Result (Argument × List Terminal) Fault
+with_f32 (Ok (bits, ts)) = Ok (argument.F32 bits, ts)
+with_f32 (Err f) = Err f
+
+abbrev pub with_f64 : Result (ℕ × List Terminal) Fault → Result (Argument × List Terminal) Fault
+with_f64 (Ok (bits, ts)) = Ok (argument.F64 bits, ts)
+with_f64 (Err f) = Err f
 
 abbrev pub number_or : ℕ → Option ℕ → List Terminal → List Terminal → ℕ × List Terminal
 number_or n (Some m) all ts = (m, ts)
@@ -129,6 +142,107 @@ align_of natural ts = (natural, ts)
 -- 6.5.7: memarg = offset align
 abbrev pub memory_of : ℕ → List Terminal → Argument × List Terminal
 memory_of natural ts = (argument.Memory (align_of natural (offset_of ts).1).0 (offset_of ts).0, (align_of natural (offset_of ts).1).1)
+
+-- 6.5.9: laneidx = u8, an integer of 8 bits without a sign
+abbrev pub lane_index : List Terminal → Result (ℕ × List Terminal) Fault
+lane_index (Integer sign.Absent n ∷ ts) = if nat_lt n (2 ^ 8) then Ok (n, ts) else Err (OutOfRange, Integer sign.Absent n ∷ ts)
+lane_index ts = Err (Unexpected, ts)
+
+abbrev pub with_lane : Result (ℕ × List Terminal) Fault → Result (Argument × List Terminal) Fault
+with_lane (Ok (n, ts)) = Ok (argument.Lane n, ts)
+with_lane (Err f) = Err f
+
+-- 6.5.9: a memory argument, and a lane
+abbrev pub with_memory : ℕ → ℕ → Result (ℕ × List Terminal) Fault → Result (Argument × List Terminal) Fault
+with_memory align offset (Ok (n, ts)) = Ok (argument.MemoryLane align offset n, ts)
+with_memory align offset (Err f) = Err f
+
+abbrev pub memory_lane : ℕ → List Terminal → Result (Argument × List Terminal) Fault
+memory_lane natural ts = with_memory (align_of natural (offset_of ts).1).0 (offset_of ts).0 (lane_index (align_of natural (offset_of ts).1).1)
+
+-- 6.3.1: the bits of an integer of so many, as a number without a sign, where half is 2 ^ (so many - 1): those of -n are those of 2 * half - n
+abbrev pub opposite : ℕ → ℕ → ℕ
+opposite half zero = zero
+opposite half (suc n) = half * 2 - suc n
+
+abbrev pub integer_bits : ℕ → Sign → ℕ → Option ℕ
+integer_bits half sign.Absent n = if nat_lt n (half * 2) then Some n else None
+integer_bits half sign.Plus n = if nat_lt n half then Some n else None
+integer_bits half sign.Minus n = if nat_le n half then Some (opposite half n) else None
+
+abbrev pub integer : ℕ → List Terminal → Result (ℕ × List Terminal) Fault
+integer half (Integer s n ∷ ts) = bits_by (integer_bits half s n) (Integer s n ∷ ts) ts
+integer half ts = Err (Unexpected, ts)
+
+-- the lanes of a vector: indices of lanes; or integers (6.3.1) or floats (6.3.2), by their bits
+abbrev pub Lane : Type 0
+Lane = declared_lane.Lane
+
+abbrev pub lane_of : Lane → List Terminal → Result (ℕ × List Terminal) Fault
+lane_of lane.Index ts = lane_index ts
+lane_of lane.I8 ts = integer (2 ^ 7) ts
+lane_of lane.I16 ts = integer (2 ^ 15) ts
+lane_of lane.I32 ts = integer (2 ^ 31) ts
+lane_of lane.I64 ts = integer (2 ^ 63) ts
+lane_of lane.F32 ts = f32 ts
+lane_of lane.F64 ts = f64 ts
+
+abbrev pub width : Lane → Width
+width lane.Index = w8
+width lane.I8 = w8
+width lane.I16 = w16
+width lane.I32 = w32
+width lane.I64 = w64
+width lane.F32 = w32
+width lane.F64 = w64
+
+-- how many there are
+abbrev pub lane_count : Lane → ℕ
+lane_count lane.Index = 16
+lane_count lane.I8 = 16
+lane_count lane.I16 = 8
+lane_count lane.I32 = 4
+lane_count lane.I64 = 2
+lane_count lane.F32 = 4
+lane_count lane.F64 = 2
+
+-- 4.3.1: the bytes of a lane, the lowest first
+abbrev pub lane_bytes : Lane → ℕ → List ℕ
+lane_bytes k n = to_le_bytes (width k) n
+
+abbrev pub before_bytes : List ℕ → Result (List ℕ × List Terminal) Fault → Result (List ℕ × List Terminal) Fault
+before_bytes bs (Ok (cs, ts)) = Ok (bs ++ cs, ts)
+before_bytes bs (Err f) = Err f
+
+abbrev pub and_lanes : Lane → Result (ℕ × List Terminal) Fault → (List Terminal → Result (List ℕ × List Terminal) Fault) → Result (List ℕ × List Terminal) Fault
+and_lanes k (Ok (n, ts)) others = before_bytes (lane_bytes k n) (others ts)
+and_lanes k (Err f) others = Err f
+
+-- the bytes of so many lanes
+unfoldable pub lanes_from : Lane → ℕ → List Terminal → Result (List ℕ × List Terminal) Fault
+lanes_from k zero ts = Ok ([], ts)
+lanes_from k (suc n) ts = and_lanes k (lane_of k ts) (lanes_from k n)
+
+abbrev pub with_bytes : Result (List ℕ × List Terminal) Fault → Result (Argument × List Terminal) Fault
+with_bytes (Ok (bs, ts)) = Ok (argument.Bytes bs, ts)
+with_bytes (Err f) = Err f
+
+-- all lanes of a vector
+abbrev pub vector_of : Lane → List Terminal → Result (Argument × List Terminal) Fault
+vector_of k ts = with_bytes (lanes_from k (lane_count k) ts)
+
+-- 6.5.9: the shapes of v128.const, and their lanes
+abbrev pub shape : List ℕ → Option Lane
+shape w =
+    if bytes_eq w (codes "i8x16") then Some lane.I8 else if bytes_eq w (codes "i16x8") then Some lane.I16 else if bytes_eq w (codes "i32x4") then Some lane.I32 else if bytes_eq w (codes "i64x2") then Some lane.I64 else if bytes_eq w (codes "f32x4") then Some lane.F32 else if bytes_eq w (codes "f64x2") then Some lane.F64 else None
+
+abbrev pub constant_by : Option Lane → List Terminal → List Terminal → Result (Argument × List Terminal) Fault
+constant_by None all ts = Err (UnknownWord, all)
+constant_by (Some k) all ts = vector_of k ts
+
+abbrev pub constant : List Terminal → Result (Argument × List Terminal) Fault
+constant (Word w ∷ ts) = constant_by (shape w) (Word w ∷ ts) ts
+constant ts = Err (Unexpected, ts)
 
 -- 6.5.2: br_table's labels, one or more, of which the last is the default
 
@@ -156,10 +270,14 @@ abbrev pub labels_by : List Label → Result (ℕ × List Terminal) Fault → Re
 labels_by ls (Ok (n, ts)) = with_labels (labels_from ls n ts)
 labels_by ls (Err f) = Err f
 
--- 6.4.1 number types
+-- 6.4.3 reference types
+abbrev pub reference_type : List ℕ → Option ReferenceType
+reference_type w = if bytes_eq w (codes "funcref") then Some reference.Func else if bytes_eq w (codes "externref") then Some reference.Extern else None
+
+-- 6.4.4 value types: number types (6.4.1), the vector type (6.4.2), and reference types (6.4.3)
 abbrev pub value_type : List ℕ → Option ValueType
 value_type w =
-    if bytes_eq w (codes "i32") then Some value.I32 else if bytes_eq w (codes "i64") then Some value.I64 else if bytes_eq w (codes "f32") then Some value.F32 else if bytes_eq w (codes "f64") then Some value.F64 else None
+    if bytes_eq w (codes "i32") then Some value.I32 else if bytes_eq w (codes "i64") then Some value.I64 else if bytes_eq w (codes "f32") then Some value.F32 else if bytes_eq w (codes "f64") then Some value.F64 else if bytes_eq w (codes "v128") then Some value.V128 else option_map value.Reference (reference_type w)
 
 -- 6.4.5: groups `(` word valtype* `)` one after another, of parameters without names or of results
 
@@ -236,7 +354,7 @@ use_by types (Some ts) all = indexed_use types ts (index types.names ts)
 unfoldable pub use_of : Types → List Terminal → Result (UnnamedUse × List Terminal) Fault
 use_of types ts = use_by types (after (codes "type") ts) ts
 
--- 6.5.2: call_indirect's table: an index, or none, which is 0
+-- 6.5.2, 6.5.6: the table of call_indirect, or of a table instruction: an index, or none, which is 0
 abbrev pub table_of : List Label → List Terminal → Result (ℕ × List Terminal) Fault
 table_of ls (Integer s n ∷ ts) = small s n (Integer s n ∷ ts) ts
 table_of ls (Id x ∷ ts) = named (position 0 x ls) (Id x ∷ ts) ts
@@ -251,6 +369,71 @@ abbrev pub indirect_by : Types → Result (ℕ × List Terminal) Fault → Resul
 indirect_by types (Ok (n, ts)) = with_use n (use_of types ts)
 indirect_by types (Err f) = Err f
 
+-- 6.4.3: heaptype: func is that of funcref, and extern that of externref
+abbrev pub heap_type : List ℕ → Option ReferenceType
+heap_type w = if bytes_eq w (codes "func") then Some reference.Func else if bytes_eq w (codes "extern") then Some reference.Extern else None
+
+abbrev pub heap_by : Option ReferenceType → List Terminal → List Terminal → Result (Argument × List Terminal) Fault
+heap_by None all ts = Err (UnknownWord, all)
+heap_by (Some t) all ts = Ok (argument.HeapType t, ts)
+
+-- 6.5.3: ref.null's type
+abbrev pub heap_of : List Terminal → Result (Argument × List Terminal) Fault
+heap_of (Word w ∷ ts) = heap_by (heap_type w) (Word w ∷ ts) ts
+heap_of ts = Err (Unexpected, ts)
+
+abbrev pub with_types : Result (List ValueType × List Terminal) Fault → Result (Argument × List Terminal) Fault
+with_types (Ok (us, ts)) = Ok (argument.Select us, ts)
+with_types (Err f) = Err f
+
+-- 6.5.4: select's types, or none. A `select` alone says none; one with `(` result says them, also where these are no types: the standard leaves both open, so
+-- both are choices of our own.
+abbrev pub select_by : Option (List Terminal) → List Terminal → Result (Argument × List Terminal) Fault
+select_by None ts = Ok (argument.Nothing, ts)
+select_by (Some us) ts = with_types (listed (codes "result") false ts)
+
+-- 5.4.6: an index, and a byte 0 after it
+abbrev pub with_zero : Result (ℕ × List Terminal) Fault → Result (Argument × List Terminal) Fault
+with_zero (Ok (n, ts)) = Ok (argument.IndexZero n, ts)
+with_zero (Err f) = Err f
+
+-- an index comes first
+abbrev pub is_index : List Terminal → Bool
+is_index (Integer s n ∷ ts) = true
+is_index (Id x ∷ ts) = true
+is_index ts = false
+
+-- two indices come first
+abbrev pub are_indices : List Terminal → Bool
+are_indices (Integer s n ∷ ts) = is_index ts
+are_indices (Id x ∷ ts) = is_index ts
+are_indices ts = false
+
+-- 6.5.6: the tables of table.copy, the destination first; or none, which are both 0
+abbrev pub with_source : ℕ → Result (ℕ × List Terminal) Fault → Result (Argument × List Terminal) Fault
+with_source n (Ok (m, ts)) = Ok (argument.Pair (n, m), ts)
+with_source n (Err f) = Err f
+
+abbrev pub copy_by : List Label → Result (ℕ × List Terminal) Fault → Result (Argument × List Terminal) Fault
+copy_by ls (Ok (n, ts)) = with_source n (index ls ts)
+copy_by ls (Err f) = Err f
+
+abbrev pub copy_of : List Label → List Terminal → Result (Argument × List Terminal) Fault
+copy_of ls ts = if is_index ts then copy_by ls (index ls ts) else Ok (argument.Pair (0, 0), ts)
+
+-- 6.5.6: the table of table.init, which is 0 where one index comes alone
+abbrev pub init_table : List Label → List Terminal → Result (ℕ × List Terminal) Fault
+init_table ls ts = if are_indices ts then index ls ts else Ok (0, ts)
+
+-- and its elements, which come first in 5.4.5
+abbrev pub with_elements : ℕ → Result (ℕ × List Terminal) Fault → Result (Argument × List Terminal) Fault
+with_elements n (Ok (m, ts)) = Ok (argument.Pair (m, n), ts)
+with_elements n (Err f) = Err f
+
+abbrev pub init_by : List Label → Result (ℕ × List Terminal) Fault → Result (Argument × List Terminal) Fault
+init_by elems (Ok (n, ts)) = with_elements n (index elems ts)
+init_by elems (Err f) = Err f
+
 -- the immediate of a kind, where these labels are bound, the innermost first
 abbrev pub immediate_of : Context → List Label → Immediate → List Terminal → Result (Argument × List Terminal) Fault
 immediate_of context ls immediate.No ts = Ok (argument.Nothing, ts)
@@ -262,16 +445,34 @@ immediate_of context ls immediate.Func ts = with_index (index context.funcs ts)
 immediate_of context ls immediate.Global ts = with_index (index context.globals ts)
 immediate_of context ls immediate.I32 ts = i32 ts
 immediate_of context ls immediate.I64 ts = i64 ts
-immediate_of context ls immediate.F32 ts = f32 ts
-immediate_of context ls immediate.F64 ts = f64 ts
+immediate_of context ls immediate.F32 ts = with_f32 (f32 ts)
+immediate_of context ls immediate.F64 ts = with_f64 (f64 ts)
 immediate_of context ls (immediate.Memory natural) ts = Ok (memory_of natural ts)
 immediate_of context ls immediate.Zero ts = Ok (argument.Zero, ts)
+immediate_of context ls immediate.HeapType ts = heap_of ts
+immediate_of context ls immediate.Select ts = select_by (after (codes "result") ts) ts
+immediate_of context ls immediate.Zeros ts = Ok (argument.Zeros, ts)
+immediate_of context ls immediate.Data ts = with_index (index context.datas ts)
+immediate_of context ls immediate.MemoryInit ts = with_zero (index context.datas ts)
+immediate_of context ls immediate.Elem ts = with_index (index context.elems ts)
+immediate_of context ls immediate.Table ts = with_index (table_of context.tables ts)
+immediate_of context ls immediate.TableCopy ts = copy_of context.tables ts
+immediate_of context ls immediate.TableInit ts = init_by context.elems (init_table context.tables ts)
+immediate_of context ls immediate.Lane ts = with_lane (lane_index ts)
+immediate_of context ls (immediate.MemoryLane natural) ts = memory_lane natural ts
+immediate_of context ls immediate.Shuffle ts = vector_of lane.Index ts
+immediate_of context ls immediate.Vector ts = constant ts
 
 abbrev pub instruction : ℕ → Argument → Instruction
-instruction o a = record { opcode = o; argument = a }
+instruction o a = record { opcode = Byte o; argument = a }
 
-abbrev pub with_opcode : ℕ → Result (Argument × List Terminal) Fault → Result (Instruction × List Terminal) Fault
-with_opcode o (Ok (a, ts)) = Ok (instruction o a, ts)
+-- 5.4.3: select with types has an opcode of its own
+abbrev pub opcode_of : Opcode → Argument → Opcode
+opcode_of o (argument.Select ts) = Byte 0x1C
+opcode_of o a = o
+
+abbrev pub with_opcode : Opcode → Result (Argument × List Terminal) Fault → Result (Instruction × List Terminal) Fault
+with_opcode o (Ok (a, ts)) = Ok (record { opcode = opcode_of o a; argument = a }, ts)
 with_opcode o (Err f) = Err f
 
 abbrev pub plain_by : Context → List Label → Option Mnemonic → List Terminal → List Terminal → Result (Instruction × List Terminal) Fault
@@ -334,7 +535,7 @@ otherwise = instruction 0x05 argument.Nothing
 pub data Instructions (context : Context) : List Label → Bool → List Terminal → List Instruction → List Terminal → Type 0 where
   -- none
   by_none : {ls : List Label} {folded : Bool} {ts : List Terminal} → Instructions context ls folded ts [] ts
-  -- 6.5.4 to 6.5.8: a plain instruction, and more
+  -- 6.5.2 to 6.5.9: a plain instruction, and more
   by_plain : {ls : List Label} {w : List ℕ} {ts us r : List Terminal} {i : Instruction} {is : List Instruction}
       → structured w ≡ None → plain context ls (Word w ∷ ts) ≡ Ok (i, us) → Instructions context ls false us is r → Instructions context ls false (Word w ∷ ts) (i ∷ is) r
   -- 6.5.2: block, loop or if, up to `end`. An `if` without `else` is one whose second part is empty. 5.4.1 has

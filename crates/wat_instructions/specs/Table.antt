@@ -1,15 +1,16 @@
--- WebAssembly 2.0 specification, 6.5 (text format, instructions: 6.5.2 control, 6.5.4 parametric, 6.5.5 variable, 6.5.7 memory, 6.5.8 numeric) and 5.4
--- (binary format, instructions). The plain instructions: the word, the first byte, and which immediate they have. Words whose bytes follow one another are
--- one line. Left out of 2.0: select with types, references, tables, bulk memory, saturating
--- conversions, vectors.
+-- WebAssembly 2.0 specification, 6.5 (text format, instructions: 6.5.2 control, 6.5.3 reference, 6.5.4 parametric, 6.5.5 variable, 6.5.6 table, 6.5.7 memory,
+-- 6.5.8 numeric, 6.5.9 vector) and 5.4 (binary format, instructions). The plain instructions: the word, the opcode, and which immediate they have. Words whose opcodes
+-- follow one another are one line. `select` with types has another opcode (Grammar).
 use Rattle.std.specs.Prelude.{ℕ, suc, List, [], ◌∷◌, ◌++◌, ◌==◌, codes, Option, Some, None, bytes_eq, if◌then◌else◌}
+use Rattle.wat_instructions.specs.declared.pieces.Opcode.{Opcode}
+use Rattle.wat_instructions.specs.declared.pieces.Opcode.TheVariants.{Byte, Prefixed}
 use Rattle.wat_instructions.specs.declared.table.Row.{Row}
 use Rattle.wat_instructions.specs.declared.table.Immediate.{Immediate}
-use Rattle.wat_instructions.specs.declared.table.Immediate.TheVariants.{No, Local, Label, Labels, Func, Indirect, Global, I32, I64, F32, F64, Memory, Zero}
+use Rattle.wat_instructions.specs.declared.table.Immediate.TheVariants.{Data, Elem, F32, F64, Func, Global, HeapType, I32, I64, Indirect, Label, Labels, Lane, Local, Memory, MemoryInit, MemoryLane, No, Select, Shuffle, Table, TableCopy, TableInit, Vector, Zero, Zeros}
 
 pub record Mnemonic : Type 0 where
   pub word : List ℕ
-  pub opcode : ℕ
+  pub opcode : Opcode
   pub immediate : Immediate
 
 abbrev pub row_of : Row → Mnemonic
@@ -31,11 +32,19 @@ words_of (c ∷ cs) = if c == 32 then [] ∷ words_of cs else put_first c (words
 
 abbrev pub numbered : ℕ → Immediate → List (List ℕ) → List Mnemonic
 numbered n k [] = []
-numbered n k (w ∷ ws) = record { word = w; opcode = n; immediate = k } ∷ numbered (suc n) k ws
+numbered n k (w ∷ ws) = record { word = w; opcode = Byte n; immediate = k } ∷ numbered (suc n) k ws
 
 -- the words of a line, whose bytes follow one another
 abbrev pub from : ℕ → Immediate → List ℕ → List Mnemonic
 from n k line = numbered n k (words_of line)
+
+abbrev pub numbered_after : ℕ → ℕ → Immediate → List (List ℕ) → List Mnemonic
+numbered_after p n k [] = []
+numbered_after p n k (w ∷ ws) = record { word = w; opcode = Prefixed p n; immediate = k } ∷ numbered_after p (suc n) k ws
+
+-- the words of a line, whose numbers after a prefix follow one another
+abbrev pub after_prefix : ℕ → ℕ → Immediate → List ℕ → List Mnemonic
+after_prefix p n k line = numbered_after p n k (words_of line)
 
 unfoldable pub low : List Mnemonic
 low =
@@ -45,9 +54,11 @@ low =
     from 0x0F No (codes "return") ++
     from 0x10 Func (codes "call") ++
     from 0x11 Indirect (codes "call_indirect") ++
-    from 0x1A No (codes "drop select") ++
+    from 0x1A No (codes "drop") ++
+    from 0x1B Select (codes "select") ++
     from 0x20 Local (codes "local.get local.set local.tee") ++
     from 0x23 Global (codes "global.get global.set") ++
+    from 0x25 Table (codes "table.get table.set") ++
     from 0x28 (Memory 2) (codes "i32.load") ++
     from 0x29 (Memory 3) (codes "i64.load") ++
     from 0x2A (Memory 2) (codes "f32.load") ++
@@ -85,10 +96,90 @@ high =
     from 0xAE No (codes "i64.trunc_f32_s i64.trunc_f32_u i64.trunc_f64_s i64.trunc_f64_u f32.convert_i32_s f32.convert_i32_u f32.convert_i64_s") ++
     from 0xB5 No (codes "f32.convert_i64_u f32.demote_f64 f64.convert_i32_s f64.convert_i32_u f64.convert_i64_s f64.convert_i64_u f64.promote_f32") ++
     from 0xBC No (codes "i32.reinterpret_f32 i64.reinterpret_f64 f32.reinterpret_i32 f64.reinterpret_i64 i32.extend8_s i32.extend16_s i64.extend8_s") ++
-    from 0xC3 No (codes "i64.extend16_s i64.extend32_s")
+    from 0xC3 No (codes "i64.extend16_s i64.extend32_s") ++
+    from 0xD0 HeapType (codes "ref.null") ++
+    from 0xD1 No (codes "ref.is_null") ++
+    from 0xD2 Func (codes "ref.func")
+
+unfoldable pub prefixed : List Mnemonic
+prefixed =
+    after_prefix 0xFC 0 No (codes "i32.trunc_sat_f32_s i32.trunc_sat_f32_u i32.trunc_sat_f64_s i32.trunc_sat_f64_u") ++
+    after_prefix 0xFC 4 No (codes "i64.trunc_sat_f32_s i64.trunc_sat_f32_u i64.trunc_sat_f64_s i64.trunc_sat_f64_u") ++
+    after_prefix 0xFC 8 MemoryInit (codes "memory.init") ++
+    after_prefix 0xFC 9 Data (codes "data.drop") ++
+    after_prefix 0xFC 10 Zeros (codes "memory.copy") ++
+    after_prefix 0xFC 11 Zero (codes "memory.fill") ++
+    after_prefix 0xFC 12 TableInit (codes "table.init") ++
+    after_prefix 0xFC 13 Elem (codes "elem.drop") ++
+    after_prefix 0xFC 14 TableCopy (codes "table.copy") ++
+    after_prefix 0xFC 15 Table (codes "table.grow table.size table.fill")
+
+-- vector instructions, up to 127 and from 128 on
+unfoldable pub low_vectors : List Mnemonic
+low_vectors =
+    after_prefix 0xFD 0 (Memory 4) (codes "v128.load") ++
+    after_prefix 0xFD 1 (Memory 3) (codes "v128.load8x8_s v128.load8x8_u v128.load16x4_s v128.load16x4_u v128.load32x2_s v128.load32x2_u") ++
+    after_prefix 0xFD 7 (Memory 0) (codes "v128.load8_splat") ++
+    after_prefix 0xFD 8 (Memory 1) (codes "v128.load16_splat") ++
+    after_prefix 0xFD 9 (Memory 2) (codes "v128.load32_splat") ++
+    after_prefix 0xFD 10 (Memory 3) (codes "v128.load64_splat") ++
+    after_prefix 0xFD 11 (Memory 4) (codes "v128.store") ++
+    after_prefix 0xFD 12 Vector (codes "v128.const") ++
+    after_prefix 0xFD 13 Shuffle (codes "i8x16.shuffle") ++
+    after_prefix 0xFD 14 No (codes "i8x16.swizzle i8x16.splat i16x8.splat i32x4.splat i64x2.splat f32x4.splat f64x2.splat") ++
+    after_prefix 0xFD 21 Lane (codes "i8x16.extract_lane_s i8x16.extract_lane_u i8x16.replace_lane i16x8.extract_lane_s i16x8.extract_lane_u") ++
+    after_prefix 0xFD 26 Lane (codes "i16x8.replace_lane i32x4.extract_lane i32x4.replace_lane i64x2.extract_lane i64x2.replace_lane") ++
+    after_prefix 0xFD 31 Lane (codes "f32x4.extract_lane f32x4.replace_lane f64x2.extract_lane f64x2.replace_lane") ++
+    after_prefix 0xFD 35 No (codes "i8x16.eq i8x16.ne i8x16.lt_s i8x16.lt_u i8x16.gt_s i8x16.gt_u i8x16.le_s i8x16.le_u i8x16.ge_s i8x16.ge_u") ++
+    after_prefix 0xFD 45 No (codes "i16x8.eq i16x8.ne i16x8.lt_s i16x8.lt_u i16x8.gt_s i16x8.gt_u i16x8.le_s i16x8.le_u i16x8.ge_s i16x8.ge_u") ++
+    after_prefix 0xFD 55 No (codes "i32x4.eq i32x4.ne i32x4.lt_s i32x4.lt_u i32x4.gt_s i32x4.gt_u i32x4.le_s i32x4.le_u i32x4.ge_s i32x4.ge_u") ++
+    after_prefix 0xFD 65 No (codes "f32x4.eq f32x4.ne f32x4.lt f32x4.gt f32x4.le f32x4.ge f64x2.eq f64x2.ne f64x2.lt f64x2.gt f64x2.le f64x2.ge") ++
+    after_prefix 0xFD 77 No (codes "v128.not v128.and v128.andnot v128.or v128.xor v128.bitselect v128.any_true") ++
+    after_prefix 0xFD 84 (MemoryLane 0) (codes "v128.load8_lane") ++
+    after_prefix 0xFD 85 (MemoryLane 1) (codes "v128.load16_lane") ++
+    after_prefix 0xFD 86 (MemoryLane 2) (codes "v128.load32_lane") ++
+    after_prefix 0xFD 87 (MemoryLane 3) (codes "v128.load64_lane") ++
+    after_prefix 0xFD 88 (MemoryLane 0) (codes "v128.store8_lane") ++
+    after_prefix 0xFD 89 (MemoryLane 1) (codes "v128.store16_lane") ++
+    after_prefix 0xFD 90 (MemoryLane 2) (codes "v128.store32_lane") ++
+    after_prefix 0xFD 91 (MemoryLane 3) (codes "v128.store64_lane") ++
+    after_prefix 0xFD 92 (Memory 2) (codes "v128.load32_zero") ++
+    after_prefix 0xFD 93 (Memory 3) (codes "v128.load64_zero") ++
+    after_prefix 0xFD 94 No (codes "f32x4.demote_f64x2_zero f64x2.promote_low_f32x4 i8x16.abs i8x16.neg i8x16.popcnt i8x16.all_true i8x16.bitmask") ++
+    after_prefix 0xFD 101 No (codes "i8x16.narrow_i16x8_s i8x16.narrow_i16x8_u f32x4.ceil f32x4.floor f32x4.trunc f32x4.nearest i8x16.shl i8x16.shr_s") ++
+    after_prefix 0xFD 109 No (codes "i8x16.shr_u i8x16.add i8x16.add_sat_s i8x16.add_sat_u i8x16.sub i8x16.sub_sat_s i8x16.sub_sat_u f64x2.ceil") ++
+    after_prefix 0xFD 117 No (codes "f64x2.floor i8x16.min_s i8x16.min_u i8x16.max_s i8x16.max_u f64x2.trunc i8x16.avgr_u") ++
+    after_prefix 0xFD 124 No (codes "i16x8.extadd_pairwise_i8x16_s i16x8.extadd_pairwise_i8x16_u i32x4.extadd_pairwise_i16x8_s") ++
+    after_prefix 0xFD 127 No (codes "i32x4.extadd_pairwise_i16x8_u")
+
+unfoldable pub high_vectors : List Mnemonic
+high_vectors =
+    after_prefix 0xFD 128 No (codes "i16x8.abs i16x8.neg i16x8.q15mulr_sat_s i16x8.all_true i16x8.bitmask i16x8.narrow_i32x4_s i16x8.narrow_i32x4_u") ++
+    after_prefix 0xFD 135 No (codes "i16x8.extend_low_i8x16_s i16x8.extend_high_i8x16_s i16x8.extend_low_i8x16_u i16x8.extend_high_i8x16_u i16x8.shl") ++
+    after_prefix 0xFD 140 No (codes "i16x8.shr_s i16x8.shr_u i16x8.add i16x8.add_sat_s i16x8.add_sat_u i16x8.sub i16x8.sub_sat_s i16x8.sub_sat_u") ++
+    after_prefix 0xFD 148 No (codes "f64x2.nearest i16x8.mul i16x8.min_s i16x8.min_u i16x8.max_s i16x8.max_u") ++
+    after_prefix 0xFD 155 No (codes "i16x8.avgr_u i16x8.extmul_low_i8x16_s i16x8.extmul_high_i8x16_s i16x8.extmul_low_i8x16_u") ++
+    after_prefix 0xFD 159 No (codes "i16x8.extmul_high_i8x16_u i32x4.abs i32x4.neg") ++
+    after_prefix 0xFD 163 No (codes "i32x4.all_true i32x4.bitmask") ++
+    after_prefix 0xFD 167 No (codes "i32x4.extend_low_i16x8_s i32x4.extend_high_i16x8_s i32x4.extend_low_i16x8_u i32x4.extend_high_i16x8_u i32x4.shl") ++
+    after_prefix 0xFD 172 No (codes "i32x4.shr_s i32x4.shr_u i32x4.add") ++
+    after_prefix 0xFD 177 No (codes "i32x4.sub") ++
+    after_prefix 0xFD 181 No (codes "i32x4.mul i32x4.min_s i32x4.min_u i32x4.max_s i32x4.max_u i32x4.dot_i16x8_s") ++
+    after_prefix 0xFD 188 No (codes "i32x4.extmul_low_i16x8_s i32x4.extmul_high_i16x8_s i32x4.extmul_low_i16x8_u i32x4.extmul_high_i16x8_u i64x2.abs") ++
+    after_prefix 0xFD 193 No (codes "i64x2.neg") ++
+    after_prefix 0xFD 195 No (codes "i64x2.all_true i64x2.bitmask") ++
+    after_prefix 0xFD 199 No (codes "i64x2.extend_low_i32x4_s i64x2.extend_high_i32x4_s i64x2.extend_low_i32x4_u i64x2.extend_high_i32x4_u i64x2.shl") ++
+    after_prefix 0xFD 204 No (codes "i64x2.shr_s i64x2.shr_u i64x2.add") ++
+    after_prefix 0xFD 209 No (codes "i64x2.sub") ++
+    after_prefix 0xFD 213 No (codes "i64x2.mul i64x2.eq i64x2.ne i64x2.lt_s i64x2.gt_s i64x2.le_s i64x2.ge_s i64x2.extmul_low_i32x4_s") ++
+    after_prefix 0xFD 221 No (codes "i64x2.extmul_high_i32x4_s i64x2.extmul_low_i32x4_u i64x2.extmul_high_i32x4_u f32x4.abs f32x4.neg") ++
+    after_prefix 0xFD 227 No (codes "f32x4.sqrt f32x4.add f32x4.sub f32x4.mul f32x4.div f32x4.min f32x4.max f32x4.pmin f32x4.pmax f64x2.abs f64x2.neg") ++
+    after_prefix 0xFD 239 No (codes "f64x2.sqrt f64x2.add f64x2.sub f64x2.mul f64x2.div f64x2.min f64x2.max f64x2.pmin f64x2.pmax") ++
+    after_prefix 0xFD 248 No (codes "i32x4.trunc_sat_f32x4_s i32x4.trunc_sat_f32x4_u f32x4.convert_i32x4_s f32x4.convert_i32x4_u") ++
+    after_prefix 0xFD 252 No (codes "i32x4.trunc_sat_f64x2_s_zero i32x4.trunc_sat_f64x2_u_zero f64x2.convert_low_i32x4_s f64x2.convert_low_i32x4_u")
 
 unfoldable pub mnemonics : List Mnemonic
-mnemonics = low ++ high
+mnemonics = low ++ (high ++ (prefixed ++ (low_vectors ++ high_vectors)))
 
 -- the row of a word
 abbrev pub found : List ℕ → List Mnemonic → Option Mnemonic

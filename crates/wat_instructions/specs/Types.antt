@@ -1,5 +1,8 @@
--- WebAssembly 2.0 specification, 6.4.5 (function types), 6.1.3 (contexts: types), 6.6.3 (type uses), and 5.3.1 (number types).
+-- WebAssembly 2.0 specification, 6.4.5 (function types), 6.1.3 (contexts: types), 6.6.3 (type uses), and 5.3.1 to 5.3.4 (number types, vector types,
+-- reference types, value types).
 use Rattle.std.specs.Prelude.{ℕ, Bool, true, false, List, [], ◌∷◌, Option, Some, None, ◌==◌, ◌&&◌}
+use Rattle.wat_instructions.specs.declared.pieces.ReferenceType.{ReferenceType}
+use Rattle.wat_instructions.specs.declared.pieces.ReferenceType.TheVariants as reference
 use Rattle.wat_instructions.specs.declared.pieces.ValueType.{ValueType}
 use Rattle.wat_instructions.specs.declared.pieces.ValueType.TheVariants as value
 use Rattle.wat_instructions.specs.Terminals.{Label}
@@ -38,12 +41,19 @@ pub record IndirectCall : Type 0 where
 abbrev pub indirect_call : ℕ → UnnamedUse → IndirectCall
 indirect_call n u = record { table = n; uses = u }
 
--- 5.3.1 number types
+-- 5.3.3 reference types
+abbrev pub reference_byte : ReferenceType → ℕ
+reference_byte reference.Func = 0x70
+reference_byte reference.Extern = 0x6F
+
+-- 5.3.4 value types: number types (5.3.1), the vector type (5.3.2), and reference types
 abbrev pub type_byte : ValueType → ℕ
 type_byte value.I32 = 0x7F
 type_byte value.I64 = 0x7E
 type_byte value.F32 = 0x7D
 type_byte value.F64 = 0x7C
+type_byte value.V128 = 0x7B
+type_byte (value.Reference t) = reference_byte t
 
 abbrev pub same_values : List ValueType → List ValueType → Bool
 same_values [] [] = true

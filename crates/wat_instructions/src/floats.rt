@@ -1,10 +1,10 @@
 //! Floating-point immediates.
 ghost use Rattle.std.specs.Prelude.{◌≡◌, Ok, Err, map, MatchResult};
-ghost use Rattle.wat_instructions.specs.Grammar.{f32, f32_by, f64, f64_by, is_minus};
+ghost use Rattle.wat_instructions.specs.Grammar.{bits_by, f32, f64, is_minus};
 ghost use Rattle.wat_instructions.specs.Parts.{fault_of};
 ghost use Rattle.wat_instructions.specs.Terminals.{terminal};
 
-use crate::pieces::{Argument, Fault, FaultKind, Piece, Sign};
+use crate::pieces::{Fault, FaultKind, Piece, Sign};
 use wat_floats::{f32_of_integer, f64_of_integer};
 
 /// Whether an integer is one below 0, or `-0`.
@@ -22,13 +22,13 @@ fn single<'p, 'a>(
     bits: Option<u32>,
     all: &'p [Piece<'a>],
     rest: &'p [Piece<'a>],
-) -> Result<(Argument, &'p [Piece<'a>]), Fault<'p, 'a>>
+) -> Result<(u32, &'p [Piece<'a>]), Fault<'p, 'a>>
     ensures { MatchResult result
-        (λ r. f32_by bits (map terminal all.now) (map terminal rest.now) ≡ Ok (r.0, map terminal r.1.now))
-        (λ f. f32_by bits (map terminal all.now) (map terminal rest.now) ≡ Err (fault_of f)) }
+        (λ r. bits_by bits (map terminal all.now) (map terminal rest.now) ≡ Ok (r.0, map terminal r.1.now))
+        (λ f. bits_by bits (map terminal all.now) (map terminal rest.now) ≡ Err (fault_of f)) }
 {
     match bits {
-        Some(bits) => Ok((Argument::F32(bits), rest)),
+        Some(bits) => Ok((bits, rest)),
         None => Err(Fault {
             kind: FaultKind::OutOfRange,
             left: all,
@@ -41,13 +41,13 @@ fn double<'p, 'a>(
     bits: Option<u64>,
     all: &'p [Piece<'a>],
     rest: &'p [Piece<'a>],
-) -> Result<(Argument, &'p [Piece<'a>]), Fault<'p, 'a>>
+) -> Result<(u64, &'p [Piece<'a>]), Fault<'p, 'a>>
     ensures { MatchResult result
-        (λ r. f64_by bits (map terminal all.now) (map terminal rest.now) ≡ Ok (r.0, map terminal r.1.now))
-        (λ f. f64_by bits (map terminal all.now) (map terminal rest.now) ≡ Err (fault_of f)) }
+        (λ r. bits_by bits (map terminal all.now) (map terminal rest.now) ≡ Ok (r.0, map terminal r.1.now))
+        (λ f. bits_by bits (map terminal all.now) (map terminal rest.now) ≡ Err (fault_of f)) }
 {
     match bits {
-        Some(bits) => Ok((Argument::F64(bits), rest)),
+        Some(bits) => Ok((bits, rest)),
         None => Err(Fault {
             kind: FaultKind::OutOfRange,
             left: all,
@@ -58,7 +58,7 @@ fn double<'p, 'a>(
 /// A float of 32 bits.
 pub(crate) fn float_32<'p, 'a>(
     pieces: &'p [Piece<'a>],
-) -> Result<(Argument, &'p [Piece<'a>]), Fault<'p, 'a>>
+) -> Result<(u32, &'p [Piece<'a>]), Fault<'p, 'a>>
     ensures { MatchResult result
         (λ r. f32 (map terminal pieces.now) ≡ Ok (r.0, map terminal r.1.now))
         (λ f. f32 (map terminal pieces.now) ≡ Err (fault_of f)) }
@@ -92,7 +92,7 @@ pub(crate) fn float_32<'p, 'a>(
 /// A float of 64 bits.
 pub(crate) fn float_64<'p, 'a>(
     pieces: &'p [Piece<'a>],
-) -> Result<(Argument, &'p [Piece<'a>]), Fault<'p, 'a>>
+) -> Result<(u64, &'p [Piece<'a>]), Fault<'p, 'a>>
     ensures { MatchResult result
         (λ r. f64 (map terminal pieces.now) ≡ Ok (r.0, map terminal r.1.now))
         (λ f. f64 (map terminal pieces.now) ≡ Err (fault_of f)) }

@@ -7,7 +7,7 @@ ghost use Rattle.wat_instructions.specs.Terminals as terminals;
 ghost use Rattle.wat_instructions.specs.Terminals.{Terminal, terminal};
 ghost use Rattle.std.specs.Prelude.{◌≡◌, [], ◌∷◌, map, Ok, Err, MatchResult, List};
 
-use crate::pieces::{Argument, Fault, FaultKind, Frame, Instruction, Name, Piece, Refusal};
+use crate::pieces::{Argument, Fault, FaultKind, Frame, Instruction, Name, Opcode, Piece, Refusal};
 use crate::reading::{self, Scope};
 use crate::uses;
 use std::alloc::Global;
@@ -16,12 +16,12 @@ use std::alloc::Global;
 const IF: u8 = 0x04;
 
 const ELSE: Instruction = Instruction {
-    opcode: 0x05,
+    opcode: Opcode::Byte(0x05),
     argument: Argument::Nothing,
 };
 
 const END: Instruction = Instruction {
-    opcode: 0x0B,
+    opcode: Opcode::Byte(0x0B),
     argument: Argument::Nothing,
 };
 
@@ -473,7 +473,10 @@ fn folded_block<'p, 'a>(
 {
     let (label, rest) = reading::label(pieces);
     let (argument, rest) = uses::block_type(alloc, scope, rest)?;
-    let instruction = Instruction { opcode, argument };
+    let instruction = Instruction {
+        opcode: Opcode::Byte(opcode),
+        argument,
+    };
     if opcode == IF {
         frames.push(Frame::Condition(instruction, label))?;
         return Ok(rest);
@@ -550,7 +553,10 @@ fn instruction<'p, 'a>(
             let (label, rest) = reading::label(rest);
             let (argument, rest) = uses::block_type(alloc, scope, rest)?;
             frames.push(Frame::Block(opcode == IF, label))?;
-            out.push(Instruction { opcode, argument })?;
+            out.push(Instruction {
+                opcode: Opcode::Byte(opcode),
+                argument,
+            })?;
             Ok(rest)
         }
         None => {

@@ -19,7 +19,7 @@ pub(crate) fn argument<'p, 'a>(natural: u8, pieces: &'p [Piece<'a>]) -> (Argumen
 }
 
 /// The offset, and what comes after it.
-fn offset_at<'p, 'a>(pieces: &'p [Piece<'a>]) -> (u32, &'p [Piece<'a>])
+pub(crate) fn offset_at<'p, 'a>(pieces: &'p [Piece<'a>]) -> (u32, &'p [Piece<'a>])
     ensures offset { result.0 ≡ (offset_of (map terminal pieces.now)).0 }
     ensures rest { map terminal result.1.now ≡ (offset_of (map terminal pieces.now)).1 }
 {
@@ -43,7 +43,7 @@ fn offset_at<'p, 'a>(pieces: &'p [Piece<'a>]) -> (u32, &'p [Piece<'a>])
 }
 
 /// The exponent of the alignment, and what comes after it.
-fn align_at<'p, 'a>(natural: u8, pieces: &'p [Piece<'a>]) -> (u8, &'p [Piece<'a>])
+pub(crate) fn align_at<'p, 'a>(natural: u8, pieces: &'p [Piece<'a>]) -> (u8, &'p [Piece<'a>])
     ensures align { result.0 ≡ (align_of natural (map terminal pieces.now)).0 }
     ensures rest { map terminal result.1.now ≡ (align_of natural (map terminal pieces.now)).1 }
 {

@@ -4,7 +4,9 @@ ghost use Rattle.wat_instructions.specs.Grammar.{is_name};
 ghost use Rattle.wat_instructions.specs.Terminals.{label};
 
 use crate::branches::BranchTable;
-use crate::types::{BoxedUse, IndirectCall};
+use crate::pairs::IndexPair;
+use crate::types::{BoxedUse, IndirectCall, SelectTypes};
+use crate::vectors::VectorBytes;
 use std::alloc::{AllocError, AllocFailed};
 
 /// The sign that an integer begins with.
@@ -53,13 +55,22 @@ impl Name<'_> {
     }
 }
 
-/// A number type.
+/// A reference type.
+#[derive(Clone, Copy, PartialEq, Eq)]
+pub enum ReferenceType {
+    Func,
+    Extern,
+}
+
+/// A value type: a number type, the vector type, or a reference type.
 #[derive(Clone, Copy, PartialEq, Eq)]
 pub enum ValueType {
     I32,
     I64,
     F32,
     F64,
+    V128,
+    Reference(ReferenceType),
 }
 
 /// The immediate of an instruction. What takes more than 8 bytes is boxed: a text has millions of
@@ -85,12 +96,35 @@ pub enum Argument {
     Memory(u8, u32),
     /// A byte 0.
     Zero,
+    /// The type of `ref.null`.
+    HeapType(ReferenceType),
+    /// The types of `select`, where it says them.
+    Select(SelectTypes),
+    /// Two bytes 0.
+    Zeros,
+    /// An index, and a byte 0 after it.
+    IndexZero(usize),
+    /// Two indices, in the order of the binary format.
+    Pair(IndexPair),
+    /// An index of a lane.
+    Lane(u8),
+    /// A memory argument, and an index of a lane.
+    MemoryLane(u8, u32, u8),
+    /// The 16 bytes of a vector.
+    Bytes(VectorBytes),
+}
+
+/// What an instruction begins with in the binary format: a byte; or a prefix, and a number after it.
+#[derive(Clone, Copy)]
+pub enum Opcode {
+    Byte(u8),
+    Prefixed(u8, u8),
 }
 
 /// An instruction of the binary format, where `end` and `else` are two.
 #[derive(Drop)]
 pub struct Instruction {
-    pub opcode: u8,
+    pub opcode: Opcode,
     pub argument: Argument,
 }
 
@@ -113,7 +147,7 @@ pub enum Frame<'p> {
 pub enum FaultKind {
     /// A token that no rule takes here, or the end.
     Unexpected,
-    /// A keyword that is no instruction, or no number type.
+    /// A keyword that is no instruction, or no type.
     UnknownWord,
     /// An identifier that nothing has.
     UnknownName,

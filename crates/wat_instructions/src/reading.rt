@@ -1,6 +1,6 @@
 //! Plain instructions and their immediates, names and labels.
 ghost use Rattle.std.specs.Prelude.{◌≡◌, ◌<◌, ◌^◌, ◌++◌, ℕ, [], ◌∷◌, IfOk, IfSome, None, Ok, Err, Some, length, map, MatchOption, MatchResult};
-ghost use Rattle.wat_instructions.specs.Grammar.{before_labels, end_label, i32, i64, immediate_of, index, is_else, is_end, is_then, label_of, labels_by, labels_from, plain, position, signed, structured, value_type, with_index, with_labels};
+ghost use Rattle.wat_instructions.specs.Grammar.{before_labels, end_label, f32, f64, heap_of, heap_type, i32, i64, immediate_of, index, is_else, is_end, is_then, label_of, labels_by, labels_from, opcode_of, plain, position, reference_type, signed, structured, value_type, with_f32, with_f64, with_index, with_labels, with_zero};
 ghost use Rattle.wat_instructions.specs.Machine.{bound, labels_in};
 ghost use Rattle.wat_instructions.specs.Branches.{branches};
 ghost use Rattle.wat_instructions.specs.Parts.{Faults, IsLabel, IsMemory, NoLabel, fault_of, part, scope_of, stack};
@@ -9,11 +9,13 @@ ghost use Rattle.wat_instructions.specs.Terminals.{Open, Word, label, terminal};
 use crate::branches::BranchTable;
 use crate::names::IndexedNames;
 use crate::pieces::{
-    Argument, Fault, FaultKind, Frame, Instruction, Name, Piece, Refusal, Sign, ValueType,
+    Argument, Fault, FaultKind, Frame, Instruction, Name, Opcode, Piece, ReferenceType, Refusal,
+    Sign, ValueType,
 };
 use crate::table::{self, Immediate};
 use crate::types::FunctionType;
-use crate::{floats, memory, uses};
+use crate::vectors::Lane;
+use crate::{floats, memory, table_arguments, uses, vector_arguments};
 use std::alloc::Global;
 
 /// The types, and the names of the items of seven index spaces, each in the order of their indices.
@@ -171,6 +173,19 @@ fn name_argument<'p, 'a>(
 {
     let (n, rest) = index(names, pieces)?;
     Ok((Argument::Index(n), rest))
+}
+
+/// The immediate that is an index, and a byte 0.
+fn name_and_zero<'p, 'a>(
+    names: &IndexedNames<'_>,
+    pieces: &'p [Piece<'a>],
+) -> Result<(Argument, &'p [Piece<'a>]), Fault<'p, 'a>>
+    ensures { MatchResult result
+        (λ r. with_zero (index names.now (map terminal pieces.now)) ≡ Ok (r.0, map terminal r.1.now))
+        (λ f. with_zero (index names.now (map terminal pieces.now)) ≡ Err (fault_of f)) }
+{
+    let (n, rest) = index(names, pieces)?;
+    Ok((Argument::IndexZero(n), rest))
 }
 
 /// The immediate that is an index of a label.
@@ -392,6 +407,75 @@ fn number_64<'p, 'a>(pieces: &'p [Piece<'a>]) -> Result<(Argument, &'p [Piece<'a
     }
 }
 
+/// A float of 32 bits.
+fn float_32<'p, 'a>(pieces: &'p [Piece<'a>]) -> Result<(Argument, &'p [Piece<'a>]), Fault<'p, 'a>>
+    ensures { MatchResult result
+        (λ r. with_f32 (f32 (map terminal pieces.now)) ≡ Ok (r.0, map terminal r.1.now))
+        (λ f. with_f32 (f32 (map terminal pieces.now)) ≡ Err (fault_of f)) }
+{
+    let (bits, rest) = floats::float_32(pieces)?;
+    Ok((Argument::F32(bits), rest))
+}
+
+/// A float of 64 bits.
+fn float_64<'p, 'a>(pieces: &'p [Piece<'a>]) -> Result<(Argument, &'p [Piece<'a>]), Fault<'p, 'a>>
+    ensures { MatchResult result
+        (λ r. with_f64 (f64 (map terminal pieces.now)) ≡ Ok (r.0, map terminal r.1.now))
+        (λ f. with_f64 (f64 (map terminal pieces.now)) ≡ Err (fault_of f)) }
+{
+    let (bits, rest) = floats::float_64(pieces)?;
+    Ok((Argument::F64(bits), rest))
+}
+
+/// The reference type of a heap type's word.
+fn heap_type(word: &str) -> Option<ReferenceType>
+    ensures { result ≡ heap_type word.now }
+{
+    if word == "func" {
+        Some(ReferenceType::Func)
+    } else if word == "extern" {
+        Some(ReferenceType::Extern)
+    } else {
+        None
+    }
+}
+
+/// The immediate that is a heap type.
+fn heap_argument<'p, 'a>(
+    pieces: &'p [Piece<'a>],
+) -> Result<(Argument, &'p [Piece<'a>]), Fault<'p, 'a>>
+    ensures { MatchResult result
+        (λ r. heap_of (map terminal pieces.now) ≡ Ok (r.0, map terminal r.1.now))
+        (λ f. heap_of (map terminal pieces.now) ≡ Err (fault_of f)) }
+{
+    match pieces {
+        [Piece::Word(word), rest @ ..] => match heap_type(word) {
+            Some(of) => Ok((Argument::HeapType(of), rest)),
+            None => Err(Fault {
+                kind: FaultKind::UnknownWord,
+                left: pieces,
+            }),
+        },
+        [
+            Piece::Open
+            | Piece::Close
+            | Piece::Id(_)
+            | Piece::Integer(_, _)
+            | Piece::Text(_)
+            | Piece::Float(_, _)
+            | Piece::Other,
+            ..
+        ] => Err(Fault {
+            kind: FaultKind::Unexpected,
+            left: pieces,
+        }),
+        [] => Err(Fault {
+            kind: FaultKind::Unexpected,
+            left: pieces,
+        }),
+    }
+}
+
 /// The immediate of a kind.
 fn immediate<'p, 'a>(
     alloc: Global,
@@ -414,10 +498,51 @@ fn immediate<'p, 'a>(
         Immediate::Global => Ok(name_argument(scope.globals, pieces)?),
         Immediate::I32 => Ok(number_32(pieces)?),
         Immediate::I64 => Ok(number_64(pieces)?),
-        Immediate::F32 => Ok(floats::float_32(pieces)?),
-        Immediate::F64 => Ok(floats::float_64(pieces)?),
+        Immediate::F32 => Ok(float_32(pieces)?),
+        Immediate::F64 => Ok(float_64(pieces)?),
         Immediate::Memory(natural) => Ok(memory::argument(natural, pieces)),
         Immediate::Zero => Ok((Argument::Zero, pieces)),
+        Immediate::HeapType => Ok(heap_argument(pieces)?),
+        Immediate::Select => uses::select_types(alloc, pieces),
+        Immediate::Zeros => Ok((Argument::Zeros, pieces)),
+        Immediate::Data => Ok(name_argument(scope.datas, pieces)?),
+        Immediate::MemoryInit => Ok(name_and_zero(scope.datas, pieces)?),
+        Immediate::Elem => Ok(name_argument(scope.elems, pieces)?),
+        Immediate::Table => Ok(table_arguments::table(scope.tables, pieces)?),
+        Immediate::TableCopy => table_arguments::copy(alloc, scope.tables, pieces),
+        Immediate::TableInit => table_arguments::init(alloc, scope.tables, scope.elems, pieces),
+        Immediate::Lane => Ok(vector_arguments::lane(pieces)?),
+        Immediate::MemoryLane(natural) => Ok(vector_arguments::memory_lane(natural, pieces)?),
+        Immediate::Shuffle => vector_arguments::vector(alloc, Lane::Index, pieces),
+        Immediate::Vector => vector_arguments::constant(alloc, pieces),
+    }
+}
+
+/// The opcode of an instruction with an immediate, where its word has this.
+fn opcode_of(opcode: Opcode, argument: &Argument) -> Opcode
+    ensures { result ≡ opcode_of opcode argument.now }
+{
+    match argument {
+        Argument::Select(_) => Opcode::Byte(0x1C),
+        Argument::Nothing
+        | Argument::Index(_)
+        | Argument::Labels(_)
+        | Argument::I32(_)
+        | Argument::I64(_)
+        | Argument::F32(_)
+        | Argument::F64(_)
+        | Argument::Indirect(_)
+        | Argument::Block(_)
+        | Argument::BlockUse(_)
+        | Argument::Memory(_, _)
+        | Argument::Zero
+        | Argument::HeapType(_)
+        | Argument::Zeros
+        | Argument::IndexZero(_)
+        | Argument::Pair(_)
+        | Argument::Lane(_)
+        | Argument::MemoryLane(_, _, _)
+        | Argument::Bytes(_) => opcode,
     }
 }
 
@@ -437,7 +562,7 @@ pub fn plain<'p, 'a>(
         [Piece::Word(word), rest @ ..] => match table::find(word) {
             Some(row) => {
                 let (argument, rest) = immediate(alloc, scope, frames, row.immediate, rest)?;
-                let opcode = row.opcode;
+                let opcode = opcode_of(row.opcode, &argument);
                 Ok((Instruction { opcode, argument }, rest))
             }
             None => Err(Refusal::Text(Fault {
@@ -556,7 +681,20 @@ pub fn is_then(word: &str) -> bool
     word == "then"
 }
 
-/// The number type of a word.
+/// The reference type of a word.
+pub fn reference_type(word: &str) -> Option<ReferenceType>
+    ensures { result ≡ reference_type word.now }
+{
+    if word == "funcref" {
+        Some(ReferenceType::Func)
+    } else if word == "externref" {
+        Some(ReferenceType::Extern)
+    } else {
+        None
+    }
+}
+
+/// The value type of a word.
 pub fn value_type(word: &str) -> Option<ValueType>
     ensures { result ≡ value_type word.now }
 {
@@ -568,7 +706,12 @@ pub fn value_type(word: &str) -> Option<ValueType>
         Some(ValueType::F32)
     } else if word == "f64" {
         Some(ValueType::F64)
+    } else if word == "v128" {
+        Some(ValueType::V128)
     } else {
-        None
+        match reference_type(word) {
+            Some(of) => Some(ValueType::Reference(of)),
+            None => None,
+        }
     }
 }

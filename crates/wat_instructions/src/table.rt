@@ -1,6 +1,8 @@
 //! The plain instructions.
-ghost use Rattle.std.specs.Prelude.{◌≡◌, map};
-ghost use Rattle.wat_instructions.specs.Table.{found, found_of, mnemonics, row_of};
+ghost use Rattle.std.specs.Prelude.{◌≡◌, ◌++◌, map};
+ghost use Rattle.wat_instructions.specs.Table.{found, found_of, high_vectors, low_vectors, mnemonics, prefixed, row_of};
+
+use crate::pieces::Opcode;
 
 /// Which immediate comes after a word.
 #[derive(Clone, Copy)]
@@ -22,13 +24,37 @@ pub enum Immediate {
     Memory(u8),
     /// None in the text, a byte 0 in the binary format.
     Zero,
+    /// The type of `ref.null`.
+    HeapType,
+    /// The types of `select`, or none.
+    Select,
+    /// None in the text, two bytes 0 in the binary format.
+    Zeros,
+    Data,
+    /// The data segment of `memory.init`, after which the binary format has a byte 0.
+    MemoryInit,
+    Elem,
+    /// A table, which may be left out.
+    Table,
+    /// The two tables of `table.copy`, or none.
+    TableCopy,
+    /// The table of `table.init`, which may be left out, and its elements.
+    TableInit,
+    /// An index of a lane.
+    Lane,
+    /// A memory argument, as that of `Memory`, and an index of a lane.
+    MemoryLane(u8),
+    /// The 16 indices of `i8x16.shuffle`.
+    Shuffle,
+    /// The shape and the lanes of `v128.const`.
+    Vector,
 }
 
-/// An instruction's word, its first byte, and its immediate.
+/// An instruction's word, its opcode, and its immediate.
 #[derive(Clone, Copy)]
 pub struct Row {
     pub word: &'static str,
-    pub opcode: u8,
+    pub opcode: Opcode,
     pub immediate: Immediate,
 }
 
@@ -36,13 +62,23 @@ macro_rules! row {
     ($word:expr, $opcode:expr, $immediate:expr) => {
         Row {
             word: $word,
-            opcode: $opcode,
+            opcode: Opcode::Byte($opcode),
             immediate: $immediate,
         }
     };
 }
 
-const LOW: [Row; 103] = [
+macro_rules! prefixed {
+    ($word:expr, $prefix:expr, $number:expr, $immediate:expr) => {
+        Row {
+            word: $word,
+            opcode: Opcode::Prefixed($prefix, $number),
+            immediate: $immediate,
+        }
+    };
+}
+
+const LOW: [Row; 105] = [
     row!("unreachable", 0x00, Immediate::No),
     row!("nop", 0x01, Immediate::No),
     row!("br", 0x0C, Immediate::Label),
@@ -52,12 +88,14 @@ const LOW: [Row; 103] = [
     row!("call", 0x10, Immediate::Func),
     row!("call_indirect", 0x11, Immediate::Indirect),
     row!("drop", 0x1A, Immediate::No),
-    row!("select", 0x1B, Immediate::No),
+    row!("select", 0x1B, Immediate::Select),
     row!("local.get", 0x20, Immediate::Local),
     row!("local.set", 0x21, Immediate::Local),
     row!("local.tee", 0x22, Immediate::Local),
     row!("global.get", 0x23, Immediate::Global),
     row!("global.set", 0x24, Immediate::Global),
+    row!("table.get", 0x25, Immediate::Table),
+    row!("table.set", 0x26, Immediate::Table),
     row!("i32.load", 0x28, Immediate::Memory(2)),
     row!("i64.load", 0x29, Immediate::Memory(3)),
     row!("f32.load", 0x2A, Immediate::Memory(2)),
@@ -148,7 +186,7 @@ const LOW: [Row; 103] = [
     row!("i64.div_s", 0x7F, Immediate::No),
 ];
 
-const HIGH: [Row; 69] = [
+const HIGH: [Row; 72] = [
     row!("i64.div_u", 0x80, Immediate::No),
     row!("i64.rem_s", 0x81, Immediate::No),
     row!("i64.rem_u", 0x82, Immediate::No),
@@ -218,6 +256,272 @@ const HIGH: [Row; 69] = [
     row!("i64.extend8_s", 0xC2, Immediate::No),
     row!("i64.extend16_s", 0xC3, Immediate::No),
     row!("i64.extend32_s", 0xC4, Immediate::No),
+    row!("ref.null", 0xD0, Immediate::HeapType),
+    row!("ref.is_null", 0xD1, Immediate::No),
+    row!("ref.func", 0xD2, Immediate::Func),
+];
+
+const PREFIXED: [Row; 18] = [
+    prefixed!("i32.trunc_sat_f32_s", 0xFC, 0, Immediate::No),
+    prefixed!("i32.trunc_sat_f32_u", 0xFC, 1, Immediate::No),
+    prefixed!("i32.trunc_sat_f64_s", 0xFC, 2, Immediate::No),
+    prefixed!("i32.trunc_sat_f64_u", 0xFC, 3, Immediate::No),
+    prefixed!("i64.trunc_sat_f32_s", 0xFC, 4, Immediate::No),
+    prefixed!("i64.trunc_sat_f32_u", 0xFC, 5, Immediate::No),
+    prefixed!("i64.trunc_sat_f64_s", 0xFC, 6, Immediate::No),
+    prefixed!("i64.trunc_sat_f64_u", 0xFC, 7, Immediate::No),
+    prefixed!("memory.init", 0xFC, 8, Immediate::MemoryInit),
+    prefixed!("data.drop", 0xFC, 9, Immediate::Data),
+    prefixed!("memory.copy", 0xFC, 10, Immediate::Zeros),
+    prefixed!("memory.fill", 0xFC, 11, Immediate::Zero),
+    prefixed!("table.init", 0xFC, 12, Immediate::TableInit),
+    prefixed!("elem.drop", 0xFC, 13, Immediate::Elem),
+    prefixed!("table.copy", 0xFC, 14, Immediate::TableCopy),
+    prefixed!("table.grow", 0xFC, 15, Immediate::Table),
+    prefixed!("table.size", 0xFC, 16, Immediate::Table),
+    prefixed!("table.fill", 0xFC, 17, Immediate::Table),
+];
+
+const LOW_VECTORS: [Row; 128] = [
+    prefixed!("v128.load", 0xFD, 0, Immediate::Memory(4)),
+    prefixed!("v128.load8x8_s", 0xFD, 1, Immediate::Memory(3)),
+    prefixed!("v128.load8x8_u", 0xFD, 2, Immediate::Memory(3)),
+    prefixed!("v128.load16x4_s", 0xFD, 3, Immediate::Memory(3)),
+    prefixed!("v128.load16x4_u", 0xFD, 4, Immediate::Memory(3)),
+    prefixed!("v128.load32x2_s", 0xFD, 5, Immediate::Memory(3)),
+    prefixed!("v128.load32x2_u", 0xFD, 6, Immediate::Memory(3)),
+    prefixed!("v128.load8_splat", 0xFD, 7, Immediate::Memory(0)),
+    prefixed!("v128.load16_splat", 0xFD, 8, Immediate::Memory(1)),
+    prefixed!("v128.load32_splat", 0xFD, 9, Immediate::Memory(2)),
+    prefixed!("v128.load64_splat", 0xFD, 10, Immediate::Memory(3)),
+    prefixed!("v128.store", 0xFD, 11, Immediate::Memory(4)),
+    prefixed!("v128.const", 0xFD, 12, Immediate::Vector),
+    prefixed!("i8x16.shuffle", 0xFD, 13, Immediate::Shuffle),
+    prefixed!("i8x16.swizzle", 0xFD, 14, Immediate::No),
+    prefixed!("i8x16.splat", 0xFD, 15, Immediate::No),
+    prefixed!("i16x8.splat", 0xFD, 16, Immediate::No),
+    prefixed!("i32x4.splat", 0xFD, 17, Immediate::No),
+    prefixed!("i64x2.splat", 0xFD, 18, Immediate::No),
+    prefixed!("f32x4.splat", 0xFD, 19, Immediate::No),
+    prefixed!("f64x2.splat", 0xFD, 20, Immediate::No),
+    prefixed!("i8x16.extract_lane_s", 0xFD, 21, Immediate::Lane),
+    prefixed!("i8x16.extract_lane_u", 0xFD, 22, Immediate::Lane),
+    prefixed!("i8x16.replace_lane", 0xFD, 23, Immediate::Lane),
+    prefixed!("i16x8.extract_lane_s", 0xFD, 24, Immediate::Lane),
+    prefixed!("i16x8.extract_lane_u", 0xFD, 25, Immediate::Lane),
+    prefixed!("i16x8.replace_lane", 0xFD, 26, Immediate::Lane),
+    prefixed!("i32x4.extract_lane", 0xFD, 27, Immediate::Lane),
+    prefixed!("i32x4.replace_lane", 0xFD, 28, Immediate::Lane),
+    prefixed!("i64x2.extract_lane", 0xFD, 29, Immediate::Lane),
+    prefixed!("i64x2.replace_lane", 0xFD, 30, Immediate::Lane),
+    prefixed!("f32x4.extract_lane", 0xFD, 31, Immediate::Lane),
+    prefixed!("f32x4.replace_lane", 0xFD, 32, Immediate::Lane),
+    prefixed!("f64x2.extract_lane", 0xFD, 33, Immediate::Lane),
+    prefixed!("f64x2.replace_lane", 0xFD, 34, Immediate::Lane),
+    prefixed!("i8x16.eq", 0xFD, 35, Immediate::No),
+    prefixed!("i8x16.ne", 0xFD, 36, Immediate::No),
+    prefixed!("i8x16.lt_s", 0xFD, 37, Immediate::No),
+    prefixed!("i8x16.lt_u", 0xFD, 38, Immediate::No),
+    prefixed!("i8x16.gt_s", 0xFD, 39, Immediate::No),
+    prefixed!("i8x16.gt_u", 0xFD, 40, Immediate::No),
+    prefixed!("i8x16.le_s", 0xFD, 41, Immediate::No),
+    prefixed!("i8x16.le_u", 0xFD, 42, Immediate::No),
+    prefixed!("i8x16.ge_s", 0xFD, 43, Immediate::No),
+    prefixed!("i8x16.ge_u", 0xFD, 44, Immediate::No),
+    prefixed!("i16x8.eq", 0xFD, 45, Immediate::No),
+    prefixed!("i16x8.ne", 0xFD, 46, Immediate::No),
+    prefixed!("i16x8.lt_s", 0xFD, 47, Immediate::No),
+    prefixed!("i16x8.lt_u", 0xFD, 48, Immediate::No),
+    prefixed!("i16x8.gt_s", 0xFD, 49, Immediate::No),
+    prefixed!("i16x8.gt_u", 0xFD, 50, Immediate::No),
+    prefixed!("i16x8.le_s", 0xFD, 51, Immediate::No),
+    prefixed!("i16x8.le_u", 0xFD, 52, Immediate::No),
+    prefixed!("i16x8.ge_s", 0xFD, 53, Immediate::No),
+    prefixed!("i16x8.ge_u", 0xFD, 54, Immediate::No),
+    prefixed!("i32x4.eq", 0xFD, 55, Immediate::No),
+    prefixed!("i32x4.ne", 0xFD, 56, Immediate::No),
+    prefixed!("i32x4.lt_s", 0xFD, 57, Immediate::No),
+    prefixed!("i32x4.lt_u", 0xFD, 58, Immediate::No),
+    prefixed!("i32x4.gt_s", 0xFD, 59, Immediate::No),
+    prefixed!("i32x4.gt_u", 0xFD, 60, Immediate::No),
+    prefixed!("i32x4.le_s", 0xFD, 61, Immediate::No),
+    prefixed!("i32x4.le_u", 0xFD, 62, Immediate::No),
+    prefixed!("i32x4.ge_s", 0xFD, 63, Immediate::No),
+    prefixed!("i32x4.ge_u", 0xFD, 64, Immediate::No),
+    prefixed!("f32x4.eq", 0xFD, 65, Immediate::No),
+    prefixed!("f32x4.ne", 0xFD, 66, Immediate::No),
+    prefixed!("f32x4.lt", 0xFD, 67, Immediate::No),
+    prefixed!("f32x4.gt", 0xFD, 68, Immediate::No),
+    prefixed!("f32x4.le", 0xFD, 69, Immediate::No),
+    prefixed!("f32x4.ge", 0xFD, 70, Immediate::No),
+    prefixed!("f64x2.eq", 0xFD, 71, Immediate::No),
+    prefixed!("f64x2.ne", 0xFD, 72, Immediate::No),
+    prefixed!("f64x2.lt", 0xFD, 73, Immediate::No),
+    prefixed!("f64x2.gt", 0xFD, 74, Immediate::No),
+    prefixed!("f64x2.le", 0xFD, 75, Immediate::No),
+    prefixed!("f64x2.ge", 0xFD, 76, Immediate::No),
+    prefixed!("v128.not", 0xFD, 77, Immediate::No),
+    prefixed!("v128.and", 0xFD, 78, Immediate::No),
+    prefixed!("v128.andnot", 0xFD, 79, Immediate::No),
+    prefixed!("v128.or", 0xFD, 80, Immediate::No),
+    prefixed!("v128.xor", 0xFD, 81, Immediate::No),
+    prefixed!("v128.bitselect", 0xFD, 82, Immediate::No),
+    prefixed!("v128.any_true", 0xFD, 83, Immediate::No),
+    prefixed!("v128.load8_lane", 0xFD, 84, Immediate::MemoryLane(0)),
+    prefixed!("v128.load16_lane", 0xFD, 85, Immediate::MemoryLane(1)),
+    prefixed!("v128.load32_lane", 0xFD, 86, Immediate::MemoryLane(2)),
+    prefixed!("v128.load64_lane", 0xFD, 87, Immediate::MemoryLane(3)),
+    prefixed!("v128.store8_lane", 0xFD, 88, Immediate::MemoryLane(0)),
+    prefixed!("v128.store16_lane", 0xFD, 89, Immediate::MemoryLane(1)),
+    prefixed!("v128.store32_lane", 0xFD, 90, Immediate::MemoryLane(2)),
+    prefixed!("v128.store64_lane", 0xFD, 91, Immediate::MemoryLane(3)),
+    prefixed!("v128.load32_zero", 0xFD, 92, Immediate::Memory(2)),
+    prefixed!("v128.load64_zero", 0xFD, 93, Immediate::Memory(3)),
+    prefixed!("f32x4.demote_f64x2_zero", 0xFD, 94, Immediate::No),
+    prefixed!("f64x2.promote_low_f32x4", 0xFD, 95, Immediate::No),
+    prefixed!("i8x16.abs", 0xFD, 96, Immediate::No),
+    prefixed!("i8x16.neg", 0xFD, 97, Immediate::No),
+    prefixed!("i8x16.popcnt", 0xFD, 98, Immediate::No),
+    prefixed!("i8x16.all_true", 0xFD, 99, Immediate::No),
+    prefixed!("i8x16.bitmask", 0xFD, 100, Immediate::No),
+    prefixed!("i8x16.narrow_i16x8_s", 0xFD, 101, Immediate::No),
+    prefixed!("i8x16.narrow_i16x8_u", 0xFD, 102, Immediate::No),
+    prefixed!("f32x4.ceil", 0xFD, 103, Immediate::No),
+    prefixed!("f32x4.floor", 0xFD, 104, Immediate::No),
+    prefixed!("f32x4.trunc", 0xFD, 105, Immediate::No),
+    prefixed!("f32x4.nearest", 0xFD, 106, Immediate::No),
+    prefixed!("i8x16.shl", 0xFD, 107, Immediate::No),
+    prefixed!("i8x16.shr_s", 0xFD, 108, Immediate::No),
+    prefixed!("i8x16.shr_u", 0xFD, 109, Immediate::No),
+    prefixed!("i8x16.add", 0xFD, 110, Immediate::No),
+    prefixed!("i8x16.add_sat_s", 0xFD, 111, Immediate::No),
+    prefixed!("i8x16.add_sat_u", 0xFD, 112, Immediate::No),
+    prefixed!("i8x16.sub", 0xFD, 113, Immediate::No),
+    prefixed!("i8x16.sub_sat_s", 0xFD, 114, Immediate::No),
+    prefixed!("i8x16.sub_sat_u", 0xFD, 115, Immediate::No),
+    prefixed!("f64x2.ceil", 0xFD, 116, Immediate::No),
+    prefixed!("f64x2.floor", 0xFD, 117, Immediate::No),
+    prefixed!("i8x16.min_s", 0xFD, 118, Immediate::No),
+    prefixed!("i8x16.min_u", 0xFD, 119, Immediate::No),
+    prefixed!("i8x16.max_s", 0xFD, 120, Immediate::No),
+    prefixed!("i8x16.max_u", 0xFD, 121, Immediate::No),
+    prefixed!("f64x2.trunc", 0xFD, 122, Immediate::No),
+    prefixed!("i8x16.avgr_u", 0xFD, 123, Immediate::No),
+    prefixed!("i16x8.extadd_pairwise_i8x16_s", 0xFD, 124, Immediate::No),
+    prefixed!("i16x8.extadd_pairwise_i8x16_u", 0xFD, 125, Immediate::No),
+    prefixed!("i32x4.extadd_pairwise_i16x8_s", 0xFD, 126, Immediate::No),
+    prefixed!("i32x4.extadd_pairwise_i16x8_u", 0xFD, 127, Immediate::No),
+];
+
+const HIGH_VECTORS: [Row; 108] = [
+    prefixed!("i16x8.abs", 0xFD, 128, Immediate::No),
+    prefixed!("i16x8.neg", 0xFD, 129, Immediate::No),
+    prefixed!("i16x8.q15mulr_sat_s", 0xFD, 130, Immediate::No),
+    prefixed!("i16x8.all_true", 0xFD, 131, Immediate::No),
+    prefixed!("i16x8.bitmask", 0xFD, 132, Immediate::No),
+    prefixed!("i16x8.narrow_i32x4_s", 0xFD, 133, Immediate::No),
+    prefixed!("i16x8.narrow_i32x4_u", 0xFD, 134, Immediate::No),
+    prefixed!("i16x8.extend_low_i8x16_s", 0xFD, 135, Immediate::No),
+    prefixed!("i16x8.extend_high_i8x16_s", 0xFD, 136, Immediate::No),
+    prefixed!("i16x8.extend_low_i8x16_u", 0xFD, 137, Immediate::No),
+    prefixed!("i16x8.extend_high_i8x16_u", 0xFD, 138, Immediate::No),
+    prefixed!("i16x8.shl", 0xFD, 139, Immediate::No),
+    prefixed!("i16x8.shr_s", 0xFD, 140, Immediate::No),
+    prefixed!("i16x8.shr_u", 0xFD, 141, Immediate::No),
+    prefixed!("i16x8.add", 0xFD, 142, Immediate::No),
+    prefixed!("i16x8.add_sat_s", 0xFD, 143, Immediate::No),
+    prefixed!("i16x8.add_sat_u", 0xFD, 144, Immediate::No),
+    prefixed!("i16x8.sub", 0xFD, 145, Immediate::No),
+    prefixed!("i16x8.sub_sat_s", 0xFD, 146, Immediate::No),
+    prefixed!("i16x8.sub_sat_u", 0xFD, 147, Immediate::No),
+    prefixed!("f64x2.nearest", 0xFD, 148, Immediate::No),
+    prefixed!("i16x8.mul", 0xFD, 149, Immediate::No),
+    prefixed!("i16x8.min_s", 0xFD, 150, Immediate::No),
+    prefixed!("i16x8.min_u", 0xFD, 151, Immediate::No),
+    prefixed!("i16x8.max_s", 0xFD, 152, Immediate::No),
+    prefixed!("i16x8.max_u", 0xFD, 153, Immediate::No),
+    prefixed!("i16x8.avgr_u", 0xFD, 155, Immediate::No),
+    prefixed!("i16x8.extmul_low_i8x16_s", 0xFD, 156, Immediate::No),
+    prefixed!("i16x8.extmul_high_i8x16_s", 0xFD, 157, Immediate::No),
+    prefixed!("i16x8.extmul_low_i8x16_u", 0xFD, 158, Immediate::No),
+    prefixed!("i16x8.extmul_high_i8x16_u", 0xFD, 159, Immediate::No),
+    prefixed!("i32x4.abs", 0xFD, 160, Immediate::No),
+    prefixed!("i32x4.neg", 0xFD, 161, Immediate::No),
+    prefixed!("i32x4.all_true", 0xFD, 163, Immediate::No),
+    prefixed!("i32x4.bitmask", 0xFD, 164, Immediate::No),
+    prefixed!("i32x4.extend_low_i16x8_s", 0xFD, 167, Immediate::No),
+    prefixed!("i32x4.extend_high_i16x8_s", 0xFD, 168, Immediate::No),
+    prefixed!("i32x4.extend_low_i16x8_u", 0xFD, 169, Immediate::No),
+    prefixed!("i32x4.extend_high_i16x8_u", 0xFD, 170, Immediate::No),
+    prefixed!("i32x4.shl", 0xFD, 171, Immediate::No),
+    prefixed!("i32x4.shr_s", 0xFD, 172, Immediate::No),
+    prefixed!("i32x4.shr_u", 0xFD, 173, Immediate::No),
+    prefixed!("i32x4.add", 0xFD, 174, Immediate::No),
+    prefixed!("i32x4.sub", 0xFD, 177, Immediate::No),
+    prefixed!("i32x4.mul", 0xFD, 181, Immediate::No),
+    prefixed!("i32x4.min_s", 0xFD, 182, Immediate::No),
+    prefixed!("i32x4.min_u", 0xFD, 183, Immediate::No),
+    prefixed!("i32x4.max_s", 0xFD, 184, Immediate::No),
+    prefixed!("i32x4.max_u", 0xFD, 185, Immediate::No),
+    prefixed!("i32x4.dot_i16x8_s", 0xFD, 186, Immediate::No),
+    prefixed!("i32x4.extmul_low_i16x8_s", 0xFD, 188, Immediate::No),
+    prefixed!("i32x4.extmul_high_i16x8_s", 0xFD, 189, Immediate::No),
+    prefixed!("i32x4.extmul_low_i16x8_u", 0xFD, 190, Immediate::No),
+    prefixed!("i32x4.extmul_high_i16x8_u", 0xFD, 191, Immediate::No),
+    prefixed!("i64x2.abs", 0xFD, 192, Immediate::No),
+    prefixed!("i64x2.neg", 0xFD, 193, Immediate::No),
+    prefixed!("i64x2.all_true", 0xFD, 195, Immediate::No),
+    prefixed!("i64x2.bitmask", 0xFD, 196, Immediate::No),
+    prefixed!("i64x2.extend_low_i32x4_s", 0xFD, 199, Immediate::No),
+    prefixed!("i64x2.extend_high_i32x4_s", 0xFD, 200, Immediate::No),
+    prefixed!("i64x2.extend_low_i32x4_u", 0xFD, 201, Immediate::No),
+    prefixed!("i64x2.extend_high_i32x4_u", 0xFD, 202, Immediate::No),
+    prefixed!("i64x2.shl", 0xFD, 203, Immediate::No),
+    prefixed!("i64x2.shr_s", 0xFD, 204, Immediate::No),
+    prefixed!("i64x2.shr_u", 0xFD, 205, Immediate::No),
+    prefixed!("i64x2.add", 0xFD, 206, Immediate::No),
+    prefixed!("i64x2.sub", 0xFD, 209, Immediate::No),
+    prefixed!("i64x2.mul", 0xFD, 213, Immediate::No),
+    prefixed!("i64x2.eq", 0xFD, 214, Immediate::No),
+    prefixed!("i64x2.ne", 0xFD, 215, Immediate::No),
+    prefixed!("i64x2.lt_s", 0xFD, 216, Immediate::No),
+    prefixed!("i64x2.gt_s", 0xFD, 217, Immediate::No),
+    prefixed!("i64x2.le_s", 0xFD, 218, Immediate::No),
+    prefixed!("i64x2.ge_s", 0xFD, 219, Immediate::No),
+    prefixed!("i64x2.extmul_low_i32x4_s", 0xFD, 220, Immediate::No),
+    prefixed!("i64x2.extmul_high_i32x4_s", 0xFD, 221, Immediate::No),
+    prefixed!("i64x2.extmul_low_i32x4_u", 0xFD, 222, Immediate::No),
+    prefixed!("i64x2.extmul_high_i32x4_u", 0xFD, 223, Immediate::No),
+    prefixed!("f32x4.abs", 0xFD, 224, Immediate::No),
+    prefixed!("f32x4.neg", 0xFD, 225, Immediate::No),
+    prefixed!("f32x4.sqrt", 0xFD, 227, Immediate::No),
+    prefixed!("f32x4.add", 0xFD, 228, Immediate::No),
+    prefixed!("f32x4.sub", 0xFD, 229, Immediate::No),
+    prefixed!("f32x4.mul", 0xFD, 230, Immediate::No),
+    prefixed!("f32x4.div", 0xFD, 231, Immediate::No),
+    prefixed!("f32x4.min", 0xFD, 232, Immediate::No),
+    prefixed!("f32x4.max", 0xFD, 233, Immediate::No),
+    prefixed!("f32x4.pmin", 0xFD, 234, Immediate::No),
+    prefixed!("f32x4.pmax", 0xFD, 235, Immediate::No),
+    prefixed!("f64x2.abs", 0xFD, 236, Immediate::No),
+    prefixed!("f64x2.neg", 0xFD, 237, Immediate::No),
+    prefixed!("f64x2.sqrt", 0xFD, 239, Immediate::No),
+    prefixed!("f64x2.add", 0xFD, 240, Immediate::No),
+    prefixed!("f64x2.sub", 0xFD, 241, Immediate::No),
+    prefixed!("f64x2.mul", 0xFD, 242, Immediate::No),
+    prefixed!("f64x2.div", 0xFD, 243, Immediate::No),
+    prefixed!("f64x2.min", 0xFD, 244, Immediate::No),
+    prefixed!("f64x2.max", 0xFD, 245, Immediate::No),
+    prefixed!("f64x2.pmin", 0xFD, 246, Immediate::No),
+    prefixed!("f64x2.pmax", 0xFD, 247, Immediate::No),
+    prefixed!("i32x4.trunc_sat_f32x4_s", 0xFD, 248, Immediate::No),
+    prefixed!("i32x4.trunc_sat_f32x4_u", 0xFD, 249, Immediate::No),
+    prefixed!("f32x4.convert_i32x4_s", 0xFD, 250, Immediate::No),
+    prefixed!("f32x4.convert_i32x4_u", 0xFD, 251, Immediate::No),
+    prefixed!("i32x4.trunc_sat_f64x2_s_zero", 0xFD, 252, Immediate::No),
+    prefixed!("i32x4.trunc_sat_f64x2_u_zero", 0xFD, 253, Immediate::No),
+    prefixed!("f64x2.convert_low_i32x4_s", 0xFD, 254, Immediate::No),
+    prefixed!("f64x2.convert_low_i32x4_u", 0xFD, 255, Immediate::No),
 ];
 
 /// The row of a word.
@@ -226,7 +530,23 @@ pub fn find(word: &str) -> Option<Row>
 {
     match find_in(&LOW, word) {
         Some(row) => Some(row),
-        None => find_in(&HIGH, word),
+        None => match find_in(&HIGH, word) {
+            Some(row) => Some(row),
+            None => find_prefixed(word),
+        },
+    }
+}
+
+/// The row of a word whose opcode has a prefix.
+fn find_prefixed(word: &str) -> Option<Row>
+    ensures { found_of result ≡ found word.now (prefixed ++ (low_vectors ++ high_vectors)) }
+{
+    match find_in(&PREFIXED, word) {
+        Some(row) => Some(row),
+        None => match find_in(&LOW_VECTORS, word) {
+            Some(row) => Some(row),
+            None => find_in(&HIGH_VECTORS, word),
+        },
     }
 }
 

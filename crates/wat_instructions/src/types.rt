@@ -3,7 +3,7 @@ ghost use Rattle.std.specs.Prelude.{◌≡◌, ◌<◌, ◌^◌, IfOk};
 ghost use Rattle.wat_instructions.specs.Types as spec;
 ghost use Rattle.wat_instructions.specs.Views.{type_of, use_of};
 
-use crate::pieces::ValueType;
+use crate::pieces::{ReferenceType, ValueType};
 use std::alloc::{AllocError, Global};
 use std::marker::Model;
 
@@ -111,7 +111,51 @@ impl IndirectCall {
     }
 }
 
-/// The byte of a number type.
+/// The types of `select`, in a box.
+#[derive(Drop)]
+pub struct SelectTypes {
+    types: Box<Vec<ValueType>>,
+}
+
+impl Model for SelectTypes {
+    ghost use Rattle.std.specs.Prelude.{List};
+    ghost use Rattle.wat_instructions.specs.declared.pieces.ValueType.{ValueType};
+
+    ghost Value = { List ValueType };
+
+    ghost view = { λ t. t.types.value.items };
+}
+
+impl SelectTypes {
+    /// These types.
+    pub fn new(alloc: Global, types: Vec<ValueType>) -> Result<SelectTypes, AllocError>
+        ensures { IfOk result (λ t. t ≡ types.items) }
+    {
+        match Box::new(alloc, types) {
+            Ok(types) => Ok(SelectTypes { types }),
+            Err(failed) => Err(AllocError::from(failed)),
+        }
+    }
+
+    /// What they are.
+    pub fn types(&self) -> &[ValueType]
+        ensures { result.now ≡ self.now }
+    {
+        &self.types
+    }
+}
+
+/// The byte of a reference type.
+pub fn reference_byte(of: ReferenceType) -> u8
+    ensures { result ≡ spec.reference_byte of }
+{
+    match of {
+        ReferenceType::Func => 0x70,
+        ReferenceType::Extern => 0x6F,
+    }
+}
+
+/// The byte of a value type.
 pub fn type_byte(of: ValueType) -> u8
     ensures { result ≡ spec.type_byte of }
 {
@@ -120,6 +164,8 @@ pub fn type_byte(of: ValueType) -> u8
         ValueType::I64 => 0x7E,
         ValueType::F32 => 0x7D,
         ValueType::F64 => 0x7C,
+        ValueType::V128 => 0x7B,
+        ValueType::Reference(of) => reference_byte(of),
     }
 }
 
@@ -131,7 +177,7 @@ fn same_values(some: &[ValueType], others: &[ValueType]) -> bool
         return false;
     }
     for (i, of) in some.iter().enumerate() {
-        if type_byte(*of) != type_byte(others[i]) {
+        if *of != others[i] {
             return false;
         }
     }

@@ -10,7 +10,9 @@ ghost use Rattle.wat_instructions.specs.Views.{type_of, use_of};
 use crate::names::IndexedNames;
 use crate::pieces::{Argument, Fault, FaultKind, Piece, Refusal, ValueType};
 use crate::reading::{Scope, index, value_type};
-use crate::types::{BoxedUse, FunctionType, IndirectCall, UnnamedUse, copied, same_type};
+use crate::types::{
+    BoxedUse, FunctionType, IndirectCall, SelectTypes, UnnamedUse, copied, same_type,
+};
 use std::alloc::{AllocError, Global};
 
 /// What is left to read, and whether it begins in a group.
@@ -341,8 +343,8 @@ fn agreed<'p, 'a>(
     }))
 }
 
-/// The table of `call_indirect`, which is the first where no index comes.
-fn table_index<'p, 'a>(
+/// The index of a table, which is the first where no index comes.
+pub(crate) fn table_index<'p, 'a>(
     tables: &IndexedNames<'_>,
     pieces: &'p [Piece<'a>],
 ) -> Result<(usize, &'p [Piece<'a>]), Fault<'p, 'a>>
@@ -380,6 +382,25 @@ pub(crate) fn indirect_call<'p, 'a>(
     let (uses, rest) = type_use(alloc, scope, rest)?;
     let call = IndirectCall::new(alloc, table, uses)?;
     Ok((Argument::Indirect(call), rest))
+}
+
+/// The types of `select`, where it says them.
+pub(crate) fn select_types<'p, 'a>(
+    alloc: Global,
+    pieces: &'p [Piece<'a>],
+) -> Result<(Argument, &'p [Piece<'a>]), Refusal<'p, 'a>>
+    ensures { MatchResult result
+        (λ r. grammar.select_by (grammar.after (codes "result") (map terminal pieces.now)) (map terminal pieces.now) ≡ Ok (r.0, map terminal r.1.now))
+        (λ e. Faults (grammar.select_by (grammar.after (codes "result") (map terminal pieces.now)) (map terminal pieces.now)) e) }
+{
+    match after("result", pieces) {
+        Some(_) => {
+            let (types, rest) = listed(alloc, "result", pieces)?;
+            let types = SelectTypes::new(alloc, types)?;
+            Ok((Argument::Select(types), rest))
+        }
+        None => Ok((Argument::Nothing, pieces)),
+    }
 }
 
 /// The type of a block: one result or none; or a type use.

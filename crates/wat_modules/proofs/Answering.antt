@@ -9,7 +9,7 @@ use Rattle.std.proofs.lemmas.Str.{IsCharBoundary-start}
 use Rattle.wat_lexer_parser.specs.places.Source.{Source}
 use Rattle.std.proofs.lemmas.Bool.Decides.{Decides-ltb}
 use Rattle.wat_lex.specs.declared.lexer.kinds.Token.{Token}
-use Rattle.wat_lex.specs.errors.Errors.{Report}
+use Rattle.wat_lex.specs.errors.Errors.{Report, Custom, IsUnlessMemory, report_in}
 use Rattle.wat_lex.specs.tokens.ReadableTokens.{IsTokenOf}
 use Rattle.wat_lex.specs.tokens.Tiling.{MaximalTiling}
 use Rattle.wat_lex.specs.tokens.EverySetting.{EachPlaceIsTiled, TilingsAreOne}
@@ -19,14 +19,16 @@ use Rattle.wat_lexer_parser.specs.laws.Blanking.{TextShows}
 use Rattle.wat_lexer_parser.specs.laws.ShownLaws.{AllShownIsOne, SomethingIsAllShown}
 use Rattle.wat_lexer_parser.specs.names.RegisteredNames.{no_names}
 use Rattle.wat_lexer_parser.specs.parser.State.{Answers, report_of}
+use Rattle.wat_instructions.specs.declared.pieces.FaultKind.{FaultKind}
 use Rattle.wat_instructions.specs.Grammar as grammar
+use Rattle.wat_instructions.specs.Terminals.{Terminal}
 use Rattle.wat_fields.specs.Binary.{module_bytes}
-use Rattle.wat_fields.specs.Fields.{Field}
+use Rattle.wat_fields.specs.Fields.{Field, Module}
 use Rattle.wat_fields.specs.Law.{ReadingIsGrammar}
 use Rattle.wat_fields.specs.Reading as reading
 use Rattle.wat_pieces.specs.Pieces.{plain, terminal_of}
-use Rattle.wat_pieces.specs.Shown.{TextShown}
-use Rattle.wat_modules.specs.Compiling.{Fits, Spells, compiled, compiled_by, compiled_tokens, fitted, too_long}
+use Rattle.wat_pieces.specs.Shown.{PiecesShown, TextShown}
+use Rattle.wat_modules.specs.Compiling.{Fits, Spells, compiled, compiled_by, compiled_tokens, fitted, message, place, too_long}
 
 -- what a text shows is one thing
 pub shows_one : TilingsAreOne → AllShownIsOne → (text : List ℕ) (us vs : List Token) (f g : Option Fault) → TextShows (plain text) no_names us f → TextShows (plain text) no_names vs g → (us ≡ vs) × (f ≡ g)
@@ -41,7 +43,7 @@ pub record Seen (text : List ℕ) (items : List Token) (error : Option (Option R
   pub reported : error ≡ option_map (λ f. Some (report_of text f)) fault
   pub readable : All (IsTokenOf text) items
 
-pub seen : (text : List ℕ) (items : List Token) (error : Option (Option Report)) → TextShown text items error → Seen text items error
+seen : (text : List ℕ) (items : List Token) (error : Option (Option Report)) → TextShown text items error → Seen text items error
 seen text items error h =
     let s = h.source in
     let e = ap (λ x. x.text) h.setting in
@@ -63,15 +65,42 @@ Answer = Result (Vec ℕ Global) (Option Report)
 abbrev pub Is : Result (List ℕ) Report → Answer → Type 0
 Is m r = Answers {T = Vec ℕ Global} true (λ bytes. bytes.items) m r
 
+-- the bytes of a module that the tokens are
+pub of_bytes : ReadingIsGrammar → (text : List ℕ) (us : List Token) (ts : List Terminal) (fs : List Field) (bytes : List ℕ) (r : Answer) → Module ts fs → bytes ≡ module_bytes fs → Is (fitted text bytes) r → ts ≡ map (terminal_of text) us → Is (compiled_tokens text us) r
+unfolding compiled_tokens
+of_bytes law text us ts fs bytes r m e a t =
+    let q : reading.whole (map (terminal_of text) us) ≡ Ok fs = ap reading.whole (sym t) ∙ (law ts fs).1 m in
+    subst (λ x. Is (compiled_by text us x) r) (sym q) (subst (λ b. Is (fitted text b) r) e a)
+
+-- the error of a fault with which so many tokens are left
+abbrev pub fault_report : List ℕ → List Token → FaultKind → ℕ → Report
+fault_report text us kind left = report_in text (place text us left) (Custom (message kind))
+
+unless_memory : (m : Report) (error : Option Report) → IsUnlessMemory error m → Is (Err m) (Err error)
+unless_memory m None h = refl
+unless_memory m (Some e) h = ap Err (sym h)
+
+pub of_fault : (text : List ℕ) (us : List Token) (ts : List Terminal) (kind : FaultKind) (left : List Terminal) (n : ℕ) (error : Option Report) → reading.whole ts ≡ Err (kind, left) → n ≡ length left → IsUnlessMemory error (fault_report text us kind n) → ts ≡ map (terminal_of text) us → Is (compiled_tokens text us) (Err error)
+unfolding compiled_tokens
+of_fault text us ts kind left n error e l h t =
+    let q : reading.whole (map (terminal_of text) us) ≡ Err (kind, left) = ap reading.whole (sym t) ∙ e in
+    subst (λ x. Is (compiled_by text us x) (Err error)) (sym q) (unless_memory (fault_report text us kind (length left)) error (subst (λ k. IsUnlessMemory error (fault_report text us kind k)) l h))
+
+-- the tokens of a text without a fault are those that are shown once more
+pub fault_of_tokens : TilingsAreOne → AllShownIsOne → (text : List ℕ) (items us : List Token) (shown : Option (Option Report)) (kind : FaultKind) (left : ℕ) (error : Option Report) → TextShown text items shown → IsUnlessMemory error (fault_report text items kind left) → TextShows (plain text) no_names us None → IsUnlessMemory error (fault_report text us kind left)
+fault_of_tokens tilings one text items us shown kind left error s h k =
+    let a = seen text items shown s in
+    subst (λ ts. IsUnlessMemory error (fault_report text ts kind left)) (shows_one tilings one text items us a.fault None a.shows k).0 h
+
 -- the answer is that of all that the text shows
 abbrev pub IsRefused : List ℕ → Answer → Type 0
 IsRefused text r = (tokens : List Token) (last : Option Fault) → TextShows (plain text) no_names tokens last → Is (compiled text tokens last) r
 
-pub refused_by : TilingsAreOne → AllShownIsOne → (text : List ℕ) (us : List Token) (f : Option Fault) (r : Answer) → TextShows (plain text) no_names us f → Is (compiled text us f) r → IsRefused text r
+refused_by : TilingsAreOne → AllShownIsOne → (text : List ℕ) (us : List Token) (f : Option Fault) (r : Answer) → TextShows (plain text) no_names us f → Is (compiled text us f) r → IsRefused text r
 refused_by tilings one text us f r h a = λ vs g k.
     let e = shows_one tilings one text us vs f g h k in subst (λ x. Is (compiled text vs x) r) e.1 (subst (λ x. Is (compiled text x f) r) e.0 a)
 
-pub spelled_by : ReadingIsGrammar → (text : List ℕ) (r : Answer) → IsRefused text r → (fs : List Field) → Spells text fs → Is (fitted text (module_bytes fs)) r
+spelled_by : ReadingIsGrammar → (text : List ℕ) (r : Answer) → IsRefused text r → (fs : List Field) → Spells text fs → Is (fitted text (module_bytes fs)) r
 unfolding compiled_tokens
 spelled_by law text r h = λ fs s.
     subst (λ q. Is (compiled_by text s.shown.tokens q) r) (ap reading.whole (sym s.shown.are) ∙ (law s.terminals fs).1 s.spelled) (h s.shown.tokens None s.shown.shown)
@@ -90,21 +119,55 @@ bytes_of law text us out h (Ok fs) e k =
     (fs, record { terminals = map (terminal_of text) us; shown = record { tokens = us; shown = h; are = refl }; spelled = (law (map (terminal_of text) us) fs).0 e }, f.0, f.1)
 bytes_of law text us out h (Err f) e k = cc
 
-pub bytes_by : ReadingIsGrammar → (text : List ℕ) (us : List Token) (f : Option Fault) (r : Answer) → TextShows (plain text) no_names us f → Is (compiled text us f) r → HasBytes text r
+bytes_by : ReadingIsGrammar → (text : List ℕ) (us : List Token) (f : Option Fault) (r : Answer) → TextShows (plain text) no_names us f → Is (compiled text us f) r → HasBytes text r
 unfolding compiled_tokens
 bytes_by law text us None (Ok out) h a = bytes_of law text us out h (reading.whole (map (terminal_of text) us)) refl a
 bytes_by law text us (Some f) (Ok out) h a = cc
 bytes_by law text us f (Err e) h a = tt
 
 -- the fault that was shown
-pub fault_is : (text : List ℕ) (us : List Token) (f : Option Fault) (e : Option Report) → Some e ≡ option_map (λ f. Some (report_of text f)) f → Is (compiled text us f) (Err e)
+fault_is : (text : List ℕ) (us : List Token) (f : Option Fault) (e : Option Report) → Some e ≡ option_map (λ f. Some (report_of text f)) f → Is (compiled text us f) (Err e)
 fault_is text us (Some f) e h = let k : e ≡ Some (report_of text f) = cc in subst (λ x. Is (Err (report_of text f)) (Err x)) (sym k) refl
 fault_is text us None e h = cc
 
 -- none was shown
-pub no_fault : (text : List ℕ) (us : List Token) (f : Option Fault) (r : Answer) → None ≡ option_map (λ f. Some (report_of text f)) f → Is (compiled_tokens text us) r → Is (compiled text us f) r
+no_fault : (text : List ℕ) (us : List Token) (f : Option Fault) (r : Answer) → None ≡ option_map (λ f. Some (report_of text f)) f → Is (compiled_tokens text us) r → Is (compiled text us f) r
 no_fault text us None r h a = a
 no_fault text us (Some f) r h a = cc
+
+shows_end : (text : List ℕ) (us : List Token) (f : Option Fault) → None ≡ option_map (λ f. Some (report_of text f)) f → TextShows (plain text) no_names us f → TextShows (plain text) no_names us None
+shows_end text us None e h = h
+shows_end text us (Some f) e h = cc
+
+-- the answer is that of what the text shows
+pub record IsCompiled (text : List ℕ) (r : Answer) : Type 0 where
+  pub tokens : List Token
+  pub fault : Option Fault
+  pub shows : TextShows (plain text) no_names tokens fault
+  pub is : Is (compiled text tokens fault) r
+
+pub compiled_fault : (text : List ℕ) (ts : List Terminal) (e : Option Report) → PiecesShown text ts (Some e) → IsCompiled text (Err e)
+compiled_fault text ts e h =
+    let s = seen text h.tokens (Some e) h.shown in
+    record { tokens = h.tokens; fault = s.fault; shows = s.shows; is = fault_is text h.tokens s.fault e s.reported }
+
+-- the answer for all tokens that these are
+abbrev pub IsOfTerminals : List ℕ → List Terminal → Answer → Type 0
+IsOfTerminals text ts r = (tokens : List Token) → TextShows (plain text) no_names tokens None → ts ≡ map (terminal_of text) tokens → Is (compiled_tokens text tokens) r
+
+pub compiled_end : (text : List ℕ) (ts : List Terminal) (r : Answer) → PiecesShown text ts None → IsOfTerminals text ts r → IsCompiled text r
+compiled_end text ts r h k =
+    let s = seen text h.tokens None h.shown in
+    record { tokens = h.tokens; fault = s.fault; shows = s.shows; is = no_fault text h.tokens s.fault r s.reported (k h.tokens (shows_end text h.tokens s.fault s.reported s.shows) h.are) }
+
+pub compiled_refused : TilingsAreOne → AllShownIsOne → (text : List ℕ) (r : Answer) → IsCompiled text r → IsRefused text r
+compiled_refused tilings one text r h = refused_by tilings one text h.tokens h.fault r h.shows h.is
+
+pub compiled_spelled : TilingsAreOne → AllShownIsOne → ReadingIsGrammar → (text : List ℕ) (r : Answer) → IsCompiled text r → (fs : List Field) → Spells text fs → Is (fitted text (module_bytes fs)) r
+compiled_spelled tilings one law text r h = spelled_by law text r (compiled_refused tilings one text r h)
+
+pub compiled_bytes : ReadingIsGrammar → (text : List ℕ) (r : Answer) → IsCompiled text r → HasBytes text r
+compiled_bytes law text r h = bytes_by law text h.tokens h.fault r h.shows h.is
 
 -- a text spells one module
 pub one_module : TilingsAreOne → AllShownIsOne → ReadingIsGrammar → (text : List ℕ) (fs gs : List Field) → Spells text fs → Spells text gs → fs ≡ gs

@@ -2,20 +2,20 @@
 //! grammar and binary format, by theorem.
 #![tactic(auto)]
 
-ghost use Rattle.std.specs.List.{All};
-ghost use Rattle.std.specs.Prelude.{◌≡◌, ◌<◌, ◌^◌, true, length, IfOk, List, Option, string_bytes};
+ghost use Rattle.std.specs.Prelude.{◌≡◌, ◌<◌, ◌^◌, true, length, map, IfOk, List, None, Option, string_bytes};
 ghost use Rattle.wat_fields.specs.Binary.{module_bytes};
 ghost use Rattle.wat_fields.specs.Fields.{Field};
+ghost use Rattle.wat_instructions.specs.Terminals.{terminal};
 ghost use Rattle.wat_lex.specs.declared.lexer.kinds.Token.{Token};
 ghost use Rattle.wat_lex.specs.errors.Errors.{Custom, IsUnlessMemory, report_in};
-ghost use Rattle.wat_lex.specs.tokens.ReadableTokens.{IsTokenOf};
 ghost use Rattle.wat_lexer_parser.specs.declared.parser.fault.Fault.{Fault};
 ghost use Rattle.wat_lexer_parser.specs.laws.Blanking.{TextShows};
 ghost use Rattle.wat_lexer_parser.specs.names.RegisteredNames.{no_names};
 ghost use Rattle.wat_lexer_parser.specs.parser.State.{Answers};
 ghost use Rattle.wat_modules.specs.Compiling.{Fits, Spells, compiled, compiled_tokens, fitted};
 ghost use Rattle.wat_modules.specs.Compiling as compiling;
-ghost use Rattle.wat_pieces.specs.Pieces.{plain};
+ghost use Rattle.wat_pieces.specs.Pieces.{plain, terminal_of};
+ghost use Rattle.wat_pieces.specs.Values.{AreWithin, draft_terminals};
 
 pub mod laws;
 #[cfg(test)]
@@ -23,11 +23,11 @@ mod tests;
 
 use std::alloc::Global;
 use wat_fields::fields;
-use wat_instructions::pieces::{FaultKind, Refusal};
+use wat_instructions::pieces::{FaultKind, Piece, Refusal};
 use wat_lexer_parser::Error;
 use wat_lexer_parser::lexer::Token;
 use wat_lexer_parser::token::Span;
-use wat_pieces::{Shown, pieces, shown_tokens, values};
+use wat_pieces::{Draft, ShownPieces, completed, shown_pieces, shown_tokens};
 
 /// The bytes of the module that a text spells.
 ///
@@ -59,29 +59,53 @@ pub fn compile(alloc: Global, text: &str) -> Result<Vec<u8>, Error>
     wat_lexer_parser::laws::all_shown();
     wat_fields::laws::reading_is_grammar();
     has_tokens(text);
-    let Shown { tokens, error } = shown_tokens(alloc, text)?;
+    let ShownPieces { draft, error } = shown_pieces(alloc, text)?;
     match error {
         Some(error) => Err(error),
-        None => of_tokens(alloc, text, &tokens),
+        None => of_draft(alloc, text, draft),
     }
 }
 
-/// The same of the tokens that count.
-#[tactic(auto, unfolding(crate::specs::Compiling::compiled_tokens))]
-fn of_tokens(alloc: Global, text: &str, tokens: &[Token]) -> Result<Vec<u8>, Error>
-    requires { All (IsTokenOf text.now) tokens.now }
-    ensures { Answers true (λ bytes. bytes.items) (compiled_tokens text.now tokens.now) result }
+/// The same of a text without a fault, of which these are the tokens that count.
+fn of_draft(alloc: Global, text: &str, draft: Draft<'_>) -> Result<Vec<u8>, Error>
+    requires short { length text.now < 2 ^ 32 }
+    requires within { AreWithin (length draft.pieces.items) draft.values.items }
+    ensures { (tokens : List Token) → TextShows (plain text.now) no_names tokens None →
+        draft_terminals draft.entry ≡ map (terminal_of text.now) tokens →
+        Answers true (λ bytes. bytes.items) (compiled_tokens text.now tokens) result }
+{
+    let Draft { pieces, values } = draft;
+    let pieces = completed(pieces, &values);
+    of_pieces(alloc, text, &pieces)
+}
+
+/// The same of pieces.
+fn of_pieces(alloc: Global, text: &str, pieces: &[Piece<'_>]) -> Result<Vec<u8>, Error>
+    requires { length text.now < 2 ^ 32 }
+    ensures { (tokens : List Token) → TextShows (plain text.now) no_names tokens None →
+        map terminal pieces.now ≡ map (terminal_of text.now) tokens →
+        Answers true (λ bytes. bytes.items) (compiled_tokens text.now tokens) result }
 {
     wat_fields::laws::reading_is_grammar();
-    let values = values(alloc, text, tokens)?;
-    let pieces = pieces(alloc, &values)?;
-    match fields::compile(alloc, &pieces) {
+    match fields::compile(alloc, pieces) {
         Ok(bytes) => fitting(alloc, text, bytes),
         Err(Refusal::Memory(refused)) => Err(Error::from(refused)),
-        Err(Refusal::Text(fault)) => {
-            let left = fault.left.len();
-            Err(error_of(alloc, text, tokens, fault.kind, left))
-        }
+        Err(Refusal::Text(fault)) => Err(fault_at(alloc, text, fault.kind, fault.left.len())),
+    }
+}
+
+/// The error of a fault, with which so many tokens of the text are left. They are read once more,
+/// since few texts have a fault and each text would keep them.
+fn fault_at(alloc: Global, text: &str, kind: FaultKind, left: usize) -> Error
+    requires { length text.now < 2 ^ 32 }
+    ensures { (tokens : List Token) → TextShows (plain text.now) no_names tokens None →
+        IsUnlessMemory result (report_in text.now (compiling.place text.now tokens left) (Custom (compiling.message kind))) }
+{
+    wat_lex::laws::one_tiling();
+    wat_lexer_parser::laws::all_shown();
+    match shown_tokens(alloc, text) {
+        Ok(shown) => error_of(alloc, text, &shown.tokens, kind, left),
+        Err(error) => error,
     }
 }
 

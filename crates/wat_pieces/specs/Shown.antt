@@ -1,5 +1,5 @@
 -- WebAssembly specification, text format, lexical format: all tokens that a text shows.
-use Rattle.std.specs.Prelude.{◌≡◌, ℕ, true, List, Option, Some, drop}
+use Rattle.std.specs.Prelude.{◌≡◌, ℕ, true, List, Option, Some, drop, map}
 use Rattle.std.specs.List.{All}
 use Rattle.wat_lex.specs.tokens.ReadableTokens.{IsTokenOf}
 use Rattle.std.specs.Option.{option_map}
@@ -10,6 +10,8 @@ use Rattle.wat_lexer_parser.specs.names.RegisteredNames.{Names, no_names}
 use Rattle.wat_lexer_parser.specs.parser.State.{report_of}
 use Rattle.wat_lexer_parser.specs.places.Source.{Source, IsRead}
 use Rattle.wat_lexer_parser.specs.laws.AllShown.{AllShown}
+use Rattle.wat_instructions.specs.Terminals.{Terminal}
+use Rattle.wat_pieces.specs.Pieces.{terminal_of}
 
 -- these tokens are shown from a place on, and this is the error of the fault after them where there is one
 pub record ShownFrom (s : Source) (names : Names) (place : ℕ) (items : List Token) (error : Option (Option Report)) : Type 0 where
@@ -26,3 +28,15 @@ pub record TextShown (text : List ℕ) (items : List Token) (error : Option (Opt
   pub setting : source.setting ≡ record { text = text; flags = record { allow = true; strict = true } }
   pub read : IsRead source
   pub shown : ShownFrom source no_names 0 items error
+
+-- the terminal symbols of all tokens that are shown from a place on, and the error of the fault after them
+pub record PiecesFrom (s : Source) (names : Names) (place : ℕ) (terminals : List Terminal) (error : Option (Option Report)) : Type 0 where
+  pub tokens : List Token
+  pub shown : ShownFrom s names place tokens error
+  pub are : terminals ≡ map (terminal_of s.setting.text) tokens
+
+-- the same of a whole text
+pub record PiecesShown (text : List ℕ) (terminals : List Terminal) (error : Option (Option Report)) : Type 0 where
+  pub tokens : List Token
+  pub shown : TextShown text tokens error
+  pub are : terminals ≡ map (terminal_of text) tokens

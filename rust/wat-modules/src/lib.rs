@@ -43,9 +43,9 @@ pub use wat_lex::{Error, Span};
 
 /// The bytes of the module that a text spells, in WebAssembly's binary format.
 ///
-/// As yet a module is `(module $name? field..)`, of types, imports, functions, tables, memories, globals, exports, a start function, elements and data, with names,
-/// inline imports, exports, elements and data. Value types are `i32`, `i64`, `f32` and `f64`. Instructions, plain, in blocks and folded, are
-/// those of WebAssembly 1.0 and the sign extensions, but for `br_table` and `call_indirect`. Blocks have at most one result.
+/// As yet a module is `(module $name? field..)`, or `field..` alone, of types, imports, functions, tables, memories, globals, exports, a start function, elements and data, with names,
+/// inline imports, exports, elements and data. Value types are `i32`, `i64`, `f32`, `f64`, `funcref` and `externref`. Instructions, plain, in blocks
+/// and folded, are those of WebAssembly 1.0 with the sign extensions, `ref.null`, `ref.is_null`, `ref.func`, and `select` with types.
 ///
 /// Where the text is such a module the answer is its bytes; where it is none, an error: both are proved of the text that this function is made of. A
 /// text spells one module at most. That the module is valid is not promised: no type of an operand is checked. There is no section of names.

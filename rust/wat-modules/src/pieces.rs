@@ -17,17 +17,41 @@ pub struct Shown {
     pub error: Option<Error>,
 }
 
-/// The value of a token.
-pub enum Value<'a> {
-    Open,
-    Close,
-    Word(&'a str),
-    Id(CowStr<'a>),
-    Integer(Sign, u64),
-    Float(Option<u32>, Option<u64>),
-    Text(CowSlice<'a, u8>),
-    Other,
+/// A value that the text does not have as it is, since escapes spell it.
+pub enum Value {
+    Id(String),
+    Text(Vec<u8>),
 }
+
+/// Such a value, and the place of its piece.
+pub struct Unescaped {
+    pub place: usize,
+    pub value: Value,
+}
+
+/// Pieces, and the values that are to be put in their places.
+pub struct Draft<'t> {
+    pub pieces: Vec<Piece<'t>>,
+    pub values: Vec<Unescaped>,
+}
+
+/// The pieces of the tokens that are shown, and the error of the fault after them.
+pub struct ShownPieces<'t> {
+    pub draft: Draft<'t>,
+    pub error: Option<Error>,
+}
+
+/// What a token is read as.
+enum Read<'t> {
+    Piece(Piece<'t>),
+    Value(Value),
+}
+
+/// What the lexer takes: all characters in comments and strings, and no doubled underscores.
+const SETTINGS: Settings = Settings {
+    allow: true,
+    strict: true,
+};
 
 /// All that a text shows where no name is registered.
 ///
@@ -39,11 +63,7 @@ pub enum Value<'a> {
 /// ensures refused { IfErr result (λ e. e ≡ None) }
 /// ```
 pub fn shown_tokens(alloc: Global, text: &str) -> Result<Shown, Error> {
-    let settings = Settings {
-        allow: true,
-        strict: true,
-    };
-    let buffer = LazyBuffer::new_with_lexer(alloc, Lexer::with_settings(text, settings));
+    let buffer = LazyBuffer::new_with_lexer(alloc, Lexer::with_settings(text, SETTINGS));
     let mut parser = buffer.parser();
     parser.step(|cursor| tokens_from(alloc, cursor))
 }
@@ -107,101 +127,192 @@ fn sign(sign: Option<SignToken>) -> Sign {
     }
 }
 
-/// The value of a token.
+/// What a token is read as.
 ///
 /// # Proved
 ///
 /// ```text
 /// requires { IsTokenOf text.now token.now }
-/// ensures { IfOk result (λ v. value_terminal v ≡ terminal_of text.now token.now) }
+/// ensures { IfOk result (λ r. read_terminal r ≡ terminal_of text.now token.now) }
 /// ```
-fn read_value<'a>(alloc: Global, text: &'a str, token: &Token) -> Result<Value<'a>, AllocError> {
+fn read_token<'t>(alloc: Global, text: &'t str, token: &Token) -> Result<Read<'t>, AllocError> {
     match token.kind {
-        TokenKind::LParen => Ok(Value::Open),
-        TokenKind::RParen => Ok(Value::Close),
-        TokenKind::Keyword => Ok(Value::Word(token.src(text))),
+        TokenKind::LParen => Ok(Read::Piece(Piece::Open)),
+        TokenKind::RParen => Ok(Read::Piece(Piece::Close)),
+        TokenKind::Keyword => Ok(Read::Piece(Piece::Word(token.src(text)))),
         TokenKind::Id => match token.name(alloc, text)? {
-            Ok(name) => Ok(Value::Id(name)),
-            Err(_) => Ok(Value::Other),
+            Ok(CowStr::Borrowed(name)) => Ok(Read::Piece(Piece::Id(name))),
+            Ok(CowStr::Owned(name)) => Ok(Read::Value(Value::Id(name))),
+            Err(_) => Ok(Read::Piece(Piece::Other)),
         },
         TokenKind::Integer(kind) => match token.magnitude(text, kind) {
-            Some(size) => Ok(Value::Integer(sign(kind.sign()), size)),
+            Some(size) => Ok(Read::Piece(Piece::Integer(sign(kind.sign()), size))),
             None => read_float(alloc, token.src(text)),
         },
         TokenKind::Float(_) => read_float(alloc, token.src(text)),
-        TokenKind::String => Ok(Value::Text(token.string(alloc, text)?)),
+        TokenKind::String => match token.string(alloc, text)? {
+            CowSlice::Borrowed(value) => Ok(Read::Piece(Piece::Text(value))),
+            CowSlice::Owned(value) => Ok(Read::Value(Value::Text(value))),
+        },
         TokenKind::LineComment
         | TokenKind::BlockComment
         | TokenKind::Whitespace
         | TokenKind::Annotation
-        | TokenKind::Reserved => Ok(Value::Other),
+        | TokenKind::Reserved => Ok(Read::Piece(Piece::Other)),
     }
 }
 
-/// The value of a number's word, as a float.
+/// What a number's word is read as, as a float.
 ///
 /// # Proved
 ///
 /// ```text
-/// ensures { IfOk result (λ v. value_terminal v ≡ float_of word.now) }
+/// ensures { IfOk result (λ r. read_terminal r ≡ float_of word.now) }
 /// ```
-fn read_float<'a>(alloc: Global, word: &str) -> Result<Value<'a>, AllocError> {
+fn read_float<'t>(alloc: Global, word: &str) -> Result<Read<'t>, AllocError> {
     let single = f32_bits(alloc, word)?;
     let double = f64_bits(alloc, word)?;
-    Ok(Value::Float(single, double))
+    Ok(Read::Piece(Piece::Float(single, double)))
 }
 
-/// The values of tokens.
+/// Appends what a token is read as.
 ///
 /// # Proved
 ///
 /// ```text
-/// requires { All (IsTokenOf text.now) tokens.now }
-/// ensures { IfOk result (λ vs. map value_terminal vs.items ≡ map (terminal_of text.now) tokens.now) }
+/// requires { AreWithin (length draft.old.pieces.items) draft.old.values.items }
+/// ensures is { OnOk result (draft_terminals draft.new ≡ draft_terminals draft.old ++ read_terminal read.entry ∷ []) }
+/// ensures within { OnOk result (AreWithin (length draft.new.pieces.items) draft.new.values.items) }
 /// ```
-pub fn values<'a>(
-    alloc: Global,
-    text: &'a str,
-    tokens: &[Token],
-) -> Result<Vec<Value<'a>>, AllocError> {
-    let mut all = Vec::new(alloc);
-    for token in tokens {
-        all.push(read_value(alloc, text, token)?)?;
+fn push<'t>(draft: &mut Draft<'t>, read: Read<'t>) -> Result<(), AllocError> {
+    match read {
+        Read::Piece(piece) => draft.pieces.push(piece)?,
+        Read::Value(value) => {
+            let place = draft.pieces.len();
+            draft.values.push(Unescaped { place, value })?;
+            draft.pieces.push(Piece::Other)?;
+        }
     }
-    Ok(all)
+    Ok(())
 }
 
-/// A value that is borrowed.
+/// Appends a token, as it is read.
+///
+/// # Proved
+///
+/// ```text
+/// requires token { IsTokenOf text.now token.now }
+/// requires within { AreWithin (length draft.old.pieces.items) draft.old.values.items }
+/// ensures is { OnOk result (draft_terminals draft.new ≡ draft_terminals draft.old ++ terminal_of text.now token.now ∷ []) }
+/// ensures within { OnOk result (AreWithin (length draft.new.pieces.items) draft.new.values.items) }
+/// ```
+fn push_token<'t>(
+    alloc: Global,
+    text: &'t str,
+    token: &Token,
+    draft: &mut Draft<'t>,
+) -> Result<(), AllocError> {
+    let read = read_token(alloc, text, token)?;
+    push(draft, read)
+}
+
+/// All that a text shows where no name is registered, as pieces.
+///
+/// # Proved
+///
+/// ```text
+/// requires { length text.now < 2 ^ 32 }
+/// ensures shown { IfOk result (λ r. PiecesShown text.now (draft_terminals r.draft) r.error) }
+/// ensures within { IfOk result (λ r. AreWithin (length r.draft.pieces.items) r.draft.values.items) }
+/// ensures refused { IfErr result (λ e. e ≡ None) }
+/// ```
+pub fn shown_pieces(alloc: Global, text: &str) -> Result<ShownPieces<'_>, Error> {
+    let buffer = LazyBuffer::new_with_lexer(alloc, Lexer::with_settings(text, SETTINGS));
+    let mut parser = buffer.parser();
+    parser.step(|cursor| pieces_from(alloc, text, cursor))
+}
+
+/// The same from a cursor on. The cursor that it answers is after them.
+///
+/// # Proved
+///
+/// ```text
+/// requires { from.parser.now.source.setting.text ≡ text.now }
+/// ensures shown { IfOk result (λ r.
+///     PiecesFrom from.entry.parser.now.source from.entry.parser.now.names from.entry.at
+///     (draft_terminals r.0.draft) r.0.error) }
+/// ensures within { IfOk result (λ r. AreWithin (length r.0.draft.pieces.items) r.0.draft.values.items) }
+/// ensures parser { IfOk result (λ r. r.1.parser ≡ from.entry.parser) }
+/// ensures on { IfOk result (λ r. from.entry.at ≤ r.1.at) }
+/// ensures refused { IfErr result (λ e. e ≡ None) }
+/// ```
+fn pieces_from<'p, 'a, 't>(
+    alloc: Global,
+    text: &'t str,
+    from: Cursor<'p, 'a>,
+) -> Result<(ShownPieces<'t>, Cursor<'p, 'a>), Error> {
+    laws::all_shown();
+    from.lemma_sound();
+    let mut draft = Draft {
+        pieces: Vec::new(alloc),
+        values: Vec::new(alloc),
+    };
+    let mut cursor = from;
+    'tokens: loop {
+        match cursor.any() {
+            Ok(Some((token, next))) => {
+                push_token(alloc, text, &token, &mut draft)?;
+                cursor = next;
+            }
+            Ok(None) => return Ok((ShownPieces { draft, error: None }, cursor)),
+            Err(error) if error.is_out_of_memory() => return Err(error),
+            Err(error) => {
+                let error = Some(error);
+                return Ok((ShownPieces { draft, error }, cursor));
+            }
+        }
+    }
+}
+
+/// A value as a piece.
 ///
 /// # Proved
 ///
 /// ```text
 /// ensures { terminal result ≡ value_terminal value.now }
 /// ```
-fn piece<'v>(value: &'v Value<'_>) -> Piece<'v> {
+fn piece(value: &Value) -> Piece<'_> {
     match value {
-        Value::Open => Piece::Open,
-        Value::Close => Piece::Close,
-        Value::Word(word) => Piece::Word(*word),
         Value::Id(name) => Piece::Id(name.as_str()),
-        Value::Integer(sign, size) => Piece::Integer(*sign, *size),
-        Value::Float(single, double) => Piece::Float(*single, *double),
         Value::Text(text) => Piece::Text(text.as_slice()),
-        Value::Other => Piece::Other,
     }
 }
 
-/// The values, borrowed.
+/// Puts a value in its place.
 ///
 /// # Proved
 ///
 /// ```text
-/// ensures { IfOk result (λ ps. map terminal ps.items ≡ map value_terminal values.now) }
+/// requires { unescaped.now.place < length pieces.old.items }
+/// ensures is { map terminal pieces.new.items ≡ slice_set (map terminal pieces.old.items) unescaped.now.place (value_terminal unescaped.now.value) }
+/// ensures long { length pieces.new.items ≡ length pieces.old.items }
 /// ```
-pub fn pieces<'v>(alloc: Global, values: &'v [Value<'_>]) -> Result<Vec<Piece<'v>>, AllocError> {
-    let mut all = Vec::new(alloc);
-    for value in values {
-        all.push(piece(value))?;
+fn put<'v>(pieces: &mut Vec<Piece<'v>>, unescaped: &'v Unescaped) {
+    pieces[unescaped.place] = piece(&unescaped.value);
+}
+
+/// Pieces with the values in their places.
+///
+/// # Proved
+///
+/// ```text
+/// requires { AreWithin (length pieces.items) values.now }
+/// ensures { map terminal result.items ≡ completed (map terminal pieces.entry.items) values.now }
+/// ```
+pub fn completed<'v>(pieces: Vec<Piece<'v>>, values: &'v [Unescaped]) -> Vec<Piece<'v>> {
+    let mut pieces = pieces;
+    for unescaped in values {
+        put(&mut pieces, unescaped);
     }
-    Ok(all)
+    pieces
 }

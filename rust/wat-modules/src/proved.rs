@@ -7,11 +7,11 @@ pub mod laws;
 
 use wat_lex::shim::alloc::Global;
 use crate::fields::fields;
-use crate::instructions::pieces::{FaultKind, Refusal};
+use crate::instructions::pieces::{FaultKind, Piece, Refusal};
 use wat_parser::proved::Error;
 use wat_parser::proved::lexer::Token;
 use wat_parser::proved::token::Span;
-use crate::pieces::{Shown, pieces, shown_tokens, values};
+use crate::pieces::{Draft, ShownPieces, completed, shown_pieces, shown_tokens};
 
 /// The bytes of the module that a text spells.
 ///
@@ -47,32 +47,65 @@ pub fn compile(alloc: Global, text: &str) -> Result<Vec<u8>, Error> {
     wat_parser::proved::laws::all_shown();
     crate::fields::laws::reading_is_grammar();
     has_tokens(text);
-    let Shown { tokens, error } = shown_tokens(alloc, text)?;
+    let ShownPieces { draft, error } = shown_pieces(alloc, text)?;
     match error {
         Some(error) => Err(error),
-        None => of_tokens(alloc, text, &tokens),
+        None => of_draft(alloc, text, draft),
     }
 }
 
-/// The same of the tokens that count.
+/// The same of a text without a fault, of which these are the tokens that count.
 ///
 /// # Proved
 ///
 /// ```text
-/// requires { All (IsTokenOf text.now) tokens.now }
-/// ensures { Answers true (λ bytes. bytes.items) (compiled_tokens text.now tokens.now) result }
+/// requires short { length text.now < 2 ^ 32 }
+/// requires within { AreWithin (length draft.pieces.items) draft.values.items }
+/// ensures { (tokens : List Token) → TextShows (plain text.now) no_names tokens None →
+///     draft_terminals draft.entry ≡ map (terminal_of text.now) tokens →
+///     Answers true (λ bytes. bytes.items) (compiled_tokens text.now tokens) result }
 /// ```
-fn of_tokens(alloc: Global, text: &str, tokens: &[Token]) -> Result<Vec<u8>, Error> {
+fn of_draft(alloc: Global, text: &str, draft: Draft<'_>) -> Result<Vec<u8>, Error> {
+    let Draft { pieces, values } = draft;
+    let pieces = completed(pieces, &values);
+    of_pieces(alloc, text, &pieces)
+}
+
+/// The same of pieces.
+///
+/// # Proved
+///
+/// ```text
+/// requires { length text.now < 2 ^ 32 }
+/// ensures { (tokens : List Token) → TextShows (plain text.now) no_names tokens None →
+///     map terminal pieces.now ≡ map (terminal_of text.now) tokens →
+///     Answers true (λ bytes. bytes.items) (compiled_tokens text.now tokens) result }
+/// ```
+fn of_pieces(alloc: Global, text: &str, pieces: &[Piece<'_>]) -> Result<Vec<u8>, Error> {
     crate::fields::laws::reading_is_grammar();
-    let values = values(alloc, text, tokens)?;
-    let pieces = pieces(alloc, &values)?;
-    match fields::compile(alloc, &pieces) {
+    match fields::compile(alloc, pieces) {
         Ok(bytes) => fitting(alloc, text, bytes),
         Err(Refusal::Memory(refused)) => Err(Error::from(refused)),
-        Err(Refusal::Text(fault)) => {
-            let left = fault.left.len();
-            Err(error_of(alloc, text, tokens, fault.kind, left))
-        }
+        Err(Refusal::Text(fault)) => Err(fault_at(alloc, text, fault.kind, fault.left.len())),
+    }
+}
+
+/// The error of a fault, with which so many tokens of the text are left. They are read once more,
+/// since few texts have a fault and each text would keep them.
+///
+/// # Proved
+///
+/// ```text
+/// requires { length text.now < 2 ^ 32 }
+/// ensures { (tokens : List Token) → TextShows (plain text.now) no_names tokens None →
+///     IsUnlessMemory result (report_in text.now (compiling.place text.now tokens left) (Custom (compiling.message kind))) }
+/// ```
+fn fault_at(alloc: Global, text: &str, kind: FaultKind, left: usize) -> Error {
+    wat_lex::proved::laws::one_tiling();
+    wat_parser::proved::laws::all_shown();
+    match shown_tokens(alloc, text) {
+        Ok(shown) => error_of(alloc, text, &shown.tokens, kind, left),
+        Err(error) => error,
     }
 }
 

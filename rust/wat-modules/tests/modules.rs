@@ -57,7 +57,9 @@ fn functions_have_their_bytes() {
 
 #[test]
 fn modules_have_their_bytes() {
-    assert_eq!(parse_str("(module)").unwrap(), HEADER);
+    for text in ["(module)", "", "(;;)"] {
+        assert_eq!(parse_str(text).unwrap(), HEADER);
+    }
     let text = "(module $m (func (export \"a\") (param $x i32) (result i32) local.get $x))";
     let sections = b"\x01\x06\x01\x60\x01\x7f\x01\x7f\x03\x02\x01\x00\x07\x05\x01\x01a\x00\x00\x0a\x06\x01\x04\x00\x20\x00\x0b";
     assert_eq!(
@@ -78,7 +80,7 @@ fn fields_have_their_bytes() {
             b"\x01\x08\x02\x60\x01\x7f\x00\x60\x00\x00\x02\x07\x01\x01m\x01n\x00\x00\x03\x02\x01\x01\x07\x05\x01\x01e\x00\x01\x0a\x06\x01\x04\x00\x10\x00\x0b",
         ),
         (
-            "(module (memory $m (export \"m\") 0x1 1_0))",
+            "(memory $m (export \"m\") 0x1 1_0)",
             b"\x05\x04\x01\x01\x01\x0a\x07\x05\x01\x01m\x02\x00",
         ),
         (
@@ -111,7 +113,8 @@ fn fields_have_their_bytes() {
 #[test]
 fn refusals_have_their_place() {
     let rows = [
-        ("", "unexpected token", 0),
+        ("$m", "unexpected token", 0),
+        ("(func) (module)", "unknown keyword", 8),
         ("(module) x", "unexpected token", 9),
         ("(module (func nop)", "unexpected token", 18),
         ("(module (data 0))", "unexpected token", 14),
@@ -222,7 +225,7 @@ fn prefixes_are_answered() {
     let functions = (0..12).map(|at| function.replace('N', &at.to_string()));
     let text = format!("(module {})", functions.collect::<String>());
     assert!(text.len() > 2000, "{} bytes", text.len());
-    for end in (0..text.len()).filter(|end| text.is_char_boundary(*end)) {
+    for end in (1..text.len()).filter(|end| text.is_char_boundary(*end)) {
         let error = parse_str(&text[..end]).expect_err("a part of a module");
         assert!(error.span().offset() <= end, "{end}");
     }

@@ -1,29 +1,40 @@
-use Rattle.std.proofs.Common.{◌∙◌, sym, subst, Err}
-use Rattle.wat_modules.specs.Compiling.{compiled_tokens}
-use Rattle.wat_modules.proofs.Answering.{Is, seen, refused_by, spelled_by, bytes_by, fault_is, no_fault}
+use Rattle.std.proofs.Common.{None, Some}
+use Rattle.wat_pieces.specs.Shown.{PiecesShown}
+use Rattle.wat_pieces.specs.Values.{draft_terminals}
+use Rattle.wat_modules.proofs.Answering.{compiled_bytes, compiled_end, compiled_fault, compiled_refused, compiled_spelled}
 use Rattle.wat_modules.proofs.compile.Goals as goal
 
 pub returns-in-Some-clause-spelled : goal.returns-in-Some-clause-spelled
 returns-in-Some-clause-spelled c =
-    let s = seen c.args.text.now c.in_ok-tokens.field-0.tokens.items c.in_ok-tokens.field-0.error c.in_ok-tokens.ensures.shown in
-    spelled_by c.reading_is_grammar.ensures c.args.text.now (Err c.in-Some.error) (refused_by c.one_tiling.ensures.one c.all_shown.ensures.all_one c.args.text.now c.in_ok-tokens.field-0.tokens.items s.fault (Err c.in-Some.error) s.shows (fault_is c.args.text.now c.in_ok-tokens.field-0.tokens.items s.fault c.in-Some.error (sym c.in-Some.is ∙ s.reported)))
+    let text = c.args.text.now in
+    let d = c.in_ok-draft.field-0 in
+    let h : PiecesShown text (draft_terminals d.draft) (Some c.in-Some.error) = rw c.in-Some.is at c.in_ok-draft.ensures.shown in
+    compiled_spelled c.one_tiling.ensures.one c.all_shown.ensures.all_one c.reading_is_grammar.ensures text _ (compiled_fault text (draft_terminals d.draft) c.in-Some.error h)
 
 pub returns-in-Some-clause-refused : goal.returns-in-Some-clause-refused
 returns-in-Some-clause-refused c =
-    let s = seen c.args.text.now c.in_ok-tokens.field-0.tokens.items c.in_ok-tokens.field-0.error c.in_ok-tokens.ensures.shown in
-    refused_by c.one_tiling.ensures.one c.all_shown.ensures.all_one c.args.text.now c.in_ok-tokens.field-0.tokens.items s.fault (Err c.in-Some.error) s.shows (fault_is c.args.text.now c.in_ok-tokens.field-0.tokens.items s.fault c.in-Some.error (sym c.in-Some.is ∙ s.reported))
+    let text = c.args.text.now in
+    let d = c.in_ok-draft.field-0 in
+    let h : PiecesShown text (draft_terminals d.draft) (Some c.in-Some.error) = rw c.in-Some.is at c.in_ok-draft.ensures.shown in
+    compiled_refused c.one_tiling.ensures.one c.all_shown.ensures.all_one text _ (compiled_fault text (draft_terminals d.draft) c.in-Some.error h)
 
-pub returns-clause-bytes : goal.returns-clause-bytes
-returns-clause-bytes c =
-    let s = seen c.args.text.now c.in_ok-tokens.field-0.tokens.items c.in_ok-tokens.field-0.error c.in_ok-tokens.ensures.shown in
-    bytes_by c.reading_is_grammar.ensures c.args.text.now c.in_ok-tokens.field-0.tokens.items s.fault c.of_tokens.result s.shows (no_fault c.args.text.now c.in_ok-tokens.field-0.tokens.items s.fault c.of_tokens.result (sym c.in-None.is ∙ s.reported) (subst (λ ts. Is (compiled_tokens c.args.text.now ts) c.of_tokens.result) c.deref.ensures.value c.of_tokens.ensures))
+pub returns-in-None-clause-bytes : goal.returns-in-None-clause-bytes
+returns-in-None-clause-bytes c =
+    let text = c.args.text.now in
+    let ts = draft_terminals c.in_ok-draft.field-0.draft in
+    let h : PiecesShown text ts None = rw c.in-None.is at c.in_ok-draft.ensures.shown in
+    compiled_bytes c.reading_is_grammar.ensures text c.of_draft.result (compiled_end text ts c.of_draft.result h c.of_draft.ensures)
 
-pub returns-clause-spelled : goal.returns-clause-spelled
-returns-clause-spelled c =
-    let s = seen c.args.text.now c.in_ok-tokens.field-0.tokens.items c.in_ok-tokens.field-0.error c.in_ok-tokens.ensures.shown in
-    spelled_by c.reading_is_grammar.ensures c.args.text.now c.of_tokens.result (refused_by c.one_tiling.ensures.one c.all_shown.ensures.all_one c.args.text.now c.in_ok-tokens.field-0.tokens.items s.fault c.of_tokens.result s.shows (no_fault c.args.text.now c.in_ok-tokens.field-0.tokens.items s.fault c.of_tokens.result (sym c.in-None.is ∙ s.reported) (subst (λ ts. Is (compiled_tokens c.args.text.now ts) c.of_tokens.result) c.deref.ensures.value c.of_tokens.ensures)))
+pub returns-in-None-clause-spelled : goal.returns-in-None-clause-spelled
+returns-in-None-clause-spelled c =
+    let text = c.args.text.now in
+    let ts = draft_terminals c.in_ok-draft.field-0.draft in
+    let h : PiecesShown text ts None = rw c.in-None.is at c.in_ok-draft.ensures.shown in
+    compiled_spelled c.one_tiling.ensures.one c.all_shown.ensures.all_one c.reading_is_grammar.ensures text c.of_draft.result (compiled_end text ts c.of_draft.result h c.of_draft.ensures)
 
-pub returns-clause-refused : goal.returns-clause-refused
-returns-clause-refused c =
-    let s = seen c.args.text.now c.in_ok-tokens.field-0.tokens.items c.in_ok-tokens.field-0.error c.in_ok-tokens.ensures.shown in
-    refused_by c.one_tiling.ensures.one c.all_shown.ensures.all_one c.args.text.now c.in_ok-tokens.field-0.tokens.items s.fault c.of_tokens.result s.shows (no_fault c.args.text.now c.in_ok-tokens.field-0.tokens.items s.fault c.of_tokens.result (sym c.in-None.is ∙ s.reported) (subst (λ ts. Is (compiled_tokens c.args.text.now ts) c.of_tokens.result) c.deref.ensures.value c.of_tokens.ensures))
+pub returns-in-None-clause-refused : goal.returns-in-None-clause-refused
+returns-in-None-clause-refused c =
+    let text = c.args.text.now in
+    let ts = draft_terminals c.in_ok-draft.field-0.draft in
+    let h : PiecesShown text ts None = rw c.in-None.is at c.in_ok-draft.ensures.shown in
+    compiled_refused c.one_tiling.ensures.one c.all_shown.ensures.all_one text c.of_draft.result (compiled_end text ts c.of_draft.result h c.of_draft.ensures)

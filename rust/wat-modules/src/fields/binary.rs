@@ -4,12 +4,14 @@
 use wat_lex::shim::prelude::*;
 use crate::fields::fields::{
     ElemMode, Export, ExternType, Field, Function, GlobalType, Import, IndexSpace, Limits,
-    ReferenceType, TableType, Target, TypeUse, Variable,
+    TableType, Target, TypeUse, Variable,
 };
 use crate::fields::uses::function_type;
 use wat_lex::shim::alloc::{AllocError, Global};
-use crate::instructions::pieces::{Argument, Instruction, ValueType};
-use crate::instructions::types::{FunctionType, UnnamedUse, copied, same_type, type_byte};
+use crate::instructions::pieces::{Argument, Instruction, Opcode, ReferenceType, ValueType};
+use crate::instructions::types::{
+    FunctionType, UnnamedUse, copied, reference_byte, same_type, type_byte,
+};
 use wat_lex::proved::encode::{Encode, EncodeError};
 
 /// The magic number and the version.
@@ -91,6 +93,41 @@ fn put_labels(out: &mut Vec<u8>, labels: &[usize]) -> Result<(), AllocError> {
     Ok(())
 }
 
+/// Appends value types after their number.
+///
+/// # Proved
+///
+/// ```text
+/// ensures { OnOk result (out.new.items ≡ out.old.items ++ text_encoding (map type_byte types.now)) }
+/// ```
+fn put_values(out: &mut Vec<u8>, types: &[ValueType]) -> Result<(), AllocError> {
+    put(out, types.len())?;
+    for of in types {
+        out.push(type_byte(*of))?;
+    }
+    Ok(())
+}
+
+/// Appends what an instruction begins with.
+///
+/// # Proved
+///
+/// ```text
+/// ensures { OnOk result (out.new.items ≡ out.old.items ++ binary.opcode_bytes opcode) }
+/// ```
+fn put_opcode(out: &mut Vec<u8>, opcode: Opcode) -> Result<(), AllocError> {
+    match opcode {
+        Opcode::Byte(byte) => {
+            out.push(byte)?;
+            Ok(())
+        }
+        Opcode::Prefixed(prefix, number) => {
+            out.push(prefix)?;
+            put(out, usize::from(number))
+        }
+    }
+}
+
 /// Appends an instruction.
 ///
 /// # Proved
@@ -103,8 +140,23 @@ fn put_instruction(
     types: &[FunctionType],
     instruction: &Instruction,
 ) -> Result<(), AllocError> {
-    out.push(instruction.opcode)?;
-    match &instruction.argument {
+    put_opcode(out, instruction.opcode)?;
+    put_argument(out, types, &instruction.argument)
+}
+
+/// Appends the immediate of an instruction.
+///
+/// # Proved
+///
+/// ```text
+/// ensures { OnOk result (out.new.items ≡ out.old.items ++ binary.argument_bytes (map type_of types.now) argument.now) }
+/// ```
+fn put_argument(
+    out: &mut Vec<u8>,
+    types: &[FunctionType],
+    argument: &Argument,
+) -> Result<(), AllocError> {
+    match argument {
         Argument::Nothing => Ok(()),
         Argument::Index(n) => put(out, *n),
         Argument::Labels(table) => {
@@ -143,6 +195,38 @@ fn put_instruction(
         }
         Argument::Zero => {
             out.push(0)?;
+            Ok(())
+        }
+        Argument::HeapType(of) => {
+            out.push(reference_byte(*of))?;
+            Ok(())
+        }
+        Argument::Select(types) => put_values(out, types.types()),
+        Argument::Zeros => {
+            out.extend_from_slice(&[0, 0])?;
+            Ok(())
+        }
+        Argument::IndexZero(n) => {
+            put(out, *n)?;
+            out.push(0)?;
+            Ok(())
+        }
+        Argument::Pair(pair) => {
+            put(out, pair.first())?;
+            put(out, pair.second())
+        }
+        Argument::Lane(n) => {
+            out.push(*n)?;
+            Ok(())
+        }
+        Argument::MemoryLane(align, offset, n) => {
+            put(out, usize::from(*align))?;
+            put(out, *offset as usize)?;
+            out.push(*n)?;
+            Ok(())
+        }
+        Argument::Bytes(vector) => {
+            out.extend_from_slice(vector.bytes())?;
             Ok(())
         }
     }
@@ -265,7 +349,15 @@ fn instruction_use(instruction: &Instruction) -> Option<&UnnamedUse> {
         | Argument::F64(_)
         | Argument::Block(_)
         | Argument::Memory(_, _)
-        | Argument::Zero => None,
+        | Argument::Zero
+        | Argument::HeapType(_)
+        | Argument::Select(_)
+        | Argument::Zeros
+        | Argument::IndexZero(_)
+        | Argument::Pair(_)
+        | Argument::Lane(_)
+        | Argument::MemoryLane(_, _, _)
+        | Argument::Bytes(_) => None,
     }
 }
 
@@ -1030,20 +1122,6 @@ fn put_limits(out: &mut Vec<u8>, limits: Limits) -> Result<(), AllocError> {
     }
 }
 
-/// The byte of a reference type.
-///
-/// # Proved
-///
-/// ```text
-/// ensures { result ≡ binary.reference_byte of }
-/// ```
-fn reference_byte(of: ReferenceType) -> u8 {
-    match of {
-        ReferenceType::Func => 0x70,
-        ReferenceType::Extern => 0x6F,
-    }
-}
-
 /// Appends the type of a table.
 ///
 /// # Proved
@@ -1330,8 +1408,22 @@ fn put_data(
 /// ```
 fn zero() -> Instruction {
     Instruction {
-        opcode: 0x41,
+        opcode: Opcode::Byte(0x41),
         argument: Argument::I32(0),
+    }
+}
+
+/// Whether it is this byte.
+///
+/// # Proved
+///
+/// ```text
+/// ensures { result ≡ binary.is_byte byte opcode }
+/// ```
+fn is_byte(byte: u8, opcode: Opcode) -> bool {
+    match opcode {
+        Opcode::Byte(of) => of == byte,
+        Opcode::Prefixed(_, _) => false,
     }
 }
 
@@ -1345,7 +1437,7 @@ fn zero() -> Instruction {
 fn function_in(element: &[Instruction]) -> Option<usize> {
     match element {
         [instruction] => {
-            if instruction.opcode != 0xD2 {
+            if !is_byte(0xD2, instruction.opcode) {
                 return None;
             }
             index_of(&instruction.argument)
@@ -1375,7 +1467,15 @@ fn index_of(argument: &Argument) -> Option<usize> {
         | Argument::Block(_)
         | Argument::BlockUse(_)
         | Argument::Memory(_, _)
-        | Argument::Zero => None,
+        | Argument::Zero
+        | Argument::HeapType(_)
+        | Argument::Select(_)
+        | Argument::Zeros
+        | Argument::IndexZero(_)
+        | Argument::Pair(_)
+        | Argument::Lane(_)
+        | Argument::MemoryLane(_, _, _)
+        | Argument::Bytes(_) => None,
     }
 }
 
@@ -1638,6 +1738,97 @@ fn put_elements(
     put_section(alloc, out, 9, segments.len(), &items)
 }
 
+/// Whether an instruction has the index of a data segment.
+///
+/// # Proved
+///
+/// ```text
+/// ensures { result ≡ binary.has_data_index instruction.now }
+/// ```
+fn has_data_index(instruction: &Instruction) -> bool {
+    match instruction.opcode {
+        Opcode::Byte(_) => false,
+        Opcode::Prefixed(prefix, number) => prefix == 0xFC && (number == 8 || number == 9),
+    }
+}
+
+/// Whether an instruction of these does.
+///
+/// # Proved
+///
+/// ```text
+/// ensures { result ≡ list_any binary.has_data_index instructions.now }
+/// ```
+fn have_data_index(instructions: &[Instruction]) -> bool {
+    for instruction in instructions {
+        if has_data_index(instruction) {
+            return true;
+        }
+    }
+    false
+}
+
+/// Whether a field has to be after a count of the data segments.
+///
+/// # Proved
+///
+/// ```text
+/// ensures { result ≡ binary.needs_data_count (field_of field.now) }
+/// ```
+fn needs_data_count(field: &Field<'_>) -> bool {
+    match field {
+        Field::Func(function) => have_data_index(&function.body),
+        Field::Type(_)
+        | Field::Import(_)
+        | Field::Table(_)
+        | Field::Memory(_)
+        | Field::Global(_)
+        | Field::Export(_)
+        | Field::Start(_)
+        | Field::Elem(_)
+        | Field::Data(_) => false,
+    }
+}
+
+/// Whether one of these fields has to be.
+///
+/// # Proved
+///
+/// ```text
+/// ensures { result ≡ list_any binary.needs_data_count (fields_of fields.now) }
+/// ```
+fn need_data_count(fields: &[Field<'_>]) -> bool {
+    for field in fields {
+        if needs_data_count(field) {
+            return true;
+        }
+    }
+    false
+}
+
+/// Appends the data count section of so many segments, where it has to be.
+///
+/// # Proved
+///
+/// ```text
+/// requires { map segment_of segments.now ≡ binary.data_of (fields_of fields.now) }
+/// ensures { OnOk result (out.new.items ≡ out.old.items ++ binary.data_count_section (fields_of fields.now)) }
+/// ```
+fn put_data_count(
+    alloc: Global,
+    out: &mut Vec<u8>,
+    fields: &[Field<'_>],
+    segments: &[Segment<'_>],
+) -> Result<(), AllocError> {
+    if !need_data_count(fields) {
+        return Ok(());
+    }
+    let mut content = Vec::new(alloc);
+    put(&mut content, segments.len())?;
+    out.push(12)?;
+    put_sized(out, &content)
+}
+
 /// The bytes of a module of these fields.
 ///
 /// # Proved
@@ -1660,8 +1851,9 @@ pub(crate) fn module_bytes(alloc: Global, fields: &[Field<'_>]) -> Result<Vec<u8
     put_start(alloc, &mut bytes, fields)?;
     let elements = elements_of(alloc, fields)?;
     put_elements(alloc, &mut bytes, &types, &elements)?;
-    put_codes(alloc, &mut bytes, &types, fields)?;
     let segments = data_of(alloc, fields)?;
+    put_data_count(alloc, &mut bytes, fields, &segments)?;
+    put_codes(alloc, &mut bytes, &types, fields)?;
     put_data(alloc, &mut bytes, &types, &segments)?;
     Ok(bytes)
 }

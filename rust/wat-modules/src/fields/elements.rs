@@ -2,15 +2,15 @@
 //! Element segments, and tables that bring their elements.
 
 use wat_lex::shim::prelude::*;
-use crate::fields::fields::{
-    Elem, ElemMode, Field, Left, Limits, ReferenceType, Table, TableType, Target,
-};
+use crate::fields::fields::{Elem, ElemMode, Field, Left, Limits, Table, TableType, Target};
 use crate::fields::header::{after, closed};
 use crate::fields::names::Names;
 use crate::fields::segments::{expression, used};
-use crate::fields::types::{reference_of, table_type, twice_closed};
+use crate::fields::types::{table_type, twice_closed};
 use wat_lex::shim::alloc::{AllocError, Global};
-use crate::instructions::pieces::{Argument, Fault, FaultKind, Instruction, Name, Piece, Refusal};
+use crate::instructions::pieces::{
+    Argument, Fault, FaultKind, Instruction, Name, Opcode, Piece, ReferenceType, Refusal,
+};
 use crate::instructions::reading;
 
 /// Elements by their instructions.
@@ -158,7 +158,7 @@ fn next_function<'p, 'a>(
 fn ref_func(alloc: Global, index: usize) -> Result<Vec<Instruction>, AllocError> {
     let mut element = Vec::new(alloc);
     element.push(Instruction {
-        opcode: 0xD2,
+        opcode: Opcode::Byte(0xD2),
         argument: Argument::Index(index),
     })?;
     Ok(element)
@@ -211,7 +211,7 @@ pub(crate) fn table_at<'p, 'a>(
     pieces: &'p [Piece<'a>],
 ) -> Result<(Field<'p>, &'p [Piece<'a>]), Refusal<'p, 'a>> {
     match pieces {
-        [Piece::Word(word), rest @ ..] => match reference_of(word) {
+        [Piece::Word(word), rest @ ..] => match reading::reference_type(word) {
             Some(of) => table_open(alloc, names, name, exports, of, rest),
             None => Err(Refusal::Text(Fault {
                 kind: FaultKind::UnknownWord,
@@ -390,8 +390,8 @@ fn elements<'p, 'a>(
 ///
 /// ```text
 /// ensures { MatchResult result
-/// (λ r. reading.elements_by (context_of names.now) word.now (grammar.reference_type word.now) (map terminal all.now) (map terminal pieces.now) ≡ Ok ((r.0.0, map items_of r.0.1.items), map terminal r.1.now))
-/// (λ e. Faults (reading.elements_by (context_of names.now) word.now (grammar.reference_type word.now) (map terminal all.now) (map terminal pieces.now)) e) }
+/// (λ r. reading.elements_by (context_of names.now) word.now (reference_type word.now) (map terminal all.now) (map terminal pieces.now) ≡ Ok ((r.0.0, map items_of r.0.1.items), map terminal r.1.now))
+/// (λ e. Faults (reading.elements_by (context_of names.now) word.now (reference_type word.now) (map terminal all.now) (map terminal pieces.now)) e) }
 /// ```
 fn elements_after<'p, 'a>(
     alloc: Global,
@@ -400,7 +400,7 @@ fn elements_after<'p, 'a>(
     all: &'p [Piece<'a>],
     pieces: &'p [Piece<'a>],
 ) -> Result<((ReferenceType, Vec<Vec<Instruction>>), &'p [Piece<'a>]), Refusal<'p, 'a>> {
-    match reference_of(word) {
+    match reading::reference_type(word) {
         Some(of) => {
             let (elements, rest) = items(alloc, names, pieces)?;
             Ok(((of, elements), rest))

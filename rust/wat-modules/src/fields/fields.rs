@@ -12,7 +12,9 @@ use crate::fields::uses::{type_at, type_use};
 use wat_lex::shim::alloc::Global;
 use crate::instructions::machine;
 use crate::instructions::names::IndexedNames;
-use crate::instructions::pieces::{Fault, FaultKind, Instruction, Name, Piece, Refusal, ValueType};
+use crate::instructions::pieces::{
+    Fault, FaultKind, Instruction, Name, Piece, ReferenceType, Refusal, ValueType,
+};
 use crate::instructions::reading::{self, Scope};
 use crate::instructions::types::FunctionType;
 
@@ -52,13 +54,6 @@ pub enum IndexSpace {
     Table,
     Mem,
     Global,
-}
-
-/// A reference type.
-#[derive(Clone, Copy)]
-pub enum ReferenceType {
-    Func,
-    Extern,
 }
 
 /// The least size of a memory or a table, and the largest where there is one.
@@ -213,84 +208,27 @@ fn module<'p, 'a>(
     alloc: Global,
     pieces: &'p [Piece<'a>],
 ) -> Result<Vec<Field<'p>>, Refusal<'p, 'a>> {
-    match pieces {
-        [Piece::Open, rest @ ..] => module_word(alloc, rest),
-        [
-            Piece::Close
-            | Piece::Word(_)
-            | Piece::Id(_)
-            | Piece::Integer(_, _)
-            | Piece::Text(_)
-            | Piece::Float(_, _)
-            | Piece::Other,
-            ..,
-        ] => Err(Refusal::Text(Fault {
-            kind: FaultKind::Unexpected,
-            left: pieces,
-        })),
-        [] => Err(Refusal::Text(Fault {
-            kind: FaultKind::Unexpected,
-            left: pieces,
-        })),
-    }
-}
-
-/// The fields of a module, after its `(`.
-///
-/// # Proved
-///
-/// ```text
-/// ensures { MatchResult result
-/// (λ fs. reading.module_word (map terminal pieces.now) ≡ Ok (fields_of fs.items))
-/// (λ e. Faults (reading.module_word (map terminal pieces.now)) e) }
-/// ```
-fn module_word<'p, 'a>(
-    alloc: Global,
-    pieces: &'p [Piece<'a>],
-) -> Result<Vec<Field<'p>>, Refusal<'p, 'a>> {
-    match pieces {
-        [Piece::Word(word), rest @ ..] => {
-            if *word == "module" {
-                let (_, rest) = reading::label(rest);
-                module_fields(alloc, rest)
-            } else {
-                Err(Refusal::Text(Fault {
-                    kind: FaultKind::UnknownWord,
-                    left: pieces,
-                }))
-            }
+    match after("module", pieces) {
+        Some(rest) => {
+            let (_, rest) = reading::label(rest);
+            module_fields(alloc, true, rest)
         }
-        [
-            Piece::Open
-            | Piece::Close
-            | Piece::Id(_)
-            | Piece::Integer(_, _)
-            | Piece::Text(_)
-            | Piece::Float(_, _)
-            | Piece::Other,
-            ..,
-        ] => Err(Refusal::Text(Fault {
-            kind: FaultKind::Unexpected,
-            left: pieces,
-        })),
-        [] => Err(Refusal::Text(Fault {
-            kind: FaultKind::Unexpected,
-            left: pieces,
-        })),
+        None => module_fields(alloc, false, pieces),
     }
 }
 
-/// The fields of a module, after its word and its name.
+/// The fields of a module: after its word and its name, up to its `)`; or alone.
 ///
 /// # Proved
 ///
 /// ```text
 /// ensures { MatchResult result
-/// (λ fs. reading.fields_at (map terminal pieces.now) ≡ Ok (fields_of fs.items))
-/// (λ e. Faults (reading.fields_at (map terminal pieces.now)) e) }
+/// (λ fs. reading.fields_at enclosed (map terminal pieces.now) ≡ Ok (fields_of fs.items))
+/// (λ e. Faults (reading.fields_at enclosed (map terminal pieces.now)) e) }
 /// ```
 fn module_fields<'p, 'a>(
     alloc: Global,
+    enclosed: bool,
     pieces: &'p [Piece<'a>],
 ) -> Result<Vec<Field<'p>>, Refusal<'p, 'a>> {
     let Some(names) = names_of(alloc, pieces)? else {
@@ -300,7 +238,7 @@ fn module_fields<'p, 'a>(
         }));
     };
     let (fields, rest) = fields(alloc, &names, pieces)?;
-    ended(rest)?;
+    ended_by(enclosed, rest)?;
     if !imports_first(&fields) {
         return Err(Refusal::Text(Fault {
             kind: FaultKind::LateImport,
@@ -316,13 +254,30 @@ fn module_fields<'p, 'a>(
     Ok(fields)
 }
 
+/// Whether the end comes next; or, in parentheses, `)` and then the end.
+///
+/// # Proved
+///
+/// ```text
+/// ensures { MatchResult result
+/// (λ _. (fs : List grammar.Field) → reading.ended_by enclosed (Ok (fs, map terminal pieces.now)) ≡ Ok fs)
+/// (λ f. (fs : List grammar.Field) → reading.ended_by enclosed (Ok (fs, map terminal pieces.now)) ≡ Err (fault_of f)) }
+/// ```
+fn ended_by<'p, 'a>(enclosed: bool, pieces: &'p [Piece<'a>]) -> Result<(), Fault<'p, 'a>> {
+    if enclosed {
+        ended(pieces)
+    } else {
+        at_end(pieces)
+    }
+}
+
 /// Whether `)` comes next, and then the end.
 ///
 /// # Proved
 ///
 /// ```text
 /// ensures { MatchResult result
-/// (λ _. map terminal pieces.now ≡ Close ∷ [])
+/// (λ _. (fs : List grammar.Field) → reading.ended (Ok (fs, map terminal pieces.now)) ≡ Ok fs)
 /// (λ f. (fs : List grammar.Field) → reading.ended (Ok (fs, map terminal pieces.now)) ≡ Err (fault_of f)) }
 /// ```
 fn ended<'p, 'a>(pieces: &'p [Piece<'a>]) -> Result<(), Fault<'p, 'a>> {
@@ -346,6 +301,25 @@ fn ended<'p, 'a>(pieces: &'p [Piece<'a>]) -> Result<(), Fault<'p, 'a>> {
             left: pieces,
         }),
         [] => Err(Fault {
+            kind: FaultKind::Unexpected,
+            left: pieces,
+        }),
+    }
+}
+
+/// Whether the end comes next.
+///
+/// # Proved
+///
+/// ```text
+/// ensures { MatchResult result
+/// (λ _. (fs : List grammar.Field) → reading.at_end (Ok (fs, map terminal pieces.now)) ≡ Ok fs)
+/// (λ f. (fs : List grammar.Field) → reading.at_end (Ok (fs, map terminal pieces.now)) ≡ Err (fault_of f)) }
+/// ```
+fn at_end<'p, 'a>(pieces: &'p [Piece<'a>]) -> Result<(), Fault<'p, 'a>> {
+    match pieces {
+        [] => Ok(()),
+        [_, ..] => Err(Fault {
             kind: FaultKind::Unexpected,
             left: pieces,
         }),

@@ -1,11 +1,11 @@
 // Made by tools/erase from crates/wat_fields/src/types.rt; do not edit.
-//! Limits, reference types, types of globals, and index spaces.
+//! Limits, types of tables and globals, and index spaces.
 
 use wat_lex::shim::prelude::*;
-use crate::fields::fields::{GlobalType, IndexSpace, Limits, ReferenceType, TableType};
+use crate::fields::fields::{GlobalType, IndexSpace, Limits, TableType};
 use crate::fields::header::closed;
-use crate::instructions::pieces::{Fault, FaultKind, Piece, Sign, ValueType};
-use crate::instructions::reading::value_type;
+use crate::instructions::pieces::{Fault, FaultKind, Piece, ReferenceType, Sign, ValueType};
+use crate::instructions::reading::{self, value_type};
 
 /// The index space of a word.
 ///
@@ -23,23 +23,6 @@ pub(crate) fn space_of(word: &str) -> Option<IndexSpace> {
         Some(IndexSpace::Mem)
     } else if word == "global" {
         Some(IndexSpace::Global)
-    } else {
-        None
-    }
-}
-
-/// The reference type of a word.
-///
-/// # Proved
-///
-/// ```text
-/// ensures { result ≡ reference_type word.now }
-/// ```
-pub(crate) fn reference_of(word: &str) -> Option<ReferenceType> {
-    if word == "funcref" {
-        Some(ReferenceType::Func)
-    } else if word == "externref" {
-        Some(ReferenceType::Extern)
     } else {
         None
     }
@@ -178,7 +161,7 @@ fn reference_type<'p, 'a>(
     pieces: &'p [Piece<'a>],
 ) -> Result<(ReferenceType, &'p [Piece<'a>]), Fault<'p, 'a>> {
     match pieces {
-        [Piece::Word(word), rest @ ..] => match reference_of(word) {
+        [Piece::Word(word), rest @ ..] => match reading::reference_type(word) {
             Some(of) => Ok((of, rest)),
             None => Err(Fault {
                 kind: FaultKind::UnknownWord,

@@ -2,7 +2,7 @@
 //! Floating-point immediates.
 
 use wat_lex::shim::prelude::*;
-use crate::instructions::pieces::{Argument, Fault, FaultKind, Piece, Sign};
+use crate::instructions::pieces::{Fault, FaultKind, Piece, Sign};
 use wat_parser::floats::{f32_of_integer, f64_of_integer};
 
 /// Whether an integer is one below 0, or `-0`.
@@ -25,16 +25,16 @@ fn is_minus(sign: Sign) -> bool {
 ///
 /// ```text
 /// ensures { MatchResult result
-/// (λ r. f32_by bits (map terminal all.now) (map terminal rest.now) ≡ Ok (r.0, map terminal r.1.now))
-/// (λ f. f32_by bits (map terminal all.now) (map terminal rest.now) ≡ Err (fault_of f)) }
+/// (λ r. bits_by bits (map terminal all.now) (map terminal rest.now) ≡ Ok (r.0, map terminal r.1.now))
+/// (λ f. bits_by bits (map terminal all.now) (map terminal rest.now) ≡ Err (fault_of f)) }
 /// ```
 fn single<'p, 'a>(
     bits: Option<u32>,
     all: &'p [Piece<'a>],
     rest: &'p [Piece<'a>],
-) -> Result<(Argument, &'p [Piece<'a>]), Fault<'p, 'a>> {
+) -> Result<(u32, &'p [Piece<'a>]), Fault<'p, 'a>> {
     match bits {
-        Some(bits) => Ok((Argument::F32(bits), rest)),
+        Some(bits) => Ok((bits, rest)),
         None => Err(Fault {
             kind: FaultKind::OutOfRange,
             left: all,
@@ -48,16 +48,16 @@ fn single<'p, 'a>(
 ///
 /// ```text
 /// ensures { MatchResult result
-/// (λ r. f64_by bits (map terminal all.now) (map terminal rest.now) ≡ Ok (r.0, map terminal r.1.now))
-/// (λ f. f64_by bits (map terminal all.now) (map terminal rest.now) ≡ Err (fault_of f)) }
+/// (λ r. bits_by bits (map terminal all.now) (map terminal rest.now) ≡ Ok (r.0, map terminal r.1.now))
+/// (λ f. bits_by bits (map terminal all.now) (map terminal rest.now) ≡ Err (fault_of f)) }
 /// ```
 fn double<'p, 'a>(
     bits: Option<u64>,
     all: &'p [Piece<'a>],
     rest: &'p [Piece<'a>],
-) -> Result<(Argument, &'p [Piece<'a>]), Fault<'p, 'a>> {
+) -> Result<(u64, &'p [Piece<'a>]), Fault<'p, 'a>> {
     match bits {
-        Some(bits) => Ok((Argument::F64(bits), rest)),
+        Some(bits) => Ok((bits, rest)),
         None => Err(Fault {
             kind: FaultKind::OutOfRange,
             left: all,
@@ -76,7 +76,7 @@ fn double<'p, 'a>(
 /// ```
 pub(crate) fn float_32<'p, 'a>(
     pieces: &'p [Piece<'a>],
-) -> Result<(Argument, &'p [Piece<'a>]), Fault<'p, 'a>> {
+) -> Result<(u32, &'p [Piece<'a>]), Fault<'p, 'a>> {
     match pieces {
         [Piece::Integer(sign, size), rest @ ..] => {
             single(f32_of_integer(is_minus(*sign), *size), pieces, rest)
@@ -112,7 +112,7 @@ pub(crate) fn float_32<'p, 'a>(
 /// ```
 pub(crate) fn float_64<'p, 'a>(
     pieces: &'p [Piece<'a>],
-) -> Result<(Argument, &'p [Piece<'a>]), Fault<'p, 'a>> {
+) -> Result<(u64, &'p [Piece<'a>]), Fault<'p, 'a>> {
     match pieces {
         [Piece::Integer(sign, size), rest @ ..] => {
             double(f64_of_integer(is_minus(*sign), *size), pieces, rest)

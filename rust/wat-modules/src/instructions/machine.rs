@@ -3,7 +3,7 @@
 
 use wat_lex::shim::prelude::*;
 use crate::instructions::pieces::{
-    Argument, Fault, FaultKind, Frame, Instruction, Name, Piece, Refusal,
+    Argument, Fault, FaultKind, Frame, Instruction, Name, Opcode, Piece, Refusal,
 };
 use crate::instructions::reading::{self, Scope};
 use crate::instructions::uses;
@@ -13,12 +13,12 @@ use wat_lex::shim::alloc::Global;
 const IF: u8 = 0x04;
 
 const ELSE: Instruction = Instruction {
-    opcode: 0x05,
+    opcode: Opcode::Byte(0x05),
     argument: Argument::Nothing,
 };
 
 const END: Instruction = Instruction {
-    opcode: 0x0B,
+    opcode: Opcode::Byte(0x0B),
     argument: Argument::Nothing,
 };
 
@@ -524,7 +524,10 @@ fn folded_block<'p, 'a>(
 ) -> Result<&'p [Piece<'a>], Refusal<'p, 'a>> {
     let (label, rest) = reading::label(pieces);
     let (argument, rest) = uses::block_type(alloc, scope, rest)?;
-    let instruction = Instruction { opcode, argument };
+    let instruction = Instruction {
+        opcode: Opcode::Byte(opcode),
+        argument,
+    };
     if opcode == IF {
         frames.push(Frame::Condition(instruction, label))?;
         return Ok(rest);
@@ -607,7 +610,10 @@ fn instruction<'p, 'a>(
             let (label, rest) = reading::label(rest);
             let (argument, rest) = uses::block_type(alloc, scope, rest)?;
             frames.push(Frame::Block(opcode == IF, label))?;
-            out.push(Instruction { opcode, argument })?;
+            out.push(Instruction {
+                opcode: Opcode::Byte(opcode),
+                argument,
+            })?;
             Ok(rest)
         }
         None => {

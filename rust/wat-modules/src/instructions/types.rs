@@ -2,7 +2,7 @@
 //! Function types, and what instructions say of them.
 
 use wat_lex::shim::prelude::*;
-use crate::instructions::pieces::ValueType;
+use crate::instructions::pieces::{ReferenceType, ValueType};
 use wat_lex::shim::alloc::{AllocError, Global};
 
 /// A function type.
@@ -101,7 +101,53 @@ impl IndirectCall {
     }
 }
 
-/// The byte of a number type.
+/// The types of `select`, in a box.
+pub struct SelectTypes {
+    types: Box<Vec<ValueType>>,
+}
+
+impl SelectTypes {
+    /// These types.
+    ///
+    /// # Proved
+    ///
+    /// ```text
+    /// ensures { IfOk result (λ t. t ≡ types.items) }
+    /// ```
+    pub fn new(alloc: Global, types: Vec<ValueType>) -> Result<SelectTypes, AllocError> {
+        match Box::new(alloc, types) {
+            Ok(types) => Ok(SelectTypes { types }),
+            Err(failed) => Err(AllocError::from(failed)),
+        }
+    }
+
+    /// What they are.
+    ///
+    /// # Proved
+    ///
+    /// ```text
+    /// ensures { result.now ≡ self.now }
+    /// ```
+    pub fn types(&self) -> &[ValueType] {
+        &self.types
+    }
+}
+
+/// The byte of a reference type.
+///
+/// # Proved
+///
+/// ```text
+/// ensures { result ≡ spec.reference_byte of }
+/// ```
+pub fn reference_byte(of: ReferenceType) -> u8 {
+    match of {
+        ReferenceType::Func => 0x70,
+        ReferenceType::Extern => 0x6F,
+    }
+}
+
+/// The byte of a value type.
 ///
 /// # Proved
 ///
@@ -114,6 +160,8 @@ pub fn type_byte(of: ValueType) -> u8 {
         ValueType::I64 => 0x7E,
         ValueType::F32 => 0x7D,
         ValueType::F64 => 0x7C,
+        ValueType::V128 => 0x7B,
+        ValueType::Reference(of) => reference_byte(of),
     }
 }
 
@@ -129,7 +177,7 @@ fn same_values(some: &[ValueType], others: &[ValueType]) -> bool {
         return false;
     }
     for (i, of) in some.iter().enumerate() {
-        if type_byte(*of) != type_byte(others[i]) {
+        if *of != others[i] {
             return false;
         }
     }

@@ -5,7 +5,9 @@ use wat_lex::shim::prelude::*;
 use crate::instructions::names::IndexedNames;
 use crate::instructions::pieces::{Argument, Fault, FaultKind, Piece, Refusal, ValueType};
 use crate::instructions::reading::{Scope, index, value_type};
-use crate::instructions::types::{BoxedUse, FunctionType, IndirectCall, UnnamedUse, copied, same_type};
+use crate::instructions::types::{
+    BoxedUse, FunctionType, IndirectCall, SelectTypes, UnnamedUse, copied, same_type,
+};
 use wat_lex::shim::alloc::{AllocError, Global};
 
 /// What is left to read, and whether it begins in a group.
@@ -398,7 +400,7 @@ fn agreed<'p, 'a>(
     }))
 }
 
-/// The table of `call_indirect`, which is the first where no index comes.
+/// The index of a table, which is the first where no index comes.
 ///
 /// # Proved
 ///
@@ -407,7 +409,7 @@ fn agreed<'p, 'a>(
 /// (λ r. grammar.table_of tables.now (map terminal pieces.now) ≡ Ok (r.0, map terminal r.1.now))
 /// (λ f. grammar.table_of tables.now (map terminal pieces.now) ≡ Err (fault_of f)) }
 /// ```
-fn table_index<'p, 'a>(
+pub(crate) fn table_index<'p, 'a>(
     tables: &IndexedNames<'_>,
     pieces: &'p [Piece<'a>],
 ) -> Result<(usize, &'p [Piece<'a>]), Fault<'p, 'a>> {
@@ -445,6 +447,29 @@ pub(crate) fn indirect_call<'p, 'a>(
     let (uses, rest) = type_use(alloc, scope, rest)?;
     let call = IndirectCall::new(alloc, table, uses)?;
     Ok((Argument::Indirect(call), rest))
+}
+
+/// The types of `select`, where it says them.
+///
+/// # Proved
+///
+/// ```text
+/// ensures { MatchResult result
+/// (λ r. grammar.select_by (grammar.after (codes "result") (map terminal pieces.now)) (map terminal pieces.now) ≡ Ok (r.0, map terminal r.1.now))
+/// (λ e. Faults (grammar.select_by (grammar.after (codes "result") (map terminal pieces.now)) (map terminal pieces.now)) e) }
+/// ```
+pub(crate) fn select_types<'p, 'a>(
+    alloc: Global,
+    pieces: &'p [Piece<'a>],
+) -> Result<(Argument, &'p [Piece<'a>]), Refusal<'p, 'a>> {
+    match after("result", pieces) {
+        Some(_) => {
+            let (types, rest) = listed(alloc, "result", pieces)?;
+            let types = SelectTypes::new(alloc, types)?;
+            Ok((Argument::Select(types), rest))
+        }
+        None => Ok((Argument::Nothing, pieces)),
+    }
 }
 
 /// The type of a block: one result or none; or a type use.

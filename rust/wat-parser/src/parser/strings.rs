@@ -1,7 +1,7 @@
 use alloc::boxed::Box;
 use alloc::vec::Vec;
 use core::cell::{Cell, OnceCell};
-use core::{iter, str};
+use core::{iter, slice, str};
 use wat_lex::shim::alloc::AllocError;
 
 /// Bytes that live as long as this does, added one after the other through a shared reference.
@@ -12,10 +12,31 @@ pub struct Strings {
     sizes: OnceCell<Box<[Sizes]>>,
 }
 
+/// Each byte, at its place.
+static BYTES: [u8; 256] = {
+    let mut bytes = [0; 256];
+    let mut i = 0;
+    while i < 256 {
+        bytes[i] = i as u8;
+        i += 1;
+    }
+    bytes
+};
+
+/// These bytes where the program has them itself: one byte at most, and what each module in binary begins with, its magic number and its version.
+fn known(bytes: &[u8]) -> Option<&'static [u8]> {
+    match bytes {
+        [] => Some(&[]),
+        [byte] => Some(slice::from_ref(&BYTES[usize::from(*byte)])),
+        b"\0asm" => Some(b"\0asm"),
+        b"\x01\0\0\0" => Some(b"\x01\0\0\0"),
+        _ => None,
+    }
+}
+
 /// The cells by their bytes; one byte more says whether a cell is set.
 #[derive(Default)]
 struct Sizes {
-    of_1: Cells<[u8; 1]>,
     of_2: Cells<[u8; 2]>,
     of_3: Cells<[u8; 3]>,
     of_4: Cells<[u8; 4]>,
@@ -23,6 +44,8 @@ struct Sizes {
     of_6: Cells<[u8; 6]>,
     of_7: Cells<[u8; 7]>,
     of_8: Cells<[u8; 8]>,
+    of_9: Cells<[u8; 9]>,
+    of_10: Cells<[u8; 10]>,
     of_11: Cells<[u8; 11]>,
     of_15: Cells<[u8; 15]>,
     of_19: Cells<[u8; 19]>,
@@ -37,17 +60,21 @@ struct Sizes {
 impl Strings {
     /// Keeps the bytes.
     pub fn keep(&self, bytes: &[u8]) -> Result<&[u8], AllocError> {
+        if let Some(known) = known(bytes) {
+            return Ok(known);
+        }
         let sizes = self.sizes()?;
         match bytes.len() {
-            0..=1 => sizes.of_1.keep_padded(bytes),
-            2 => sizes.of_2.keep_padded(bytes),
+            0..=2 => sizes.of_2.keep_padded(bytes),
             3 => sizes.of_3.keep_padded(bytes),
             4 => sizes.of_4.keep_padded(bytes),
             5 => sizes.of_5.keep_padded(bytes),
             6 => sizes.of_6.keep_padded(bytes),
             7 => sizes.of_7.keep_padded(bytes),
             8 => sizes.of_8.keep_padded(bytes),
-            9..=11 => sizes.of_11.keep_padded(bytes),
+            9 => sizes.of_9.keep_padded(bytes),
+            10 => sizes.of_10.keep_padded(bytes),
+            11 => sizes.of_11.keep_padded(bytes),
             12..=15 => sizes.of_15.keep_padded(bytes),
             16..=19 => sizes.of_19.keep_padded(bytes),
             20..=23 => sizes.of_23.keep_padded(bytes),
@@ -160,6 +187,11 @@ mod tests {
         let strings = Strings::default();
         let all: Vec<Vec<u8>> = (0..20_000_usize)
             .map(|i| (0..i % 80).map(|k| (i * 7 + k * 13) as u8).collect())
+            .chain([
+                b"\0asm".to_vec(),
+                b"\x01\0\0\0".to_vec(),
+                b"\x01\0\0\x01".to_vec(),
+            ])
             .collect();
         let kept: Vec<&[u8]> = all
             .iter()

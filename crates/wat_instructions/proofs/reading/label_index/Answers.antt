@@ -1,4 +1,4 @@
-use Rattle.std.proofs.Common.{◌∙◌, refl, sym, take, length, ◌-◌}
+use Rattle.std.proofs.Common.{◌∙◌, sym, take, length, ◌-◌}
 use Rattle.wat_instructions.specs.Grammar.{position}
 use Rattle.wat_instructions.specs.Machine.{labels_in}
 use Rattle.wat_instructions.specs.Parts.{stack}

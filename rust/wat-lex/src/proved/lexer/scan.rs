@@ -6,7 +6,7 @@ use crate::proved::lexer::faults::{LexError, LexFault};
 use crate::proved::lexer::kinds::{Found, Lexeme, Outline, Shape, Sign, Stride, TokenKind};
 use crate::proved::lexer::scan::blocks::{block_at, other_than_idchars};
 use crate::proved::lexer::scan::classes::{
-    idchar_len, idchar_len_by_block, idchar_len_of_word, is_idchar, is_run_char, whitespace_len,
+    idchar_len, idchar_len_by_block, is_idchar, is_run_char, keyword_len, whitespace_len, word_len,
 };
 use crate::proved::lexer::scan::comments::{
     block_comment, block_comment_len, line_comment, line_comment_len,
@@ -94,18 +94,18 @@ fn lexeme(kind: TokenKind, len: usize) -> Found {
     Found::Lexeme(Lexeme { kind, len })
 }
 
-/// The token of idchars that no string follows; a word that begins so has this kind.
+/// The token of so many idchars that no string follows; a word that begins so has this kind.
 ///
 /// # Proved
 ///
 /// ```text
 /// requires some { 0 < length text.now }
 /// requires first { BeginsWord (slice_index text.now 0) kind }
+/// requires len { len ≡ prefix_len is_idchar text.now }
 /// ensures { IfSome result (IdcharsOnly text.now) }
 /// ```
 #[inline(always)]
-fn idchars(text: &[u8], kind: TokenKind, stride: Stride) -> Option<Lexeme> {
-    let len = idchar_len_of_word(text, stride);
+fn idchars(text: &[u8], kind: TokenKind, len: usize) -> Option<Lexeme> {
     if string_follows(text, len) {
         return None;
     }
@@ -122,7 +122,7 @@ fn idchars(text: &[u8], kind: TokenKind, stride: Stride) -> Option<Lexeme> {
 /// ```
 #[inline(always)]
 fn letters(text: &[u8], stride: Stride) -> Option<Lexeme> {
-    let len = idchar_len_of_word(text, stride);
+    let len = keyword_len(text, stride);
     if string_follows(text, len) {
         return None;
     }
@@ -139,7 +139,7 @@ fn letters(text: &[u8], stride: Stride) -> Option<Lexeme> {
 /// ```
 #[inline(always)]
 fn number_by_byte(text: &[u8]) -> Option<Lexeme> {
-    let len = idchar_len_of_word(text, Stride::Byte);
+    let len = word_len(text, Stride::Byte);
     if string_follows(text, len) {
         return None;
     }
@@ -206,10 +206,10 @@ fn word(text: &[u8], start: Start, stride: Stride) -> Option<Lexeme> {
     match start {
         Start::Number(sign) => number(text, sign, stride),
         Start::Letter => letters(text, stride),
-        Start::Keyword => idchars(text, TokenKind::Keyword, stride),
-        Start::Id => idchars(text, TokenKind::Id, stride),
-        Start::Annotation => idchars(text, TokenKind::Annotation, stride),
-        Start::Reserved => idchars(text, TokenKind::Reserved, stride),
+        Start::Keyword => idchars(text, TokenKind::Keyword, keyword_len(text, stride)),
+        Start::Id => idchars(text, TokenKind::Id, word_len(text, stride)),
+        Start::Annotation => idchars(text, TokenKind::Annotation, word_len(text, stride)),
+        Start::Reserved => idchars(text, TokenKind::Reserved, word_len(text, stride)),
         _ => None,
     }
 }

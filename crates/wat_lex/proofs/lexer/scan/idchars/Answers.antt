@@ -3,7 +3,7 @@ use Rattle.wat_lex.proofs.lexer.scan.idchars.Goals as goal
 
 pub returns : goal.returns
 returns c = record {
-  len = c.idchar_len_of_word-len.ensures;
+  len = c.requires.len;
   ends = λ q. let no = c.if-string_follows.ensures.1 q in cc;
-  kind = start_tells c.args.text.now c.args.kind _ c.requires.some c.requires.first c.idchar_len_of_word-len.ensures;
+  kind = start_tells c.args.text.now c.args.kind _ c.requires.some c.requires.first c.requires.len;
 }

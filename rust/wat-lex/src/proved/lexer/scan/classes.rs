@@ -202,11 +202,29 @@ pub fn idchar_len_by_block(text: &[u8]) -> usize {
 /// ensures { result ≡ prefix_len is_idchar text.now }
 /// ```
 #[inline(always)]
-pub fn idchar_len_of_word(text: &[u8], stride: Stride) -> usize {
+pub fn word_len(text: &[u8], stride: Stride) -> usize {
     match stride {
         Stride::Byte => idchar_len_by_byte(text),
         Stride::Block => idchar_len_by_block(text),
     }
+}
+
+/// How many idchars are at the start. Mostly a block has all of them, so that no call is made.
+///
+/// # Proved
+///
+/// ```text
+/// ensures { result ≡ prefix_len is_idchar text.now }
+/// ```
+#[inline(always)]
+pub fn keyword_len(text: &[u8], stride: Stride) -> usize {
+    if stride == Stride::Block && text.len() >= 16 {
+        let others = other_than_idchars(block_at(text, 0));
+        if others != 0 {
+            return others.trailing_zeros() as usize;
+        }
+    }
+    word_len(text, stride)
 }
 
 /// How many idchars are at the start. Around a string it is mostly none.

@@ -1,0 +1,116 @@
+//! The immediates of table instructions.
+ghost use Rattle.std.specs.Prelude.{◌≡◌, Ok, Err, map, MatchResult};
+ghost use Rattle.wat_instructions.specs.Grammar as grammar;
+ghost use Rattle.wat_instructions.specs.Parts.{Faults, fault_of};
+ghost use Rattle.wat_instructions.specs.Terminals.{terminal};
+
+use crate::names::IndexedNames;
+use crate::pairs::IndexPair;
+use crate::pieces::{Argument, Fault, Piece, Refusal};
+use crate::reading::index;
+use crate::uses::table_index;
+use std::alloc::Global;
+
+/// Whether an index comes first.
+fn is_index(pieces: &[Piece<'_>]) -> bool
+    ensures { result ≡ grammar.is_index (map terminal pieces.now) }
+{
+    match pieces {
+        [Piece::Integer(_, _) | Piece::Id(_), ..] => true,
+        [
+            Piece::Open
+            | Piece::Close
+            | Piece::Word(_)
+            | Piece::Text(_)
+            | Piece::Float(_, _)
+            | Piece::Other,
+            ..
+        ] => false,
+        [] => false,
+    }
+}
+
+/// Whether two indices come first.
+fn are_indices(pieces: &[Piece<'_>]) -> bool
+    ensures { result ≡ grammar.are_indices (map terminal pieces.now) }
+{
+    match pieces {
+        [Piece::Integer(_, _) | Piece::Id(_), rest @ ..] => is_index(rest),
+        [
+            Piece::Open
+            | Piece::Close
+            | Piece::Word(_)
+            | Piece::Text(_)
+            | Piece::Float(_, _)
+            | Piece::Other,
+            ..
+        ] => false,
+        [] => false,
+    }
+}
+
+/// A table, which is the first where no index comes.
+pub(crate) fn table<'p, 'a>(
+    tables: &IndexedNames<'_>,
+    pieces: &'p [Piece<'a>],
+) -> Result<(Argument, &'p [Piece<'a>]), Fault<'p, 'a>>
+    ensures { MatchResult result
+        (λ r. grammar.with_index (grammar.table_of tables.now (map terminal pieces.now)) ≡ Ok (r.0, map terminal r.1.now))
+        (λ f. grammar.with_index (grammar.table_of tables.now (map terminal pieces.now)) ≡ Err (fault_of f)) }
+{
+    let (n, rest) = table_index(tables, pieces)?;
+    Ok((Argument::Index(n), rest))
+}
+
+/// The tables of `table.copy`, which are both the first where no index comes.
+pub(crate) fn copy<'p, 'a>(
+    alloc: Global,
+    tables: &IndexedNames<'_>,
+    pieces: &'p [Piece<'a>],
+) -> Result<(Argument, &'p [Piece<'a>]), Refusal<'p, 'a>>
+    ensures { MatchResult result
+        (λ r. grammar.copy_of tables.now (map terminal pieces.now) ≡ Ok (r.0, map terminal r.1.now))
+        (λ e. Faults (grammar.copy_of tables.now (map terminal pieces.now)) e) }
+{
+    if !is_index(pieces) {
+        let pair = IndexPair::new(alloc, 0, 0)?;
+        return Ok((Argument::Pair(pair), pieces));
+    }
+    let (target, rest) = index(tables, pieces)?;
+    let (source, rest) = index(tables, rest)?;
+    let pair = IndexPair::new(alloc, target, source)?;
+    Ok((Argument::Pair(pair), rest))
+}
+
+/// The table of `table.init`, which is the first where one index comes alone.
+fn init_table<'p, 'a>(
+    tables: &IndexedNames<'_>,
+    pieces: &'p [Piece<'a>],
+) -> Result<(usize, &'p [Piece<'a>]), Fault<'p, 'a>>
+    ensures { MatchResult result
+        (λ r. grammar.init_table tables.now (map terminal pieces.now) ≡ Ok (r.0, map terminal r.1.now))
+        (λ f. grammar.init_table tables.now (map terminal pieces.now) ≡ Err (fault_of f)) }
+{
+    if are_indices(pieces) {
+        index(tables, pieces)
+    } else {
+        Ok((0, pieces))
+    }
+}
+
+/// The table and the elements of `table.init`.
+pub(crate) fn init<'p, 'a>(
+    alloc: Global,
+    tables: &IndexedNames<'_>,
+    elems: &IndexedNames<'_>,
+    pieces: &'p [Piece<'a>],
+) -> Result<(Argument, &'p [Piece<'a>]), Refusal<'p, 'a>>
+    ensures { MatchResult result
+        (λ r. grammar.init_by elems.now (grammar.init_table tables.now (map terminal pieces.now)) ≡ Ok (r.0, map terminal r.1.now))
+        (λ e. Faults (grammar.init_by elems.now (grammar.init_table tables.now (map terminal pieces.now))) e) }
+{
+    let (table, rest) = init_table(tables, pieces)?;
+    let (elements, rest) = index(elems, rest)?;
+    let pair = IndexPair::new(alloc, elements, table)?;
+    Ok((Argument::Pair(pair), rest))
+}

@@ -1,0 +1,20 @@
+use Rattle.std.proofs.Common.{length, map, sym}
+use Rattle.std.proofs.lemmas.List.{length-map}
+use Rattle.wat_fields.specs.Reading.{whole}
+use Rattle.wat_instructions.specs.declared.pieces.Refusal.TheVariants.{Text}
+use Rattle.wat_instructions.specs.Parts.{Faults}
+use Rattle.wat_instructions.specs.Terminals.{terminal}
+use Rattle.wat_modules.proofs.Answering.{of_bytes, of_fault}
+use Rattle.wat_modules.proofs.of_pieces.Goals as goal
+
+pub returns-in-Ok : goal.returns-in-Ok
+returns-in-Ok c = λ tokens h are.
+    let m = c.in-Ok.ensures.compiled in
+    of_bytes c.reading_is_grammar.ensures c.args.text.now tokens (map terminal c.args.pieces.now) m.0 c.in-Ok.bytes.items c.fitting.result m.1 m.2 c.fitting.ensures are
+
+pub returns-in-Err-Text : goal.returns-in-Err-Text
+returns-in-Err-Text c = λ tokens h are.
+    let fault = c.in-Err-Text.fault in
+    let n = length fault.left.now in
+    let refused : Faults (whole (map terminal c.args.pieces.now)) (Text fault) = rw c.in-Err-Text.field-0-is at c.in-Err-Text.ensures.refused in
+    of_fault c.args.text.now tokens (map terminal c.args.pieces.now) fault.kind (map terminal fault.left.now) n c.fault_at.result refused (sym (length-map fault.left.now terminal)) (c.fault_at.ensures tokens h) are

@@ -1,0 +1,56 @@
+use Rattle.std.proofs.Common.{◌≡◌, ◌∙◌, ◌++◌, ◌∷◌, [], length, map, ap, sym, refl, subst, arith}
+use Rattle.std.proofs.lemmas.List.{map-append}
+use Rattle.wat_pieces.specs.Pieces.{terminal_of}
+use Rattle.wat_pieces.specs.Values.{draft_terminals}
+use Rattle.wat_pieces.proofs.Drafts.{nothing, within_nothing}
+use Rattle.wat_pieces.proofs.ShownLaws.{shown_start, shown_more, shown_end, shown_reported, seen_found}
+use Rattle.wat_pieces.proofs.pieces_from.Goals as goal
+
+pub tokens-init : goal.tokens-init
+tokens-init c = record {
+  parser = refl;
+  on = omega arith;
+  tokens = [];
+  shown = shown_start c.args.from.parser.now.source c.args.from.parser.now.names c.args.from.at [] refl;
+  are = nothing c.new.result.items c.new-2.result.items c.new.ensures.items c.new-2.ensures.items;
+  within = within_nothing (length c.new.result.items) c.new-2.result.items c.new-2.ensures.items;
+}
+
+pub tokens-preserved : goal.tokens-preserved
+tokens-preserved c =
+    let s = c.args.from.parser.now.source in
+    let names = c.args.from.parser.now.names in
+    let t = c.in-Ok-Some.token in
+    let before = c.tokens.invariant.tokens in
+    let f = terminal_of c.args.text.now in
+    let value = rw (c.in-Ok-Some.is, c.in-Ok-Some.field-0-is, c.tokens.invariant.parser) at c.any.ensures.value in
+    let parser = rw (c.in-Ok-Some.is, c.in-Ok-Some.field-0-is) at c.any.ensures.parser in
+    let on = rw (c.in-Ok-Some.is, c.in-Ok-Some.field-0-is) at c.any.ensures.on in
+    record {
+      parser = parser ∙ c.tokens.invariant.parser;
+      on = omega (arith, on, c.tokens.invariant.on);
+      tokens = before ++ t ∷ [];
+      shown = shown_more c.all_shown.ensures.looks s names c.args.from.at c.tokens.cursor.at c.in-Ok-Some.next.at before (before ++ t ∷ []) t c.lemma_sound.ensures.sound.utf8 c.lemma_sound.ensures.sound.read
+          c.tokens.invariant.shown (seen_found s names c.tokens.cursor.at _ value) refl (rw (c.in-Ok-Some.is, c.in-Ok-Some.field-0-is, c.tokens.invariant.parser) at c.any.ensures.reader);
+      are = c.in_ok-push_token-in-Ok-Some.ensures.is ∙ ap (λ x. x ++ f t ∷ []) c.tokens.invariant.are ∙ sym (map-append f before (t ∷ []));
+      within = c.in_ok-push_token-in-Ok-Some.ensures.within;
+    }
+
+pub returns-in-Ok-None-clause-shown : goal.returns-in-Ok-None-clause-shown
+returns-in-Ok-None-clause-shown c =
+    let s = c.args.from.parser.now.source in
+    let names = c.args.from.parser.now.names in
+    let value = rw (c.in-Ok-None.is, c.in-Ok-None.field-0-is, c.tokens.invariant.parser) at c.any.ensures.value in
+    record {
+      tokens = c.tokens.invariant.tokens;
+      shown = shown_end c.all_shown.ensures.looks s names c.args.from.at c.tokens.cursor.at c.tokens.invariant.tokens c.lemma_sound.ensures.sound.utf8 c.lemma_sound.ensures.sound.read c.tokens.invariant.shown (seen_found s names c.tokens.cursor.at _ value);
+      are = subst (λ x. draft_terminals c.tokens.draft ≡ map (terminal_of x) c.tokens.invariant.tokens) (sym c.requires) c.tokens.invariant.are;
+    }
+
+pub returns-in-Err-2-clause-shown : goal.returns-in-Err-2-clause-shown
+returns-in-Err-2-clause-shown c = record {
+  tokens = c.tokens.invariant.tokens;
+  shown = shown_reported c.all_shown.ensures.looks c.tokens.cursor.parser.now c.args.from.parser.now c.args.from.at c.tokens.cursor.at c.tokens.invariant.tokens _ c.any.result c.in-Err.error c.is_out_of_memory.result c.lemma_sound.ensures.sound.utf8 c.lemma_sound.ensures.sound.read
+      c.tokens.invariant.shown c.any.ensures.value c.in-Err.is (ap (λ p. p.now) c.tokens.invariant.parser) c.if-is_out_of_memory.false c.is_out_of_memory.ensures.1;
+  are = subst (λ x. draft_terminals c.tokens.draft ≡ map (terminal_of x) c.tokens.invariant.tokens) (sym c.requires) c.tokens.invariant.are;
+}

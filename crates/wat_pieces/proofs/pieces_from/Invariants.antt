@@ -1,0 +1,19 @@
+use Rattle.std.proofs.Common.{◌≡◌, ◌≤◌, List, length, map, ◌-◌}
+use Rattle.wat_lex.specs.declared.lexer.kinds.Token.{Token}
+use Rattle.wat_pieces.specs.Pieces.{terminal_of}
+use Rattle.wat_pieces.specs.Values.{AreWithin, draft_terminals}
+use Rattle.wat_pieces.proofs.ShownLaws.{ShownSoFar}
+use Rattle.wat_pieces.proofs.pieces_from.Given as goal
+
+abbrev pub invariant-tokens : goal.invariant-tokens
+invariant-tokens l = record {
+  parser : l.cursor.parser ≡ l.fn.from.parser;
+  on : l.fn.from.at ≤ l.cursor.at;
+  tokens : List Token;
+  shown : ShownSoFar l.fn.from.parser.now.source l.fn.from.parser.now.names l.fn.from.at l.cursor.at tokens;
+  are : draft_terminals l.draft ≡ map (terminal_of l.text) tokens;
+  within : AreWithin (length l.draft.pieces.items) l.draft.values.items;
+}
+
+abbrev pub decreases-tokens : goal.decreases-tokens
+decreases-tokens l = length l.fn.from.parser.now.source.tokens - l.cursor.at

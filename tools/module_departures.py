@@ -1,0 +1,118 @@
+"""Where `wat2wasm` 1.0.32, wast 222 and the program under test are known to answer otherwise, for compare_modules.py."""
+import functools
+
+import module_tokens as tokens_of
+from module_sections import DATA_COUNT, contents, differences, meaning
+from module_texts import FORMS, laid
+
+# What `wat2wasm` takes and the program refuses: what the program says, and what such a text has.
+REFUSED = {
+    "of an `if` without `then` or `else`, which wat2wasm takes": ("unexpected token", tokens_of.has_bare_part),
+    "of a table or elements of numbers, which wat2wasm takes": ("unknown keyword", tokens_of.has_number_table),
+    "of an unknown name in an element, for which wat2wasm does not look": ("unknown identifier", tokens_of.has_name_in_element),
+    "of a table that is said, without `func` or an offset, which wat2wasm takes": ("unexpected token", tokens_of.has_said_table),
+    "of an element segment with nothing in it, which wat2wasm takes": ("unexpected token", tokens_of.has_no_list),
+    "of two data segments of one name, which wat2wasm takes": ("duplicate identifier", tokens_of.has_two_segments_of_a_name),
+    "of a `table.copy` of one table, which wat2wasm takes": ("unexpected token", tokens_of.has_one_table),
+}
+# The same of what wast takes too: what the program leaves out, older texts, and later proposals.
+REFUSED_ALONE = {
+    "of a type use by the number of a type that a use brings, left out": ("unknown identifier", tokens_of.has_brought_type),
+    "of limits with a type, which both judges take": ("unexpected token", tokens_of.has_index_type),
+    "of a segment's memory or table without parentheses, which both judges take": ("unexpected token", tokens_of.has_bare_use),
+    "of a memory's index in an instruction, which both judges take": ("unexpected token", tokens_of.has_memory_index),
+}
+OF_A_FORM = "of a form left out: "
+
+
+def is_taken_by_both(name):
+    """Whether both judges are known to take what a departure is of."""
+    return name is not None and (name in REFUSED_ALONE or name.startswith(OF_A_FORM))
+
+
+# What a program refuses that leaves out a form: what it says, and what such a text has.
+LEFT_OUT = {
+    **{form: [("unknown keyword", functools.partial(tokens_of.has_word, {word for word, _ in rows}))] for form, rows in FORMS.items()},
+    "reference-types": [("unknown keyword", tokens_of.has_reference), ("unknown identifier", tokens_of.has_reference)],
+    "typed-select": [("unknown keyword", tokens_of.has_typed_select)],
+    "bare": [("unexpected token", tokens_of.has_no_module), ("unknown keyword", tokens_of.has_no_module)],
+}
+
+# What the program takes and `wat2wasm` refuses.
+CONDITIONS = "of an `if` with more conditions than one, which wat2wasm refuses"
+STOPPED = "of a segment with a label's name or a type use, at which an assertion of wat2wasm fails"
+
+# Of what both make other bytes.
+SHORT = "of a block of `(type x)`, which wat2wasm writes short"
+EMPTY = "of an element without instructions, which wat2wasm leaves out"
+OUTSIDE = "of a type use outside of functions, which wat2wasm does not look for"
+COUNT = "of a data count, which wat2wasm leaves out of no segments and writes for other expressions"
+LONG = "of a table's index from 64 on, which wat2wasm writes in two bytes"
+# Those that a module has, and not a mutant alone.
+OF_MODULES = {SHORT, STOPPED, COUNT, LONG}
+
+
+def refusal(without, tokens, message):
+    """The name of the departure that explains why the program alone refuses, or None."""
+    found = (name for name, (said, has) in {**REFUSED, **REFUSED_ALONE}.items() if message.startswith(said + "\n") and has(tokens))
+    left_out = (f"{OF_A_FORM}{form}" for form in without for said, has in LEFT_OUT[form] if message.startswith(said + "\n") and has(tokens))
+    return next(left_out, None) or next(found, None)
+
+
+def is_other_count(tokens, ours, theirs):
+    """Whether one data count is left out: by `wat2wasm` that of no segments, by the program one that no function needs."""
+    ours, theirs = (contents(data).get(DATA_COUNT) for data in (ours, theirs))
+    return ours == b"\0" and theirs is None or ours is None and not tokens_of.has_data_index(tokens)
+
+
+def is_long(makers, rng, tokens):
+    """Whether bytes are as they have to be where each index of a table is below 64."""
+    small = tokens_of.with_small_tables(tokens)
+    ours, theirs = (maker(small, laid(rng, small))[0] for maker in makers)
+    return small != tokens and None not in (ours, theirs) and (ours == theirs or bool(other_bytes(makers, rng, small, ours, theirs)))
+
+
+def other_bytes(makers, rng, tokens, ours, theirs):
+    """The names of the departures that together explain why bytes are not those of `wat2wasm`, or none."""
+    names, short = [], tokens_of.shortened(tokens)
+    if short != tokens and (answer := makers[0](short, laid(rng, short))[0]) is not None:
+        names, tokens, ours = [SHORT], short, answer
+    spelled, said = differences(contents(ours), contents(theirs)), differences(meaning(ours), meaning(theirs))
+    if DATA_COUNT in spelled and is_other_count(tokens, ours, theirs):
+        names, spelled, said = names + [COUNT], spelled - {DATA_COUNT}, said - {DATA_COUNT}
+    if spelled and not said and is_long(makers, rng, tokens):
+        names, spelled = names + [LONG], set()
+    if not spelled:
+        return names
+    if tokens_of.has_use_outside(tokens):
+        return [OUTSIDE]
+    return [EMPTY] if tokens_of.has_empty_item(tokens) else []
+
+
+def departures(makers, without, rng, tokens, ours, theirs):
+    """The names of the departures that explain these answers, or none. The makers answer of tokens and their text, as the program and as `wat2wasm`."""
+    if ours[0] is not None and theirs[0] is not None:
+        return other_bytes(makers, rng, tokens, ours[0], theirs[0])
+    if ours[0] is None:
+        name = refusal(without, tokens, ours[1])
+    elif "Assertion" in theirs[1]:
+        name = STOPPED
+    else:
+        name = CONDITIONS if tokens_of.has_more_conditions(tokens) and "expected" in theirs[1] else None
+    return [name] if name else []
+
+
+# How a text is written otherwise for a judge that does not take it as it is, by what it has.
+FOR_WAT2WASM = {"a table's index left out": tokens_of.with_tables}
+FOR_WAST = {"an underscore in a memory argument": tokens_of.without_underscores, "a folded block in a segment, without `offset` or `item`": tokens_of.with_words}
+
+
+def written_for(judge, tokens):
+    """The tokens as a judge takes them, and by what they had to be changed."""
+    names = []
+    for name, change in judge.items():
+        changed = change(tokens)
+        if changed != tokens:
+            names.append(name)
+        tokens = changed
+    return tokens, names

@@ -1,0 +1,329 @@
+"""What the tokens of a module's text have in them, for compare_modules.py."""
+import re
+
+TYPES = {"i32", "i64", "f32", "f64", "v128"}
+REFERENCES = {"funcref", "externref"}
+GROUPS = [["param"], ["result"], ["local"], ["global"]]
+INDEX = re.compile(r"\$.*|0x[0-9a-fA-F_]+|[0-9_]+")
+SEGMENTS = (["data"], ["elem"])
+BLOCKS = {"block", "loop", "if"}
+# The words whose index of a table `wat2wasm` 1.0.32 asks for.
+OF_A_TABLE = {"table.get", "table.set", "table.size", "table.grow", "table.fill"}
+OF_TABLES = OF_A_TABLE | {"table.copy", "table.init"}
+
+
+def after_group(tokens, at):
+    """The place after the group that begins with the `(` there, or the end."""
+    depth = 0
+    while at < len(tokens):
+        depth += (tokens[at] == "(") - (tokens[at] == ")")
+        at += 1
+        if depth == 0:
+            break
+    return at
+
+
+def group_at(tokens, at, word):
+    """The items of the group of the word that begins there, or None."""
+    if tokens[at : at + 2] != ["(", word]:
+        return None
+    return tokens[at + 2 : after_group(tokens, at) - 1]
+
+
+def groups_of(tokens, words):
+    """The tokens of each group that begins with one of the words."""
+    return [tokens[at : after_group(tokens, at)] for at in range(len(tokens)) if tokens[at] == "(" and tokens[at + 1 : at + 2] in words]
+
+
+def unnamed(field):
+    """The tokens of a field after its word and its name."""
+    return field[3:] if field[2:3] and field[2].startswith("$") else field[2:]
+
+
+def outer(field):
+    """The tokens of a field that are in no group of it."""
+    made, at = [], 1
+    while at < len(field) - 1:
+        if field[at] == "(":
+            at = after_group(field, at)
+        else:
+            made.append(field[at])
+            at += 1
+    return made
+
+
+def is_index(tokens, at):
+    """Whether an index is there."""
+    return at < len(tokens) and bool(INDEX.fullmatch(tokens[at]))
+
+
+def lists_at(tokens, at):
+    """The parameters and the results that groups there list, and the place after them."""
+    made = []
+    for word in ("param", "result"):
+        items = []
+        while (group := group_at(tokens, at, word)) is not None:
+            items += [item for item in group if not item.startswith("$")]
+            at = after_group(tokens, at)
+        made.append(items)
+    return made[0], made[1], at
+
+
+def defined_types(tokens):
+    """The types that fields define: their names, parameters and results."""
+    made = []
+    for at in range(len(tokens)):
+        if tokens[at : at + 2] == ["(", "type"]:
+            name = tokens[at + 2] if tokens[at + 2].startswith("$") else None
+            place = at + (3 if name else 2)
+            if tokens[place : place + 2] == ["(", "func"]:
+                made.append((name,) + lists_at(tokens, place + 2)[:2])
+    return made
+
+
+def number_of(token):
+    """The number that an index says, or -1."""
+    if not re.fullmatch(r"0x[0-9a-fA-F_]+|[0-9][0-9_]*", token):
+        return -1
+    return int(token.replace("_", ""), 16 if token.startswith("0x") else 10)
+
+
+def type_of(types, index):
+    """The type of an index, or None."""
+    if index.startswith("$"):
+        return next((of for of in types if of[0] == index), None)
+    number = number_of(index)
+    return types[number] if 0 <= number < len(types) else None
+
+
+def shortened(tokens):
+    """The tokens with the lists of its type in the place of each `(type x)` of a block, where the type has a short form."""
+    types, made, at = defined_types(tokens), [], 0
+    while at < len(tokens):
+        token = tokens[at]
+        made.append(token)
+        at += 1
+        if token not in BLOCKS:
+            continue
+        if tokens[at : at + 1] and tokens[at].startswith("$"):
+            made.append(tokens[at])
+            at += 1
+        group = group_at(tokens, at, "type")
+        of = type_of(types, group[0]) if group and len(group) == 1 else None
+        if of and not of[1] and len(of[2]) < 2:
+            at = lists_at(tokens, after_group(tokens, at))[2]
+            made += ["(", "result"] + of[2] + [")"]
+    return made
+
+
+def with_tables(tokens):
+    """The tokens with the index 0 where `wat2wasm` asks for that of a table and there is none."""
+    made = []
+    for at, token in enumerate(tokens):
+        made.append(token)
+        if token in OF_A_TABLE and not is_index(tokens, at + 1):
+            made.append("0")
+    return made
+
+
+def with_small_tables(tokens):
+    """The tokens with small indices of tables in the place of those from 64 on."""
+    made = list(tokens)
+    for at, token in enumerate(tokens):
+        if token in OF_TABLES:
+            made[at + 1 : at + 3] = [str(number_of(index) % 64) if number_of(index) > 63 else index for index in made[at + 1 : at + 3]]
+    return made
+
+
+def without_underscores(tokens):
+    """The tokens with no underscore in a memory argument, where wast takes none."""
+    return [token.replace("_", "") if token.startswith(("offset=", "align=")) else token for token in tokens]
+
+
+def with_words(tokens):
+    """The tokens with `offset` or `item` around each offset and each element of a folded block; wast does not read these without."""
+    made, at = [], 0
+    while at < len(tokens):
+        if tokens[at : at + 2] in (["(", "data"], ["(", "elem"]):
+            end = after_group(tokens, at)
+            is_inline = tokens[at + 1] == "elem" and tokens[at - 1] in REFERENCES
+            made += with_words_in(tokens[at:end], is_inline)
+            at = end
+        else:
+            made.append(tokens[at])
+            at += 1
+    return made
+
+
+def with_words_in(field, has_offset):
+    """The same of a segment, in which elements come next, or its offset."""
+    made, at = field[:2], 2
+    while at < len(field):
+        end = after_group(field, at) if field[at] == "(" else at + 1
+        group = field[at:end]
+        if group[:1] == ["("] and group[1] not in ("offset", "item") and has_word(BLOCKS, group):
+            group = ["(", "item" if has_offset else "offset"] + group + [")"]
+        has_offset = has_offset or field[at] in REFERENCES | {"func"} or group[:1] == ["("] and group[1] not in ("table", "memory")
+        made += group
+        at = end
+    return made
+
+
+def has_empty_else(tokens):
+    """Whether an `else` has nothing after it."""
+    for at, token in enumerate(tokens):
+        if token != "else":
+            continue
+        rest = tokens[at + 1:]
+        if tokens[at - 1] == "(":
+            if rest[:1] == [")"]:
+                return True
+        else:
+            if rest[:1] and rest[0].startswith("$"):
+                rest = rest[1:]
+            if rest[:1] == ["end"]:
+                return True
+    return False
+
+
+def has_empty_select(tokens):
+    """Whether the lists of a `select` are there and empty."""
+    for at, token in enumerate(tokens):
+        _, types, after = lists_at(tokens, at + 1)
+        if token == "select" and after > at + 1 and not types:
+            return True
+    return False
+
+
+def has_empty_item(tokens):
+    """Whether an element has no instructions."""
+    return any(tokens[at : at + 3] == ["(", "item", ")"] for at in range(len(tokens)))
+
+
+def has_use_outside(tokens):
+    """Whether an instruction of a global, a segment or a table has a type use."""
+    return any({"call_indirect", *BLOCKS} & set(field) for field in groups_of(tokens, (["global"], ["data"], ["elem"], ["table"])))
+
+
+def has_data_index(tokens):
+    """Whether an instruction of a function says a data segment."""
+    return any(has_word({"memory.init", "data.drop"}, field) for field in groups_of(tokens, (["func"],)))
+
+
+def has_bare_part(tokens):
+    """Whether a part of a folded `if` has no `then` or `else` of its own."""
+    for at in range(len(tokens) - 1):
+        if tokens[at : at + 2] == ["(", "then"]:
+            end = after_group(tokens, at)
+            if tokens[end : end + 1] == ["("] and tokens[end + 1 : end + 2] != ["else"]:
+                return True
+        if tokens[at : at + 2] == ["(", "if"]:
+            inside, depth = tokens[at + 1 : after_group(tokens, at)], 0
+            opened = []
+            for token, word in zip(inside, inside[1:]):
+                depth += (token == "(") - (token == ")")
+                if token == "(" and depth == 1:
+                    opened.append(word)
+            if "then" not in opened:
+                return True
+    return False
+
+
+def has_typed_select(tokens):
+    """Whether a `select` has a type."""
+    return any(tokens[at : at + 3] == ["select", "(", "result"] for at in range(len(tokens)))
+
+
+def has_type_in(tokens, kind):
+    """Whether a memory or a table has a number type."""
+    return any(TYPES & set(group) for group in groups_of(tokens, ([kind],)))
+
+
+def has_number_table(tokens):
+    """Whether a table or an element segment is of a number type."""
+    return has_type_in(tokens, "table") or any(TYPES & set(outer(field)) for field in groups_of(tokens, (["elem"],)))
+
+
+def has_name_in_element(tokens):
+    """Whether an instruction of an element segment has a name."""
+    return any(sum(token.startswith("$") for token in field) > sum(token.startswith("$") for token in outer(field)) for field in groups_of(tokens, (["elem"],)))
+
+
+def has_index_type(tokens):
+    """Whether the limits of a memory or a table have a type."""
+    return has_type_in(tokens, "memory") or has_type_in(tokens, "table")
+
+
+def has_reference(tokens):
+    """Whether a variable, a result or a global is of a reference type."""
+    return any(REFERENCES & set(group) for group in groups_of(tokens, GROUPS))
+
+
+def has_brought_type(tokens):
+    """Whether a type use says a number that no field `type` has."""
+    fields = sum(tokens[at : at + 2] == ["(", "type"] and ["(", "func"] in (tokens[at + 2 : at + 4], tokens[at + 3 : at + 5]) for at in range(len(tokens)))
+    uses = [tokens[at + 2] for at in range(len(tokens) - 3) if tokens[at : at + 2] == ["(", "type"] and tokens[at + 3] == ")"]
+    return any(number_of(use) >= fields for use in uses)
+
+
+def has_bare_use(tokens):
+    """Whether a segment says the index of its memory or table without parentheses."""
+    return any(is_index(unnamed(field), 0) for field in groups_of(tokens, SEGMENTS))
+
+
+def has_memory_index(tokens):
+    """Whether an instruction says the index of its memory, as proposals after 2.0 allow."""
+    words = {"memory.size", "memory.grow", "memory.copy", "memory.fill"}
+    for at, word in enumerate(tokens):
+        if (".load" in word or ".store" in word or word in words) and is_index(tokens, at + 1):
+            return True
+        if word == "memory.init" and is_index(tokens, at + 1) and is_index(tokens, at + 2):
+            return True
+    return False
+
+
+def has_two_segments_of_a_name(tokens):
+    """Whether two data segments have one name."""
+    names = [tokens[at + 2] for at in range(len(tokens) - 2) if tokens[at : at + 2] == ["(", "data"] and tokens[at + 2].startswith("$")]
+    return len(set(names)) < len(names)
+
+
+def has_said_table(tokens):
+    """Whether an element segment says its table, and leaves out `func` or its offset."""
+    return any(tokens[at : at + 2] == ["(", "elem"] and tokens[at + 2 : at + 5].count("table") for at in range(len(tokens)))
+
+
+def has_no_list(tokens):
+    """Whether an element segment has nothing in it."""
+    return any(unnamed(field) in ([")"], ["declare", ")"]) for field in groups_of(tokens, (["elem"],)))
+
+
+def has_one_table(tokens):
+    """Whether a `table.copy` says one table."""
+    return any(token == "table.copy" and is_index(tokens, at + 1) and not is_index(tokens, at + 2) for at, token in enumerate(tokens))
+
+
+def has_no_module(tokens):
+    """Whether no `module` is around the fields."""
+    return tokens[:2] != ["(", "module"]
+
+
+def has_more_conditions(tokens):
+    """Whether a folded `if` has more conditions than one."""
+    for at in range(len(tokens)):
+        if tokens[at : at + 2] == ["(", "if"]:
+            count, here = 0, at + 2
+            while here < len(tokens) and tokens[here : here + 2] != ["(", "then"] and tokens[here] != ")":
+                if tokens[here] == "(":
+                    count += tokens[here + 1] not in ("param", "result", "type")
+                    here = after_group(tokens, here)
+                else:
+                    here += 1
+            if count > 1:
+                return True
+    return False
+
+
+def has_word(words, tokens):
+    """Whether one of these words is there."""
+    return not words.isdisjoint(tokens)
