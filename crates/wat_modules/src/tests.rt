@@ -1,11 +1,39 @@
 //! Texts with the bytes that the standard's chapters give them, and texts that are
 //! refused.
 use crate::compile;
+use std::alloc::Global;
+use std::process::Abort;
 use std::test::Fail;
 
+fn gives(rt: &impl Abort, alloc: Global, text: &str, expected: &[u8]) {
+    assert!(rt; text.len() < 0x1_0000_0000);
+    match compile(alloc, text) {
+        Ok(bytes) => assert_eq!(rt; bytes.as_slice(), expected, "{text}"),
+        Err(_) => panic!(rt; "{text} is refused"),
+    }
+}
+
+fn refuses(
+    rt: &impl Abort,
+    alloc: Global,
+    text: &str,
+    expected: &str,
+    place: usize,
+) -> Result<(), Fail> {
+    assert!(rt; text.len() < 0x1_0000_0000);
+    match compile(alloc, text) {
+        Ok(_) => panic!(rt; "{text} is taken"),
+        Err(error) => {
+            assert_eq!(rt; error.message(alloc)?.as_str(), expected, "{text}");
+            assert_eq!(rt; error.span().offset(), place, "{text}");
+        }
+    }
+    Ok(())
+}
+
 #[test]
-fn bytes(rt: HostRuntime) -> Result<(), Fail> {
-    let rows: [(&str, &[u8]); 58] = [
+fn fields(rt: HostRuntime) {
+    let rows: [(&str, &[u8]); 26] = [
         ("", &[0x00, 0x61, 0x73, 0x6D, 0x01, 0x00, 0x00, 0x00]),
         (
             "(; no ;) ;; fields",
@@ -28,97 +56,6 @@ fn bytes(rt: HostRuntime) -> Result<(), Fail> {
                 0x00, 0x61, 0x73, 0x6D, 0x01, 0x00, 0x00, 0x00, 0x01, 0x06, 0x01, 0x60, 0x01, 0x7F,
                 0x01, 0x7F, 0x03, 0x02, 0x01, 0x00, 0x07, 0x05, 0x01, 0x01, 0x61, 0x00, 0x00, 0x0A,
                 0x06, 0x01, 0x04, 0x00, 0x20, 0x00, 0x0B,
-            ],
-        ),
-        (
-            "(module (func (if (result i32) (i32.const 1) (then (i32.const 2)) (else (i32.const -3))) drop))",
-            &[
-                0x00, 0x61, 0x73, 0x6D, 0x01, 0x00, 0x00, 0x00, 0x01, 0x04, 0x01, 0x60, 0x00, 0x00,
-                0x03, 0x02, 0x01, 0x00, 0x0A, 0x0F, 0x01, 0x0D, 0x00, 0x41, 0x01, 0x04, 0x7F, 0x41,
-                0x02, 0x05, 0x41, 0x7D, 0x0B, 0x1A, 0x0B,
-            ],
-        ),
-        (
-            "(module (func (local i32 i32) (local $z i32 ) (local i64) block $a br $a end))",
-            &[
-                0x00, 0x61, 0x73, 0x6D, 0x01, 0x00, 0x00, 0x00, 0x01, 0x04, 0x01, 0x60, 0x00, 0x00,
-                0x03, 0x02, 0x01, 0x00, 0x0A, 0x0D, 0x01, 0x0B, 0x02, 0x03, 0x7F, 0x01, 0x7E, 0x02,
-                0x40, 0x0C, 0x00, 0x0B, 0x0B,
-            ],
-        ),
-        (
-            "(module (func (block (param) (param) (result)) loop (result) (result i32) (result) i32.const 1 end drop))",
-            &[
-                0x00, 0x61, 0x73, 0x6D, 0x01, 0x00, 0x00, 0x00, 0x01, 0x04, 0x01, 0x60, 0x00, 0x00,
-                0x03, 0x02, 0x01, 0x00, 0x0A, 0x0D, 0x01, 0x0B, 0x00, 0x02, 0x40, 0x0B, 0x03, 0x7F,
-                0x41, 0x01, 0x0B, 0x1A, 0x0B,
-            ],
-        ),
-        (
-            "(module (func i32.const 0 i32.load offset=8 align=2 drop (i32.load align=1 (i32.const 0)) drop (i64.store offset=0x1_00 (i32.const 0) (i64.const 0))))",
-            &[
-                0x00, 0x61, 0x73, 0x6D, 0x01, 0x00, 0x00, 0x00, 0x01, 0x04, 0x01, 0x60, 0x00, 0x00,
-                0x03, 0x02, 0x01, 0x00, 0x0A, 0x18, 0x01, 0x16, 0x00, 0x41, 0x00, 0x28, 0x01, 0x08,
-                0x1A, 0x41, 0x00, 0x28, 0x00, 0x00, 0x1A, 0x41, 0x00, 0x42, 0x00, 0x37, 0x03, 0x80,
-                0x02, 0x0B,
-            ],
-        ),
-        (
-            "(module (func (block $a (br_table $a 1 $a (i32.const 1))) (br_table 0 (i32.const 0))))",
-            &[
-                0x00, 0x61, 0x73, 0x6D, 0x01, 0x00, 0x00, 0x00, 0x01, 0x04, 0x01, 0x60, 0x00, 0x00,
-                0x03, 0x02, 0x01, 0x00, 0x0A, 0x13, 0x01, 0x11, 0x00, 0x02, 0x40, 0x41, 0x01, 0x0E,
-                0x02, 0x00, 0x01, 0x00, 0x0B, 0x41, 0x00, 0x0E, 0x00, 0x00, 0x0B,
-            ],
-        ),
-        (
-            "(module (func (call_indirect (param i64) (i32.const 0))) (func (param f32)) (table 0 funcref))",
-            &[
-                0x00, 0x61, 0x73, 0x6D, 0x01, 0x00, 0x00, 0x00, 0x01, 0x0C, 0x03, 0x60, 0x00, 0x00,
-                0x60, 0x01, 0x7E, 0x00, 0x60, 0x01, 0x7D, 0x00, 0x03, 0x03, 0x02, 0x00, 0x02, 0x04,
-                0x04, 0x01, 0x70, 0x00, 0x00, 0x0A, 0x0C, 0x02, 0x07, 0x00, 0x41, 0x00, 0x11, 0x01,
-                0x00, 0x0B, 0x02, 0x00, 0x0B,
-            ],
-        ),
-        (
-            "(module (func (call_indirect (param i64) (call_indirect (param f32) (i32.const 0)))))",
-            &[
-                0x00, 0x61, 0x73, 0x6D, 0x01, 0x00, 0x00, 0x00, 0x01, 0x0C, 0x03, 0x60, 0x00, 0x00,
-                0x60, 0x01, 0x7D, 0x00, 0x60, 0x01, 0x7E, 0x00, 0x03, 0x02, 0x01, 0x00, 0x0A, 0x0C,
-                0x01, 0x0A, 0x00, 0x41, 0x00, 0x11, 0x01, 0x00, 0x11, 0x02, 0x00, 0x0B,
-            ],
-        ),
-        (
-            "(module (type $t (func (param i32) (result i64))) (func call_indirect $x (type $t) (param i32) (result i64) call_indirect 0 (type 0)) (table 0 funcref) (table $x 0 funcref))",
-            &[
-                0x00, 0x61, 0x73, 0x6D, 0x01, 0x00, 0x00, 0x00, 0x01, 0x09, 0x02, 0x60, 0x01, 0x7F,
-                0x01, 0x7E, 0x60, 0x00, 0x00, 0x03, 0x02, 0x01, 0x01, 0x04, 0x07, 0x02, 0x70, 0x00,
-                0x00, 0x70, 0x00, 0x00, 0x0A, 0x0A, 0x01, 0x08, 0x00, 0x11, 0x00, 0x01, 0x11, 0x00,
-                0x00, 0x0B,
-            ],
-        ),
-        (
-            "(module (type $t (func)) (func (block (type $t))))",
-            &[
-                0x00, 0x61, 0x73, 0x6D, 0x01, 0x00, 0x00, 0x00, 0x01, 0x04, 0x01, 0x60, 0x00, 0x00,
-                0x03, 0x02, 0x01, 0x00, 0x0A, 0x07, 0x01, 0x05, 0x00, 0x02, 0x00, 0x0B, 0x0B,
-            ],
-        ),
-        (
-            "(module (func (if (param i64) (call_indirect (param f32)) (then (call_indirect (param f64))) (else (call_indirect (param i32))))))",
-            &[
-                0x00, 0x61, 0x73, 0x6D, 0x01, 0x00, 0x00, 0x00, 0x01, 0x14, 0x05, 0x60, 0x00, 0x00,
-                0x60, 0x01, 0x7D, 0x00, 0x60, 0x01, 0x7E, 0x00, 0x60, 0x01, 0x7C, 0x00, 0x60, 0x01,
-                0x7F, 0x00, 0x03, 0x02, 0x01, 0x00, 0x0A, 0x11, 0x01, 0x0F, 0x00, 0x11, 0x01, 0x00,
-                0x04, 0x02, 0x11, 0x03, 0x00, 0x05, 0x11, 0x04, 0x00, 0x0B, 0x0B,
-            ],
-        ),
-        (
-            "(module (func block $l (result i32 i64) end (loop (param i32) (result i32))))",
-            &[
-                0x00, 0x61, 0x73, 0x6D, 0x01, 0x00, 0x00, 0x00, 0x01, 0x0E, 0x03, 0x60, 0x00, 0x00,
-                0x60, 0x00, 0x02, 0x7F, 0x7E, 0x60, 0x01, 0x7F, 0x01, 0x7F, 0x03, 0x02, 0x01, 0x00,
-                0x0A, 0x0A, 0x01, 0x08, 0x00, 0x02, 0x01, 0x0B, 0x03, 0x02, 0x0B, 0x0B,
             ],
         ),
         (
@@ -289,6 +226,115 @@ fn bytes(rt: HostRuntime) -> Result<(), Fail> {
                 0x1A, 0x0B,
             ],
         ),
+    ];
+    for (text, expected) in rows.iter() {
+        gives(&rt, rt.alloc(), text, expected);
+    }
+}
+
+#[test]
+fn instructions(rt: HostRuntime) {
+    let rows: [(&str, &[u8]); 11] = [
+        (
+            "(module (func (if (result i32) (i32.const 1) (then (i32.const 2)) (else (i32.const -3))) drop))",
+            &[
+                0x00, 0x61, 0x73, 0x6D, 0x01, 0x00, 0x00, 0x00, 0x01, 0x04, 0x01, 0x60, 0x00, 0x00,
+                0x03, 0x02, 0x01, 0x00, 0x0A, 0x0F, 0x01, 0x0D, 0x00, 0x41, 0x01, 0x04, 0x7F, 0x41,
+                0x02, 0x05, 0x41, 0x7D, 0x0B, 0x1A, 0x0B,
+            ],
+        ),
+        (
+            "(module (func (local i32 i32) (local $z i32 ) (local i64) block $a br $a end))",
+            &[
+                0x00, 0x61, 0x73, 0x6D, 0x01, 0x00, 0x00, 0x00, 0x01, 0x04, 0x01, 0x60, 0x00, 0x00,
+                0x03, 0x02, 0x01, 0x00, 0x0A, 0x0D, 0x01, 0x0B, 0x02, 0x03, 0x7F, 0x01, 0x7E, 0x02,
+                0x40, 0x0C, 0x00, 0x0B, 0x0B,
+            ],
+        ),
+        (
+            "(module (func (block (param) (param) (result)) loop (result) (result i32) (result) i32.const 1 end drop))",
+            &[
+                0x00, 0x61, 0x73, 0x6D, 0x01, 0x00, 0x00, 0x00, 0x01, 0x04, 0x01, 0x60, 0x00, 0x00,
+                0x03, 0x02, 0x01, 0x00, 0x0A, 0x0D, 0x01, 0x0B, 0x00, 0x02, 0x40, 0x0B, 0x03, 0x7F,
+                0x41, 0x01, 0x0B, 0x1A, 0x0B,
+            ],
+        ),
+        (
+            "(module (func i32.const 0 i32.load offset=8 align=2 drop (i32.load align=1 (i32.const 0)) drop (i64.store offset=0x1_00 (i32.const 0) (i64.const 0))))",
+            &[
+                0x00, 0x61, 0x73, 0x6D, 0x01, 0x00, 0x00, 0x00, 0x01, 0x04, 0x01, 0x60, 0x00, 0x00,
+                0x03, 0x02, 0x01, 0x00, 0x0A, 0x18, 0x01, 0x16, 0x00, 0x41, 0x00, 0x28, 0x01, 0x08,
+                0x1A, 0x41, 0x00, 0x28, 0x00, 0x00, 0x1A, 0x41, 0x00, 0x42, 0x00, 0x37, 0x03, 0x80,
+                0x02, 0x0B,
+            ],
+        ),
+        (
+            "(module (func (block $a (br_table $a 1 $a (i32.const 1))) (br_table 0 (i32.const 0))))",
+            &[
+                0x00, 0x61, 0x73, 0x6D, 0x01, 0x00, 0x00, 0x00, 0x01, 0x04, 0x01, 0x60, 0x00, 0x00,
+                0x03, 0x02, 0x01, 0x00, 0x0A, 0x13, 0x01, 0x11, 0x00, 0x02, 0x40, 0x41, 0x01, 0x0E,
+                0x02, 0x00, 0x01, 0x00, 0x0B, 0x41, 0x00, 0x0E, 0x00, 0x00, 0x0B,
+            ],
+        ),
+        (
+            "(module (func (call_indirect (param i64) (i32.const 0))) (func (param f32)) (table 0 funcref))",
+            &[
+                0x00, 0x61, 0x73, 0x6D, 0x01, 0x00, 0x00, 0x00, 0x01, 0x0C, 0x03, 0x60, 0x00, 0x00,
+                0x60, 0x01, 0x7E, 0x00, 0x60, 0x01, 0x7D, 0x00, 0x03, 0x03, 0x02, 0x00, 0x02, 0x04,
+                0x04, 0x01, 0x70, 0x00, 0x00, 0x0A, 0x0C, 0x02, 0x07, 0x00, 0x41, 0x00, 0x11, 0x01,
+                0x00, 0x0B, 0x02, 0x00, 0x0B,
+            ],
+        ),
+        (
+            "(module (func (call_indirect (param i64) (call_indirect (param f32) (i32.const 0)))))",
+            &[
+                0x00, 0x61, 0x73, 0x6D, 0x01, 0x00, 0x00, 0x00, 0x01, 0x0C, 0x03, 0x60, 0x00, 0x00,
+                0x60, 0x01, 0x7D, 0x00, 0x60, 0x01, 0x7E, 0x00, 0x03, 0x02, 0x01, 0x00, 0x0A, 0x0C,
+                0x01, 0x0A, 0x00, 0x41, 0x00, 0x11, 0x01, 0x00, 0x11, 0x02, 0x00, 0x0B,
+            ],
+        ),
+        (
+            "(module (type $t (func (param i32) (result i64))) (func call_indirect $x (type $t) (param i32) (result i64) call_indirect 0 (type 0)) (table 0 funcref) (table $x 0 funcref))",
+            &[
+                0x00, 0x61, 0x73, 0x6D, 0x01, 0x00, 0x00, 0x00, 0x01, 0x09, 0x02, 0x60, 0x01, 0x7F,
+                0x01, 0x7E, 0x60, 0x00, 0x00, 0x03, 0x02, 0x01, 0x01, 0x04, 0x07, 0x02, 0x70, 0x00,
+                0x00, 0x70, 0x00, 0x00, 0x0A, 0x0A, 0x01, 0x08, 0x00, 0x11, 0x00, 0x01, 0x11, 0x00,
+                0x00, 0x0B,
+            ],
+        ),
+        (
+            "(module (type $t (func)) (func (block (type $t))))",
+            &[
+                0x00, 0x61, 0x73, 0x6D, 0x01, 0x00, 0x00, 0x00, 0x01, 0x04, 0x01, 0x60, 0x00, 0x00,
+                0x03, 0x02, 0x01, 0x00, 0x0A, 0x07, 0x01, 0x05, 0x00, 0x02, 0x00, 0x0B, 0x0B,
+            ],
+        ),
+        (
+            "(module (func (if (param i64) (call_indirect (param f32)) (then (call_indirect (param f64))) (else (call_indirect (param i32))))))",
+            &[
+                0x00, 0x61, 0x73, 0x6D, 0x01, 0x00, 0x00, 0x00, 0x01, 0x14, 0x05, 0x60, 0x00, 0x00,
+                0x60, 0x01, 0x7D, 0x00, 0x60, 0x01, 0x7E, 0x00, 0x60, 0x01, 0x7C, 0x00, 0x60, 0x01,
+                0x7F, 0x00, 0x03, 0x02, 0x01, 0x00, 0x0A, 0x11, 0x01, 0x0F, 0x00, 0x11, 0x01, 0x00,
+                0x04, 0x02, 0x11, 0x03, 0x00, 0x05, 0x11, 0x04, 0x00, 0x0B, 0x0B,
+            ],
+        ),
+        (
+            "(module (func block $l (result i32 i64) end (loop (param i32) (result i32))))",
+            &[
+                0x00, 0x61, 0x73, 0x6D, 0x01, 0x00, 0x00, 0x00, 0x01, 0x0E, 0x03, 0x60, 0x00, 0x00,
+                0x60, 0x00, 0x02, 0x7F, 0x7E, 0x60, 0x01, 0x7F, 0x01, 0x7F, 0x03, 0x02, 0x01, 0x00,
+                0x0A, 0x0A, 0x01, 0x08, 0x00, 0x02, 0x01, 0x0B, 0x03, 0x02, 0x0B, 0x0B,
+            ],
+        ),
+    ];
+    for (text, expected) in rows.iter() {
+        gives(&rt, rt.alloc(), text, expected);
+    }
+}
+
+#[test]
+fn segments_and_references(rt: HostRuntime) {
+    let rows: [(&str, &[u8]); 10] = [
         (
             "(module (data \"a\") (memory (export \"m\") (data \"b\" \"c\")) (data $d \"d\"))",
             &[
@@ -375,6 +421,15 @@ fn bytes(rt: HostRuntime) -> Result<(), Fail> {
                 0x03, 0x70, 0x6F, 0x7E, 0x1C, 0x00, 0x0B,
             ],
         ),
+    ];
+    for (text, expected) in rows.iter() {
+        gives(&rt, rt.alloc(), text, expected);
+    }
+}
+
+#[test]
+fn prefixed_instructions(rt: HostRuntime) {
+    let rows: [(&str, &[u8]); 11] = [
         (
             "(module (func i32.trunc_sat_f32_s i32.trunc_sat_f32_u i32.trunc_sat_f64_s i32.trunc_sat_f64_u i64.trunc_sat_f32_s i64.trunc_sat_f32_u i64.trunc_sat_f64_s i64.trunc_sat_f64_u))",
             &[
@@ -480,17 +535,12 @@ fn bytes(rt: HostRuntime) -> Result<(), Fail> {
         ),
     ];
     for (text, expected) in rows.iter() {
-        assert!(rt; text.len() < 0x1_0000_0000);
-        match compile(rt.alloc(), text) {
-            Ok(bytes) => assert_eq!(rt; bytes.as_slice(), *expected),
-            Err(_) => panic!(rt; "{text} is refused"),
-        }
+        gives(&rt, rt.alloc(), text, expected);
     }
-    Ok(())
 }
 
 #[test]
-fn refused(rt: HostRuntime) -> Result<(), Fail> {
+fn refused_fields(rt: HostRuntime) -> Result<(), Fail> {
     let rows = [
         ("(module (func nop)", "unexpected token", 18),
         ("(module) (func)", "unexpected token", 9),
@@ -498,58 +548,6 @@ fn refused(rt: HostRuntime) -> Result<(), Fail> {
         ("(func) )", "unexpected token", 7),
         ("$m (func)", "unexpected token", 0),
         ("(modul)", "unknown keyword", 1),
-        ("(module (func call $f))", "unknown identifier", 19),
-        ("(module (func frob))", "unknown keyword", 14),
-        (
-            "(module (func (block (result) (param))))",
-            "unknown keyword",
-            31,
-        ),
-        (
-            "(module (func i32.load align=2 offset=8))",
-            "unknown keyword",
-            31,
-        ),
-        ("(module (func i32.load align=3))", "unknown keyword", 23),
-        ("(module (func i32.load align=0))", "unknown keyword", 23),
-        ("(module (func i32.load offset=))", "unknown keyword", 23),
-        (
-            "(module (func i32.load offset=4294967296))",
-            "unknown keyword",
-            23,
-        ),
-        (
-            "(module (func i32.load offset=8__0))",
-            "unknown keyword",
-            23,
-        ),
-        ("(module (func br_table))", "unexpected token", 22),
-        ("(module (func br_table 0 $a))", "unknown identifier", 25),
-        (
-            "(module (func call_indirect (param $x i32)))",
-            "unexpected token",
-            35,
-        ),
-        (
-            "(module (func block (param i32 $x) end))",
-            "unexpected token",
-            31,
-        ),
-        (
-            "(module (func block (type 0) end))",
-            "unknown identifier",
-            26,
-        ),
-        (
-            "(module (type (func (param i32))) (func call_indirect (type 0) (param i64)))",
-            "mismatching type",
-            60,
-        ),
-        (
-            "(module (func block (result i32) (param i32) end))",
-            "unknown keyword",
-            34,
-        ),
         ("(module (func $f) (func $f))", "duplicate identifier", 8),
         (
             "(module (memory $a 1) (memory $a 1))",
@@ -621,6 +619,68 @@ fn refused(rt: HostRuntime) -> Result<(), Fail> {
         ),
         ("(module (import \"m\" 1))", "unexpected token", 20),
         ("(module (type (func (local i32))))", "unexpected token", 20),
+    ];
+    for (text, expected, place) in rows.iter() {
+        refuses(&rt, rt.alloc(), text, expected, *place)?;
+    }
+    Ok(())
+}
+
+#[test]
+fn refused_instructions(rt: HostRuntime) -> Result<(), Fail> {
+    let rows = [
+        ("(module (func call $f))", "unknown identifier", 19),
+        ("(module (func frob))", "unknown keyword", 14),
+        (
+            "(module (func (block (result) (param))))",
+            "unknown keyword",
+            31,
+        ),
+        (
+            "(module (func i32.load align=2 offset=8))",
+            "unknown keyword",
+            31,
+        ),
+        ("(module (func i32.load align=3))", "unknown keyword", 23),
+        ("(module (func i32.load align=0))", "unknown keyword", 23),
+        ("(module (func i32.load offset=))", "unknown keyword", 23),
+        (
+            "(module (func i32.load offset=4294967296))",
+            "unknown keyword",
+            23,
+        ),
+        (
+            "(module (func i32.load offset=8__0))",
+            "unknown keyword",
+            23,
+        ),
+        ("(module (func br_table))", "unexpected token", 22),
+        ("(module (func br_table 0 $a))", "unknown identifier", 25),
+        (
+            "(module (func call_indirect (param $x i32)))",
+            "unexpected token",
+            35,
+        ),
+        (
+            "(module (func block (param i32 $x) end))",
+            "unexpected token",
+            31,
+        ),
+        (
+            "(module (func block (type 0) end))",
+            "unknown identifier",
+            26,
+        ),
+        (
+            "(module (type (func (param i32))) (func call_indirect (type 0) (param i64)))",
+            "mismatching type",
+            60,
+        ),
+        (
+            "(module (func block (result i32) (param i32) end))",
+            "unknown keyword",
+            34,
+        ),
         ("(module (func ref.null funcref))", "unknown keyword", 23),
         ("(module (func ref.null 0))", "unexpected token", 23),
         ("(module (func ref.func $g))", "unknown identifier", 23),
@@ -632,6 +692,16 @@ fn refused(rt: HostRuntime) -> Result<(), Fail> {
         ),
         ("(module (func select (result 0)))", "unexpected token", 29),
         ("(module (func \"", "unexpected end-of-file", 15),
+    ];
+    for (text, expected, place) in rows.iter() {
+        refuses(&rt, rt.alloc(), text, expected, *place)?;
+    }
+    Ok(())
+}
+
+#[test]
+fn refused_prefixed_instructions(rt: HostRuntime) -> Result<(), Fail> {
+    let rows = [
         ("(module (func table.copy 0))", "unexpected token", 26),
         ("(module (func table.init))", "unexpected token", 24),
         ("(module (func memory.init))", "unexpected token", 25),
@@ -676,14 +746,7 @@ fn refused(rt: HostRuntime) -> Result<(), Fail> {
         ),
     ];
     for (text, expected, place) in rows.iter() {
-        assert!(rt; text.len() < 0x1_0000_0000);
-        match compile(rt.alloc(), text) {
-            Ok(_) => panic!(rt; "{text} is taken"),
-            Err(error) => {
-                assert_eq!(rt; error.message(rt.alloc())?.as_str(), *expected);
-                assert_eq!(rt; error.span().offset(), *place);
-            }
-        }
+        refuses(&rt, rt.alloc(), text, expected, *place)?;
     }
     Ok(())
 }
