@@ -106,4 +106,5 @@ def main():
         rows(text, {"wat_tokens types": [program, "types", text], "wat2wasm --no-check": ["wat2wasm", "--no-check", text, "-o", "/dev/null"]}, rounds)
 
 
-main()
+if __name__ == "__main__":
+    main()

@@ -2,8 +2,11 @@
 //!
 //! A text comes as a line with the count of its bytes, and these. Its answer is a line: `= ` and the module's bytes in hexadecimal; or `! ` and the
 //! fault, whose offset comes first, or that the encoder panics.
+//!
+//! With the word `once` the whole input is one text, and the answer its module's bytes as they are, as other compilers write them.
 
 use std::any::Any;
+use std::env;
 use std::fmt::Write as _;
 use std::io::{self, BufRead, Read, Write as _};
 use std::panic::{self, AssertUnwindSafe};
@@ -45,7 +48,16 @@ fn answer(text: &[u8]) -> String {
     }
 }
 
+fn once() -> io::Result<()> {
+    let text = io::read_to_string(io::stdin().lock())?;
+    let bytes = bytes_of(&text).map_err(|error| io::Error::other(error.message()))?;
+    io::stdout().lock().write_all(&bytes)
+}
+
 fn main() -> io::Result<()> {
+    if env::args().nth(1).as_deref() == Some("once") {
+        return once();
+    }
     panic::set_hook(Box::new(|_| {}));
     let (mut input, mut output) = (io::stdin().lock(), io::stdout().lock());
     let mut line = String::new();
