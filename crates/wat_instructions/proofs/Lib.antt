@@ -6,6 +6,7 @@ pub mod Opens
 pub mod Digits
 pub mod Exponents
 pub mod Tables
+pub mod Places
 pub mod Distinct
 pub mod Labels
 pub mod SameTypes

@@ -456,7 +456,6 @@ integer_keeps half (Float narrow wide ∷ ts) = tt
 integer_keeps half (Other ∷ ts) = tt
 
 lane_keeps : (k : grammar.Lane) (ts : List Terminal) → Keeps (grammar.lane_of k ts) ts
-lane_keeps lane.Index ts = lane_index_keeps ts
 lane_keeps lane.I8 ts = integer_keeps (2 ^ 7) ts
 lane_keeps lane.I16 ts = integer_keeps (2 ^ 15) ts
 lane_keeps lane.I32 ts = integer_keeps (2 ^ 31) ts
@@ -480,6 +479,15 @@ lanes_keep k (suc n) ts = and_lanes_keeps k (grammar.lane_of k ts) (grammar.lane
 with_bytes_keeps : (q : Result (List ℕ × List Terminal) Fault) (ts : List Terminal) → Keeps q ts → Keeps (grammar.with_bytes q) ts
 with_bytes_keeps (Ok (bs, us)) ts h = h
 with_bytes_keeps (Err f) ts h = tt
+
+and_indices_keeps : (q : Result (ℕ × List Terminal) Fault) (others : List Terminal → Result (List ℕ × List Terminal) Fault) (ts : List Terminal) → Keeps q ts → ((us : List Terminal) → Keeps (others us) us) → Keeps (grammar.and_indices q others) ts
+and_indices_keeps (Ok (n, us)) others ts h each = before_bytes_keeps (n ∷ []) (others us) ts us h (each us)
+and_indices_keeps (Err f) others ts h each = tt
+
+lane_indices_keep : (n : ℕ) (ts : List Terminal) → Keeps (grammar.lane_indices n ts) ts
+unfolding grammar.lane_indices
+lane_indices_keep zero ts = stay ts
+lane_indices_keep (suc n) ts = and_indices_keeps (grammar.lane_index ts) (grammar.lane_indices n) ts (lane_index_keeps ts) (λ us. lane_indices_keep n us)
 
 vector_keeps : (k : grammar.Lane) (ts : List Terminal) → Keeps (grammar.vector_of k ts) ts
 vector_keeps k ts = with_bytes_keeps (grammar.lanes_from k (grammar.lane_count k) ts) ts (lanes_keep k (grammar.lane_count k) ts)
@@ -524,7 +532,7 @@ immediate_keeps context ls immediate.TableCopy ts = copy_keeps (grammar.is_index
 immediate_keeps context ls immediate.TableInit ts = init_keeps context.elems (grammar.init_table context.tables ts) ts (init_table_keeps (grammar.are_indices ts) context.tables ts)
 immediate_keeps context ls immediate.Lane ts = with_lane_keeps (grammar.lane_index ts) ts (lane_index_keeps ts)
 immediate_keeps context ls (immediate.MemoryLane natural) ts = memory_lane_keeps natural ts
-immediate_keeps context ls immediate.Shuffle ts = vector_keeps lane.Index ts
+immediate_keeps context ls immediate.Shuffle ts = with_bytes_keeps (grammar.lane_indices 16 ts) ts (lane_indices_keep 16 ts)
 immediate_keeps context ls immediate.Vector ts = constant_keeps ts
 
 with_opcode_keeps : (o : Opcode) (q : Result (Argument × List Terminal) Fault) (w : List ℕ) (ts : List Terminal) → Keeps q ts → Keeps (grammar.with_opcode o q) (Word w ∷ ts)

@@ -160,6 +160,27 @@ with_memory align offset (Err f) = Err f
 abbrev pub memory_lane : ℕ → List Terminal → Result (Argument × List Terminal) Fault
 memory_lane natural ts = with_memory (align_of natural (offset_of ts).1).0 (offset_of ts).0 (lane_index (align_of natural (offset_of ts).1).1)
 
+abbrev pub before_bytes : List ℕ → Result (List ℕ × List Terminal) Fault → Result (List ℕ × List Terminal) Fault
+before_bytes bs (Ok (cs, ts)) = Ok (bs ++ cs, ts)
+before_bytes bs (Err f) = Err f
+
+abbrev pub with_bytes : Result (List ℕ × List Terminal) Fault → Result (Argument × List Terminal) Fault
+with_bytes (Ok (bs, ts)) = Ok (argument.Bytes bs, ts)
+with_bytes (Err f) = Err f
+
+abbrev pub and_indices : Result (ℕ × List Terminal) Fault → (List Terminal → Result (List ℕ × List Terminal) Fault) → Result (List ℕ × List Terminal) Fault
+and_indices (Ok (n, ts)) others = before_bytes (n ∷ []) (others ts)
+and_indices (Err f) others = Err f
+
+-- laneidx ^ n
+unfoldable pub lane_indices : ℕ → List Terminal → Result (List ℕ × List Terminal) Fault
+lane_indices zero ts = Ok ([], ts)
+lane_indices (suc n) ts = and_indices (lane_index ts) (lane_indices n)
+
+-- 6.5.9: i8x16.shuffle laneidx ^ 16; 5.4.8: a byte each
+abbrev pub shuffle : List Terminal → Result (Argument × List Terminal) Fault
+shuffle ts = with_bytes (lane_indices 16 ts)
+
 -- 6.3.1: the bits of an integer of so many, as a number without a sign, where half is 2 ^ (so many - 1): those of -n are those of 2 * half - n
 abbrev pub opposite : ℕ → ℕ → ℕ
 opposite half zero = zero
@@ -174,12 +195,11 @@ abbrev pub integer : ℕ → List Terminal → Result (ℕ × List Terminal) Fau
 integer half (Integer s n ∷ ts) = bits_by (integer_bits half s n) (Integer s n ∷ ts) ts
 integer half ts = Err (Unexpected, ts)
 
--- the lanes of a vector: indices of lanes; or integers (6.3.1) or floats (6.3.2), by their bits
+-- the lanes of a vector: integers (6.3.1) or floats (6.3.2), by their bits
 abbrev pub Lane : Type 0
 Lane = declared_lane.Lane
 
 abbrev pub lane_of : Lane → List Terminal → Result (ℕ × List Terminal) Fault
-lane_of lane.Index ts = lane_index ts
 lane_of lane.I8 ts = integer (2 ^ 7) ts
 lane_of lane.I16 ts = integer (2 ^ 15) ts
 lane_of lane.I32 ts = integer (2 ^ 31) ts
@@ -188,7 +208,6 @@ lane_of lane.F32 ts = f32 ts
 lane_of lane.F64 ts = f64 ts
 
 abbrev pub width : Lane → Width
-width lane.Index = w8
 width lane.I8 = w8
 width lane.I16 = w16
 width lane.I32 = w32
@@ -198,7 +217,6 @@ width lane.F64 = w64
 
 -- how many there are
 abbrev pub lane_count : Lane → ℕ
-lane_count lane.Index = 16
 lane_count lane.I8 = 16
 lane_count lane.I16 = 8
 lane_count lane.I32 = 4
@@ -210,10 +228,6 @@ lane_count lane.F64 = 2
 abbrev pub lane_bytes : Lane → ℕ → List ℕ
 lane_bytes k n = to_le_bytes (width k) n
 
-abbrev pub before_bytes : List ℕ → Result (List ℕ × List Terminal) Fault → Result (List ℕ × List Terminal) Fault
-before_bytes bs (Ok (cs, ts)) = Ok (bs ++ cs, ts)
-before_bytes bs (Err f) = Err f
-
 abbrev pub and_lanes : Lane → Result (ℕ × List Terminal) Fault → (List Terminal → Result (List ℕ × List Terminal) Fault) → Result (List ℕ × List Terminal) Fault
 and_lanes k (Ok (n, ts)) others = before_bytes (lane_bytes k n) (others ts)
 and_lanes k (Err f) others = Err f
@@ -222,10 +236,6 @@ and_lanes k (Err f) others = Err f
 unfoldable pub lanes_from : Lane → ℕ → List Terminal → Result (List ℕ × List Terminal) Fault
 lanes_from k zero ts = Ok ([], ts)
 lanes_from k (suc n) ts = and_lanes k (lane_of k ts) (lanes_from k n)
-
-abbrev pub with_bytes : Result (List ℕ × List Terminal) Fault → Result (Argument × List Terminal) Fault
-with_bytes (Ok (bs, ts)) = Ok (argument.Bytes bs, ts)
-with_bytes (Err f) = Err f
 
 -- all lanes of a vector
 abbrev pub vector_of : Lane → List Terminal → Result (Argument × List Terminal) Fault
@@ -460,7 +470,7 @@ immediate_of context ls immediate.TableCopy ts = copy_of context.tables ts
 immediate_of context ls immediate.TableInit ts = init_by context.elems (init_table context.tables ts)
 immediate_of context ls immediate.Lane ts = with_lane (lane_index ts)
 immediate_of context ls (immediate.MemoryLane natural) ts = memory_lane natural ts
-immediate_of context ls immediate.Shuffle ts = vector_of lane.Index ts
+immediate_of context ls immediate.Shuffle ts = shuffle ts
 immediate_of context ls immediate.Vector ts = constant ts
 
 abbrev pub instruction : ℕ → Argument → Instruction

@@ -3,6 +3,7 @@ pub mod Branches
 pub mod Types
 pub mod Memory
 pub mod Table
+pub mod Slots
 pub mod Grammar
 pub mod Names
 pub mod Indices

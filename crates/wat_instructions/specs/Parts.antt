@@ -9,7 +9,7 @@ use Rattle.wat_instructions.specs.declared.pieces.Frame.TheVariants as frame
 use Rattle.wat_instructions.specs.declared.pieces.ValueType.{ValueType}
 use Rattle.wat_instructions.specs.declared.reading.Scope.{Scope}
 use Rattle.wat_instructions.specs.Views.{type_of}
-use Rattle.wat_instructions.specs.Grammar.{Context, Fault, Lane, before_labels, before_type, labels_from, lane_bytes, lane_of, listed}
+use Rattle.wat_instructions.specs.Grammar.{Context, Fault, Lane, before_labels, before_type, labels_from, lane_bytes, lane_index, lane_of, listed}
 use Rattle.wat_instructions.specs.Branches.{branches}
 use Rattle.wat_instructions.specs.Machine.{Part, Body, Block, Group, Operands, Condition, Then, Else, Step, run}
 use Rattle.wat_instructions.specs.Terminals.{Terminal, Label, terminal, label}
@@ -76,6 +76,12 @@ pub record IsListed (word : List ℕ) (inside : Bool) (ts : List Terminal) (befo
   pub types : List ValueType
   pub is : listed word inside ts ≡ before_all types (listed word still left)
   pub follow : after ≡ before ++ types
+
+-- an index of a lane is read, and comes after others
+pub record IsIndex (ts : List Terminal) (before after : List ℕ) (left : List Terminal) : Type 0 where
+  pub number : ℕ
+  pub is : lane_index ts ≡ Ok (number, left)
+  pub follow : after ≡ before ++ number ∷ []
 
 -- a lane is read, and its bytes come after others
 pub record IsLane (k : Lane) (ts : List Terminal) (before after : List ℕ) (left : List Terminal) : Type 0 where

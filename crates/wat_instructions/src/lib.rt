@@ -12,6 +12,7 @@ pub mod names;
 pub mod pairs;
 pub mod pieces;
 pub mod reading;
+mod slots;
 pub mod table;
 mod table_arguments;
 pub mod types;

@@ -14,7 +14,6 @@ use crate::pieces::{
 };
 use crate::table::{self, Immediate};
 use crate::types::FunctionType;
-use crate::vectors::Lane;
 use crate::{floats, memory, table_arguments, uses, vector_arguments};
 use std::alloc::Global;
 
@@ -513,7 +512,7 @@ fn immediate<'p, 'a>(
         Immediate::TableInit => table_arguments::init(alloc, scope.tables, scope.elems, pieces),
         Immediate::Lane => Ok(vector_arguments::lane(pieces)?),
         Immediate::MemoryLane(natural) => Ok(vector_arguments::memory_lane(natural, pieces)?),
-        Immediate::Shuffle => vector_arguments::vector(alloc, Lane::Index, pieces),
+        Immediate::Shuffle => vector_arguments::shuffle(alloc, pieces),
         Immediate::Vector => vector_arguments::constant(alloc, pieces),
     }
 }

@@ -1,8 +1,10 @@
 //! The plain instructions.
+ghost use Rattle.std.specs.List.{slice_get};
 ghost use Rattle.std.specs.Prelude.{◌≡◌, ◌++◌, map};
 ghost use Rattle.wat_instructions.specs.Table.{found, found_of, high_vectors, low_vectors, mnemonics, prefixed, row_of};
 
 use crate::pieces::Opcode;
+use crate::slots::place;
 
 /// Which immediate comes after a word.
 #[derive(Clone, Copy)]
@@ -528,36 +530,40 @@ const HIGH_VECTORS: [Row; 108] = [
 pub fn find(word: &str) -> Option<Row>
     ensures { found_of result ≡ found word.now mnemonics }
 {
-    match find_in(&LOW, word) {
+    match row_at(place(word.as_bytes())) {
+        Some(row) if row.word == word => Some(row),
+        _ => None,
+    }
+}
+
+/// The row at a place, from the first of `LOW` on.
+fn row_at(place: usize) -> Option<Row>
+    ensures { found_of result ≡ slice_get mnemonics place }
+{
+    match row_in(&LOW, place) {
         Some(row) => Some(row),
-        None => match find_in(&HIGH, word) {
+        None => match row_in(&HIGH, place - LOW.len()) {
             Some(row) => Some(row),
-            None => find_prefixed(word),
+            None => prefixed_at(place - LOW.len() - HIGH.len()),
         },
     }
 }
 
-/// The row of a word whose opcode has a prefix.
-fn find_prefixed(word: &str) -> Option<Row>
-    ensures { found_of result ≡ found word.now (prefixed ++ (low_vectors ++ high_vectors)) }
+/// The row at a place, from the first of `PREFIXED` on.
+fn prefixed_at(place: usize) -> Option<Row>
+    ensures { found_of result ≡ slice_get (prefixed ++ (low_vectors ++ high_vectors)) place }
 {
-    match find_in(&PREFIXED, word) {
+    match row_in(&PREFIXED, place) {
         Some(row) => Some(row),
-        None => match find_in(&LOW_VECTORS, word) {
+        None => match row_in(&LOW_VECTORS, place - PREFIXED.len()) {
             Some(row) => Some(row),
-            None => find_in(&HIGH_VECTORS, word),
+            None => row_in(&HIGH_VECTORS, place - PREFIXED.len() - LOW_VECTORS.len()),
         },
     }
 }
 
-/// The first of these rows that has the word.
-fn find_in(rows: &[Row], word: &str) -> Option<Row>
-    ensures { found_of result ≡ found word.now (map row_of rows.now) }
+fn row_in(rows: &[Row], place: usize) -> Option<Row>
+    ensures { found_of result ≡ slice_get (map row_of rows.now) place }
 {
-    for row in rows {
-        if row.word == word {
-            return Some(*row);
-        }
-    }
-    None
+    rows.get(place).copied()
 }

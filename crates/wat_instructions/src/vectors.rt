@@ -4,10 +4,9 @@ ghost use Rattle.std.specs.Prelude.{◌≡◌, IfOk};
 use std::alloc::{AllocError, AllocFailed, Global};
 use std::marker::Model;
 
-/// What each lane of a vector is: an index of a lane; an integer or a float of so many bits.
+/// What each lane of a vector is: an integer or a float of so many bits.
 #[derive(Clone, Copy)]
 pub enum Lane {
-    Index,
     I8,
     I16,
     I32,

@@ -10,7 +10,6 @@ use crate::instructions::pieces::{
 };
 use crate::instructions::table::{self, Immediate};
 use crate::instructions::types::FunctionType;
-use crate::instructions::vectors::Lane;
 use crate::instructions::{floats, memory, table_arguments, uses, vector_arguments};
 use wat_lex::shim::alloc::Global;
 
@@ -589,7 +588,7 @@ fn immediate<'p, 'a>(
         Immediate::TableInit => table_arguments::init(alloc, scope.tables, scope.elems, pieces),
         Immediate::Lane => Ok(vector_arguments::lane(pieces)?),
         Immediate::MemoryLane(natural) => Ok(vector_arguments::memory_lane(natural, pieces)?),
-        Immediate::Shuffle => vector_arguments::vector(alloc, Lane::Index, pieces),
+        Immediate::Shuffle => vector_arguments::shuffle(alloc, pieces),
         Immediate::Vector => vector_arguments::constant(alloc, pieces),
     }
 }

@@ -3,6 +3,7 @@
 
 use wat_lex::shim::prelude::*;
 use crate::instructions::pieces::Opcode;
+use crate::instructions::slots::place;
 
 /// Which immediate comes after a word.
 #[derive(Clone, Copy)]
@@ -532,44 +533,51 @@ const HIGH_VECTORS: [Row; 108] = [
 /// ensures { found_of result ≡ found word.now mnemonics }
 /// ```
 pub fn find(word: &str) -> Option<Row> {
-    match find_in(&LOW, word) {
-        Some(row) => Some(row),
-        None => match find_in(&HIGH, word) {
-            Some(row) => Some(row),
-            None => find_prefixed(word),
-        },
+    match row_at(place(word.as_bytes())) {
+        Some(row) if row.word == word => Some(row),
+        _ => None,
     }
 }
 
-/// The row of a word whose opcode has a prefix.
+/// The row at a place, from the first of `LOW` on.
 ///
 /// # Proved
 ///
 /// ```text
-/// ensures { found_of result ≡ found word.now (prefixed ++ (low_vectors ++ high_vectors)) }
+/// ensures { found_of result ≡ slice_get mnemonics place }
 /// ```
-fn find_prefixed(word: &str) -> Option<Row> {
-    match find_in(&PREFIXED, word) {
+fn row_at(place: usize) -> Option<Row> {
+    match row_in(&LOW, place) {
         Some(row) => Some(row),
-        None => match find_in(&LOW_VECTORS, word) {
+        None => match row_in(&HIGH, place - LOW.len()) {
             Some(row) => Some(row),
-            None => find_in(&HIGH_VECTORS, word),
+            None => prefixed_at(place - LOW.len() - HIGH.len()),
         },
     }
 }
 
-/// The first of these rows that has the word.
+/// The row at a place, from the first of `PREFIXED` on.
 ///
 /// # Proved
 ///
 /// ```text
-/// ensures { found_of result ≡ found word.now (map row_of rows.now) }
+/// ensures { found_of result ≡ slice_get (prefixed ++ (low_vectors ++ high_vectors)) place }
 /// ```
-fn find_in(rows: &[Row], word: &str) -> Option<Row> {
-    for row in rows {
-        if row.word == word {
-            return Some(*row);
-        }
+fn prefixed_at(place: usize) -> Option<Row> {
+    match row_in(&PREFIXED, place) {
+        Some(row) => Some(row),
+        None => match row_in(&LOW_VECTORS, place - PREFIXED.len()) {
+            Some(row) => Some(row),
+            None => row_in(&HIGH_VECTORS, place - PREFIXED.len() - LOW_VECTORS.len()),
+        },
     }
-    None
+}
+
+/// # Proved
+///
+/// ```text
+/// ensures { found_of result ≡ slice_get (map row_of rows.now) place }
+/// ```
+fn row_in(rows: &[Row], place: usize) -> Option<Row> {
+    rows.get(place).copied()
 }

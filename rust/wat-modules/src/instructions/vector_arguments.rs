@@ -88,6 +88,83 @@ pub(crate) fn memory_lane<'p, 'a>(
     Ok((Argument::MemoryLane(align, offset, n), rest))
 }
 
+/// What is left to read, and how many lanes, or indices of lanes, of it.
+#[derive(Clone, Copy)]
+struct Left<'p, 'a> {
+    lanes: usize,
+    pieces: &'p [Piece<'a>],
+}
+
+/// The indices of lanes that `i8x16.shuffle` has.
+///
+/// # Proved
+///
+/// ```text
+/// ensures { MatchResult result
+/// (λ r. grammar.lane_indices 16 (map terminal pieces.now) ≡ Ok (r.0.items, map terminal r.1.now))
+/// (λ e. Faults (grammar.lane_indices 16 (map terminal pieces.now)) e) }
+/// ```
+fn lane_indices<'p, 'a>(
+    alloc: Global,
+    pieces: &'p [Piece<'a>],
+) -> Result<(Vec<u8>, &'p [Piece<'a>]), Refusal<'p, 'a>> {
+    let mut indices = Vec::new(alloc);
+    let mut left = Left { lanes: 16, pieces };
+    'indices: loop {
+        match next_index(&mut indices, left) {
+            Ok(Some(next)) => {
+                left = next;
+            }
+            Ok(None) => return Ok((indices, left.pieces)),
+            Err(refusal) => return Err(refusal),
+        }
+    }
+}
+
+/// After one index, which is appended, where one is left.
+///
+/// # Proved
+///
+/// ```text
+/// ensures { MatchResult result
+/// (λ o. MatchOption o
+/// ((left.entry.lanes ≡ 0) × (indices.new.items ≡ indices.old.items))
+/// (λ l. (left.entry.lanes ≡ suc l.lanes) × IsIndex (map terminal left.entry.pieces.now) indices.old.items indices.new.items (map terminal l.pieces.now)))
+/// (λ e. (0 < left.entry.lanes) × Faults (grammar.lane_index (map terminal left.entry.pieces.now)) e) }
+/// ```
+fn next_index<'p, 'a>(
+    indices: &mut Vec<u8>,
+    left: Left<'p, 'a>,
+) -> Result<Option<Left<'p, 'a>>, Refusal<'p, 'a>> {
+    if left.lanes == 0 {
+        return Ok(None);
+    }
+    let (index, rest) = lane_index(left.pieces)?;
+    indices.push(index)?;
+    Ok(Some(Left {
+        lanes: left.lanes - 1,
+        pieces: rest,
+    }))
+}
+
+/// The indices of `i8x16.shuffle`, a byte each.
+///
+/// # Proved
+///
+/// ```text
+/// ensures { MatchResult result
+/// (λ r. grammar.shuffle (map terminal pieces.now) ≡ Ok (r.0, map terminal r.1.now))
+/// (λ e. Faults (grammar.shuffle (map terminal pieces.now)) e) }
+/// ```
+pub(crate) fn shuffle<'p, 'a>(
+    alloc: Global,
+    pieces: &'p [Piece<'a>],
+) -> Result<(Argument, &'p [Piece<'a>]), Refusal<'p, 'a>> {
+    let (indices, rest) = lane_indices(alloc, pieces)?;
+    let bytes = VectorBytes::new(alloc, indices)?;
+    Ok((Argument::Bytes(bytes), rest))
+}
+
 /// The bits of an integer, of which the highest is this half.
 ///
 /// # Proved
@@ -183,11 +260,6 @@ fn add_lane<'p, 'a>(
     pieces: &'p [Piece<'a>],
 ) -> Result<&'p [Piece<'a>], Refusal<'p, 'a>> {
     match lane {
-        Lane::Index => {
-            let (n, rest) = lane_index(pieces)?;
-            bytes.extend_from_slice(&n.to_le_bytes())?;
-            Ok(rest)
-        }
         Lane::I8 => {
             let (n, rest) = integer(0x80, pieces)?;
             bytes.extend_from_slice(&(n as u8).to_le_bytes())?;
@@ -230,18 +302,11 @@ fn add_lane<'p, 'a>(
 /// ```
 fn lane_count(lane: Lane) -> usize {
     match lane {
-        Lane::Index | Lane::I8 => 16,
+        Lane::I8 => 16,
         Lane::I16 => 8,
         Lane::I32 | Lane::F32 => 4,
         Lane::I64 | Lane::F64 => 2,
     }
-}
-
-/// What is left to read, and how many lanes of it.
-#[derive(Clone, Copy)]
-struct Left<'p, 'a> {
-    lanes: usize,
-    pieces: &'p [Piece<'a>],
 }
 
 /// The bytes of all lanes of a vector.
