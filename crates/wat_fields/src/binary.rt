@@ -1,9 +1,9 @@
 //! The bytes of a module.
-ghost use Rattle.std.specs.Prelude.{◌≡◌, ◌<◌, ◌≤◌, pos, ◌++◌, ◌^◌, ◌∷◌, [], ℕ, List, OnOk, IfOk, MatchOption, length, map, None, Some};
+ghost use Rattle.std.specs.Prelude.{◌≡◌, ◌<◌, ◌≤◌, pos, ◌+◌, ◌++◌, ◌^◌, ◌∷◌, [], ℕ, List, OnOk, IfOk, MatchOption, length, map, None, Some};
 ghost use Rattle.std.specs.List.{flat_map, list_any};
 ghost use Rattle.wat_fields.specs.Binary as binary;
 ghost use Rattle.wat_fields.specs.Fields as grammar;
-ghost use Rattle.wat_fields.specs.Views.{AreBelow, count, counted, counted_section, counts_of, export_of, exports_by, extern_of, field_of, fields_of, function_of, import_of, more, run_of, text_of, use_of, variable_of, data_by, elem_place_of, element_segment_of, elements_by, items_of, mode_of, place_of, segment_of};
+ghost use Rattle.wat_fields.specs.Views.{AreBelow, count, counted, counted_section, counts_of, export_of, exports_by, extern_of, field_of, fields_of, function_of, import_of, more, run_of, text_of, use_of, variable_of, data_by, elem_place_of, element_segment_of, elements_by, items_of, mode_of, place_of, section_head, segment_head, segment_of, together};
 ghost use Rattle.wat_lex.specs.binary.Encoding.{list_encoding, text_encoding};
 ghost use Rattle.wat_lex.specs.binary.Leb128.{signed_leb128, unsigned_leb128};
 ghost use Rattle.wat_instructions.specs.Types.{index_or, type_byte};
@@ -14,6 +14,7 @@ use crate::fields::{
     ElemMode, Export, ExternType, Field, Function, GlobalType, Import, IndexSpace, Limits,
     TableType, Target, TypeUse, Variable,
 };
+use crate::segments::len_of;
 use crate::uses::function_type;
 use std::alloc::{AllocError, Global};
 use wat_instructions::pieces::{Argument, Instruction, Opcode, ReferenceType, ValueType};
@@ -568,7 +569,7 @@ enum Place<'f> {
 #[derive(Clone, Copy)]
 struct Segment<'f> {
     place: Place<'f>,
-    bytes: &'f [u8],
+    strings: &'f [&'f [u8]],
 }
 
 /// Appends the data segments of a field.
@@ -587,14 +588,14 @@ fn push_data<'f>(
             };
             segments.push(Segment {
                 place,
-                bytes: &data.bytes,
+                strings: &data.strings,
             })?;
             Ok(())
         }
         Field::Memory(memory) => match &memory.data {
-            Some(bytes) => {
+            Some(strings) => {
                 let place = Place::Begin(counts.memories);
-                segments.push(Segment { place, bytes })?;
+                segments.push(Segment { place, strings })?;
                 Ok(())
             }
             None => Ok(()),
@@ -789,11 +790,37 @@ fn put_section(
     if count == 0 {
         return Ok(());
     }
-    let mut content = Vec::new(alloc);
-    put(&mut content, count)?;
-    content.extend_from_slice(items)?;
+    put_head(alloc, out, number, count, items.len())?;
+    out.extend_from_slice(items)?;
+    Ok(())
+}
+
+/// Appends what a section of so many items begins with, which take so many bytes.
+fn put_head(
+    alloc: Global,
+    out: &mut Vec<u8>,
+    number: u8,
+    count: usize,
+    len: usize,
+) -> Result<(), AllocError>
+    ensures { OnOk result (out.new.items ≡ out.old.items ++ section_head number count len) }
+{
+    let mut counted = Vec::new(alloc);
+    put(&mut counted, count)?;
     out.push(number)?;
-    put_sized(out, &content)
+    put(out, sum(counted.len(), len)?)?;
+    out.extend_from_slice(&counted)?;
+    Ok(())
+}
+
+/// The sum of two sizes. No memory holds what no number of 64 bits counts.
+fn sum(one: usize, other: usize) -> Result<usize, AllocError>
+    ensures { IfOk result (λ n. n ≡ one + other) }
+{
+    match one.checked_add(other) {
+        Some(sum) => Ok(sum),
+        None => Err(AllocError),
+    }
 }
 
 /// Appends the type section.
@@ -1127,7 +1154,50 @@ fn put_place(out: &mut Vec<u8>, types: &[FunctionType], place: Place<'_>) -> Res
     }
 }
 
-/// Appends the data section.
+/// Appends strings, one after another.
+fn put_strings(out: &mut Vec<u8>, strings: &[&[u8]]) -> Result<(), AllocError>
+    ensures { OnOk result (out.new.items ≡ out.old.items ++ together strings.now) }
+{
+    for string in strings {
+        out.extend_from_slice(string)?;
+    }
+    Ok(())
+}
+
+/// Appends what a data segment begins with, before its bytes; and how many bytes these are.
+fn put_segment_head(
+    out: &mut Vec<u8>,
+    types: &[FunctionType],
+    segment: Segment<'_>,
+) -> Result<usize, AllocError>
+    ensures head { OnOk result (out.new.items ≡ out.old.items ++ segment_head (map type_of types.now) (segment_of segment.entry)) }
+    ensures len { IfOk result (λ len. len ≡ length (together segment.entry.strings.now)) }
+{
+    let len = len_of(segment.strings)?;
+    put_place(out, types, segment.place)?;
+    put(out, len)?;
+    Ok(len)
+}
+
+/// How many bytes these data segments take.
+fn segments_len(
+    alloc: Global,
+    types: &[FunctionType],
+    segments: &[Segment<'_>],
+) -> Result<usize, AllocError>
+    ensures { IfOk result (λ len. len ≡ length (flat_map (binary.data_bytes (map type_of types.now)) (map segment_of segments.now))) }
+{
+    let mut all = 0;
+    for segment in segments {
+        let mut head = Vec::new(alloc);
+        let len = put_segment_head(&mut head, types, *segment)?;
+        all = sum(all, sum(head.len(), len)?)?;
+    }
+    Ok(all)
+}
+
+/// Appends the data section. Its size is found first, as its bytes may be most of a module's: they
+/// are written once.
 fn put_data(
     alloc: Global,
     out: &mut Vec<u8>,
@@ -1136,12 +1206,16 @@ fn put_data(
 ) -> Result<(), AllocError>
     ensures { OnOk result (out.new.items ≡ out.old.items ++ binary.list_section 11 (binary.data_bytes (map type_of types.now)) (map segment_of segments.now)) }
 {
-    let mut items = Vec::new(alloc);
-    for segment in segments {
-        put_place(&mut items, types, segment.place)?;
-        put_sized(&mut items, segment.bytes)?;
+    if segments.len() == 0 {
+        return Ok(());
     }
-    put_section(alloc, out, 11, segments.len(), &items)
+    let len = segments_len(alloc, types, segments)?;
+    put_head(alloc, out, 11, segments.len(), len)?;
+    for segment in segments {
+        put_segment_head(out, types, *segment)?;
+        put_strings(out, segment.strings)?;
+    }
+    Ok(())
 }
 
 /// `i32.const 0`.

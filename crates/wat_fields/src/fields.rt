@@ -95,13 +95,13 @@ pub struct Table<'p> {
     pub elements: Option<Vec<Vec<Instruction>>>,
 }
 
-/// A memory, and the bytes that it brings with it, if any.
+/// A memory, and the strings of the bytes that it brings with it, if any.
 #[derive(Drop)]
 pub struct Memory<'p> {
     pub name: Name<'p>,
     pub exports: Vec<&'p [u8]>,
     pub limits: Limits,
-    pub data: Option<Vec<u8>>,
+    pub data: Option<Vec<&'p [u8]>>,
 }
 
 /// Where a segment is put: a memory or a table, by its index, and the offset in it, by instructions.
@@ -128,12 +128,12 @@ pub struct Elem<'p> {
     pub elements: Vec<Vec<Instruction>>,
 }
 
-/// A data segment: passive, or put where its target says; and its bytes.
+/// A data segment: passive, or put where its target says; and the strings of its bytes.
 #[derive(Drop)]
 pub struct Data<'p> {
     pub name: Name<'p>,
     pub target: Option<Target>,
-    pub bytes: Vec<u8>,
+    pub strings: Vec<&'p [u8]>,
 }
 
 /// A global variable, and the instructions of its first value.

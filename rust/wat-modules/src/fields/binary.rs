@@ -6,6 +6,7 @@ use crate::fields::fields::{
     ElemMode, Export, ExternType, Field, Function, GlobalType, Import, IndexSpace, Limits,
     TableType, Target, TypeUse, Variable,
 };
+use crate::fields::segments::len_of;
 use crate::fields::uses::function_type;
 use wat_lex::shim::alloc::{AllocError, Global};
 use crate::instructions::pieces::{Argument, Instruction, Opcode, ReferenceType, ValueType};
@@ -691,7 +692,7 @@ enum Place<'f> {
 #[derive(Clone, Copy)]
 struct Segment<'f> {
     place: Place<'f>,
-    bytes: &'f [u8],
+    strings: &'f [&'f [u8]],
 }
 
 /// Appends the data segments of a field.
@@ -714,14 +715,14 @@ fn push_data<'f>(
             };
             segments.push(Segment {
                 place,
-                bytes: &data.bytes,
+                strings: &data.strings,
             })?;
             Ok(())
         }
         Field::Memory(memory) => match &memory.data {
-            Some(bytes) => {
+            Some(strings) => {
                 let place = Place::Begin(counts.memories);
-                segments.push(Segment { place, bytes })?;
+                segments.push(Segment { place, strings })?;
                 Ok(())
             }
             None => Ok(()),
@@ -949,11 +950,45 @@ fn put_section(
     if count == 0 {
         return Ok(());
     }
-    let mut content = Vec::new(alloc);
-    put(&mut content, count)?;
-    content.extend_from_slice(items)?;
+    put_head(alloc, out, number, count, items.len())?;
+    out.extend_from_slice(items)?;
+    Ok(())
+}
+
+/// Appends what a section of so many items begins with, which take so many bytes.
+///
+/// # Proved
+///
+/// ```text
+/// ensures { OnOk result (out.new.items ≡ out.old.items ++ section_head number count len) }
+/// ```
+fn put_head(
+    alloc: Global,
+    out: &mut Vec<u8>,
+    number: u8,
+    count: usize,
+    len: usize,
+) -> Result<(), AllocError> {
+    let mut counted = Vec::new(alloc);
+    put(&mut counted, count)?;
     out.push(number)?;
-    put_sized(out, &content)
+    put(out, sum(counted.len(), len)?)?;
+    out.extend_from_slice(&counted)?;
+    Ok(())
+}
+
+/// The sum of two sizes. No memory holds what no number of 64 bits counts.
+///
+/// # Proved
+///
+/// ```text
+/// ensures { IfOk result (λ n. n ≡ one + other) }
+/// ```
+fn sum(one: usize, other: usize) -> Result<usize, AllocError> {
+    match one.checked_add(other) {
+        Some(sum) => Ok(sum),
+        None => Err(AllocError),
+    }
 }
 
 /// Appends the type section.
@@ -1378,7 +1413,62 @@ fn put_place(
     }
 }
 
-/// Appends the data section.
+/// Appends strings, one after another.
+///
+/// # Proved
+///
+/// ```text
+/// ensures { OnOk result (out.new.items ≡ out.old.items ++ together strings.now) }
+/// ```
+fn put_strings(out: &mut Vec<u8>, strings: &[&[u8]]) -> Result<(), AllocError> {
+    for string in strings {
+        out.extend_from_slice(string)?;
+    }
+    Ok(())
+}
+
+/// Appends what a data segment begins with, before its bytes; and how many bytes these are.
+///
+/// # Proved
+///
+/// ```text
+/// ensures head { OnOk result (out.new.items ≡ out.old.items ++ segment_head (map type_of types.now) (segment_of segment.entry)) }
+/// ensures len { IfOk result (λ len. len ≡ length (together segment.entry.strings.now)) }
+/// ```
+fn put_segment_head(
+    out: &mut Vec<u8>,
+    types: &[FunctionType],
+    segment: Segment<'_>,
+) -> Result<usize, AllocError> {
+    let len = len_of(segment.strings)?;
+    put_place(out, types, segment.place)?;
+    put(out, len)?;
+    Ok(len)
+}
+
+/// How many bytes these data segments take.
+///
+/// # Proved
+///
+/// ```text
+/// ensures { IfOk result (λ len. len ≡ length (flat_map (binary.data_bytes (map type_of types.now)) (map segment_of segments.now))) }
+/// ```
+fn segments_len(
+    alloc: Global,
+    types: &[FunctionType],
+    segments: &[Segment<'_>],
+) -> Result<usize, AllocError> {
+    let mut all = 0;
+    for segment in segments {
+        let mut head = Vec::new(alloc);
+        let len = put_segment_head(&mut head, types, *segment)?;
+        all = sum(all, sum(head.len(), len)?)?;
+    }
+    Ok(all)
+}
+
+/// Appends the data section. Its size is found first, as its bytes may be most of a module's: they
+/// are written once.
 ///
 /// # Proved
 ///
@@ -1391,12 +1481,16 @@ fn put_data(
     types: &[FunctionType],
     segments: &[Segment<'_>],
 ) -> Result<(), AllocError> {
-    let mut items = Vec::new(alloc);
-    for segment in segments {
-        put_place(&mut items, types, segment.place)?;
-        put_sized(&mut items, segment.bytes)?;
+    if segments.len() == 0 {
+        return Ok(());
     }
-    put_section(alloc, out, 11, segments.len(), &items)
+    let len = segments_len(alloc, types, segments)?;
+    put_head(alloc, out, 11, segments.len(), len)?;
+    for segment in segments {
+        put_segment_head(out, types, *segment)?;
+        put_strings(out, segment.strings)?;
+    }
+    Ok(())
 }
 
 /// `i32.const 0`.
