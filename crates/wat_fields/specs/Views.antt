@@ -27,6 +27,8 @@ use Rattle.wat_fields.specs.declared.binary.Segment as declared_segment
 use Rattle.wat_fields.specs.declared.binary.Place.{Place}
 use Rattle.wat_fields.specs.declared.binary.Place.TheVariants as places
 use Rattle.wat_fields.specs.declared.fields.Target as declared_target
+use Rattle.wat_fields.specs.declared.fields.Element.{Element}
+use Rattle.wat_fields.specs.declared.fields.Element.TheVariants as elements
 use Rattle.wat_fields.specs.declared.fields.ElemMode as declared_mode
 use Rattle.wat_fields.specs.declared.fields.ElemMode.TheVariants as modes
 use Rattle.wat_fields.specs.declared.binary.ElementSegment as declared_elements
@@ -41,7 +43,7 @@ use Rattle.wat_lex.specs.binary.Leb128.{unsigned_leb128}
 use Rattle.std.specs.List.{flat_map}
 use Rattle.wat_instructions.specs.Types.{FunctionType}
 use Rattle.wat_fields.specs.Binary.{mode_bytes, Export, ImportEntry, Run, export, next_index, run, section, ElementSegment, element_segment, DataSegment, at_zero, data_segment}
-use Rattle.wat_fields.specs.Fields.{ExternType, FuncType, OfTable, OfMemory, OfGlobal, Field, TypeField, Import, Func, Table, Memory, Global, Start, Definition, Function, TypeUse, Binding, Variable, binding, definition, extern_space, type_use, variable, Data, Elem, ElemMode, Passive, Active, Declarative, Elements, Target, target}
+use Rattle.wat_fields.specs.Fields.{ExternType, FuncType, OfTable, OfMemory, OfGlobal, Field, TypeField, Import, Func, Table, Memory, Global, Start, Definition, Function, TypeUse, Binding, Variable, binding, definition, extern_space, type_use, variable, Data, Elem, ElemMode, Passive, Active, Declarative, Elements, Target, ref_func, target}
 use Rattle.wat_fields.specs.Fields as field
 use Rattle.wat_fields.specs.Reading.{Item, Depth, Before, Inside}
 
@@ -89,10 +91,11 @@ target_of (Some t) = Some (target t.index t.offset.items)
 target_of None = None
 
 -- the instructions of an element
-abbrev pub items_of : {G : Type 0} → Vec Instruction G → List Instruction
-items_of v = v.items
+abbrev pub items_of : Element → List Instruction
+items_of (elements.Function x) = ref_func x
+items_of (elements.Expression v) = v.items
 
-abbrev pub inline_elements : {G H : Type 0} → Option (Vec (Vec Instruction G) H) → Option Elements
+abbrev pub inline_elements : {G : Type 0} → Option (Vec Element G) → Option Elements
 inline_elements (Some v) = Some (map items_of v.items)
 inline_elements None = None
 

@@ -11,7 +11,7 @@ ghost use Rattle.wat_instructions.specs.Views.{type_of};
 ghost use Rattle.wat_instructions.specs.Views as unnamed;
 
 use crate::fields::{
-    ElemMode, Export, ExternType, Field, Function, GlobalType, Import, IndexSpace, Limits,
+    ElemMode, Element, Export, ExternType, Field, Function, GlobalType, Import, IndexSpace, Limits,
     TableType, Target, TypeUse, Variable,
 };
 use crate::segments::len_of;
@@ -328,14 +328,28 @@ fn add_instructions(
 fn add_elements(
     alloc: Global,
     types: &mut Vec<FunctionType>,
-    elements: &[Vec<Instruction>],
+    elements: &[Element],
 ) -> Result<(), AllocError>
     ensures { OnOk result (map type_of types.new.items ≡ binary.types_after (map type_of types.old.items) (flat_map binary.expression_types (map items_of elements.now))) }
 {
     for element in elements {
-        add_instructions(alloc, types, element)?;
+        add_element(alloc, types, element)?;
     }
     Ok(())
+}
+
+/// Appends the types that an element uses.
+fn add_element(
+    alloc: Global,
+    types: &mut Vec<FunctionType>,
+    element: &Element,
+) -> Result<(), AllocError>
+    ensures { OnOk result (map type_of types.new.items ≡ binary.types_after (map type_of types.old.items) (binary.expression_types (items_of element.now))) }
+{
+    match element {
+        Element::Function(_) => Ok(()),
+        Element::Expression(instructions) => add_instructions(alloc, types, instructions),
+    }
 }
 
 /// Appends the types that the offset of an active element segment uses.
@@ -640,7 +654,7 @@ enum ElemPlace<'f> {
 struct ElementSegment<'f> {
     place: ElemPlace<'f>,
     of: ReferenceType,
-    elements: &'f [Vec<Instruction>],
+    elements: &'f [Element],
 }
 
 /// What is done with a segment of this mode.
@@ -1238,11 +1252,31 @@ fn is_byte(byte: u8, opcode: Opcode) -> bool
     }
 }
 
+/// `ref.func`.
+fn ref_func(index: usize) -> Instruction
+    ensures { result ∷ [] ≡ grammar.ref_func index }
+{
+    Instruction {
+        opcode: Opcode::Byte(0xD2),
+        argument: Argument::Index(index),
+    }
+}
+
 /// The function of an element that is one.
-fn function_in(element: &[Instruction]) -> Option<usize>
-    ensures { result ≡ binary.function_in element.now }
+fn function_in(element: &Element) -> Option<usize>
+    ensures { result ≡ binary.function_in (items_of element.now) }
 {
     match element {
+        Element::Function(index) => Some(*index),
+        Element::Expression(instructions) => function_by(instructions),
+    }
+}
+
+/// The function of an expression that is one.
+fn function_by(instructions: &[Instruction]) -> Option<usize>
+    ensures { result ≡ binary.function_in instructions.now }
+{
+    match instructions {
         [instruction] => {
             if !is_byte(0xD2, instruction.opcode) {
                 return None;
@@ -1283,10 +1317,7 @@ fn index_of(argument: &Argument) -> Option<usize>
 }
 
 /// The functions of elements, where all are functions.
-fn functions_in(
-    alloc: Global,
-    elements: &[Vec<Instruction>],
-) -> Result<Option<Vec<usize>>, AllocError>
+fn functions_in(alloc: Global, elements: &[Element]) -> Result<Option<Vec<usize>>, AllocError>
     ensures { IfOk result (λ o. MatchOption o (binary.functions_in (map items_of elements.now) ≡ None) (λ xs. binary.functions_in (map items_of elements.now) ≡ Some xs.items)) }
 {
     let mut functions = Vec::new(alloc);
@@ -1303,7 +1334,7 @@ fn functions_in(
 fn functions_by(
     alloc: Global,
     of: ReferenceType,
-    elements: &[Vec<Instruction>],
+    elements: &[Element],
 ) -> Result<Option<Vec<usize>>, AllocError>
     ensures { IfOk result (λ o. MatchOption o (binary.functions_by of (map items_of elements.now) ≡ None) (λ xs. binary.functions_by of (map items_of elements.now) ≡ Some xs.items)) }
 {
@@ -1341,15 +1372,29 @@ fn put_expression(
 fn put_elements_of(
     out: &mut Vec<u8>,
     types: &[FunctionType],
-    elements: &[Vec<Instruction>],
+    elements: &[Element],
 ) -> Result<(), AllocError>
     ensures { OnOk result (out.new.items ≡ out.old.items ++ binary.element_list (map type_of types.now) (map items_of elements.now)) }
 {
     put(out, elements.len())?;
     for element in elements {
-        put_expression(out, types, element)?;
+        put_element(out, types, element)?;
     }
     Ok(())
+}
+
+/// Appends an element by its instructions.
+fn put_element(
+    out: &mut Vec<u8>,
+    types: &[FunctionType],
+    element: &Element,
+) -> Result<(), AllocError>
+    ensures { OnOk result (out.new.items ≡ out.old.items ++ binary.expression_bytes (map type_of types.now) (items_of element.now)) }
+{
+    match element {
+        Element::Function(index) => put_expression(out, types, &[ref_func(*index)]),
+        Element::Expression(instructions) => put_expression(out, types, instructions),
+    }
 }
 
 /// Appends a segment of functions that is put into a table.
@@ -1422,7 +1467,7 @@ fn put_active_elements(
     index: usize,
     offset: &[Instruction],
     of: ReferenceType,
-    elements: &[Vec<Instruction>],
+    elements: &[Element],
 ) -> Result<(), AllocError>
     ensures { OnOk result (out.new.items ≡ out.old.items ++ binary.other_segment (map type_of types.now) (grammar.Active (grammar.target index offset.now)) of (map items_of elements.now)) }
 {
@@ -1444,7 +1489,7 @@ fn put_other_segment(
     types: &[FunctionType],
     place: ElemPlace<'_>,
     of: ReferenceType,
-    elements: &[Vec<Instruction>],
+    elements: &[Element],
 ) -> Result<(), AllocError>
     ensures { OnOk result (out.new.items ≡ out.old.items ++ binary.other_segment (map type_of types.now) (elem_place_of place.entry) of (map items_of elements.now)) }
 {

@@ -86,13 +86,21 @@ pub struct GlobalType {
     pub value: ValueType,
 }
 
-/// A table, and the elements that it brings with it, if any: each by its instructions.
+/// An element: a function by its index, which is an expression of `ref.func` alone; or any
+/// expression, by its instructions.
+#[derive(Drop)]
+pub enum Element {
+    Function(usize),
+    Expression(Vec<Instruction>),
+}
+
+/// A table, and the elements that it brings with it, if any.
 #[derive(Drop)]
 pub struct Table<'p> {
     pub name: Name<'p>,
     pub exports: Vec<&'p [u8]>,
     pub of: TableType,
-    pub elements: Option<Vec<Vec<Instruction>>>,
+    pub elements: Option<Vec<Element>>,
 }
 
 /// A memory, and the strings of the bytes that it brings with it, if any.
@@ -119,13 +127,13 @@ pub enum ElemMode {
     Declarative,
 }
 
-/// An element segment: its elements are of a type, each by its instructions.
+/// An element segment: its elements are of a type.
 #[derive(Drop)]
 pub struct Elem<'p> {
     pub name: Name<'p>,
     pub mode: ElemMode,
     pub of: ReferenceType,
-    pub elements: Vec<Vec<Instruction>>,
+    pub elements: Vec<Element>,
 }
 
 /// A data segment: passive, or put where its target says; and the strings of its bytes.

@@ -3,7 +3,7 @@
 
 use wat_lex::shim::prelude::*;
 use crate::fields::fields::{
-    ElemMode, Export, ExternType, Field, Function, GlobalType, Import, IndexSpace, Limits,
+    ElemMode, Element, Export, ExternType, Field, Function, GlobalType, Import, IndexSpace, Limits,
     TableType, Target, TypeUse, Variable,
 };
 use crate::fields::segments::len_of;
@@ -394,12 +394,30 @@ fn add_instructions(
 fn add_elements(
     alloc: Global,
     types: &mut Vec<FunctionType>,
-    elements: &[Vec<Instruction>],
+    elements: &[Element],
 ) -> Result<(), AllocError> {
     for element in elements {
-        add_instructions(alloc, types, element)?;
+        add_element(alloc, types, element)?;
     }
     Ok(())
+}
+
+/// Appends the types that an element uses.
+///
+/// # Proved
+///
+/// ```text
+/// ensures { OnOk result (map type_of types.new.items ≡ binary.types_after (map type_of types.old.items) (binary.expression_types (items_of element.now))) }
+/// ```
+fn add_element(
+    alloc: Global,
+    types: &mut Vec<FunctionType>,
+    element: &Element,
+) -> Result<(), AllocError> {
+    match element {
+        Element::Function(_) => Ok(()),
+        Element::Expression(instructions) => add_instructions(alloc, types, instructions),
+    }
 }
 
 /// Appends the types that the offset of an active element segment uses.
@@ -770,7 +788,7 @@ enum ElemPlace<'f> {
 struct ElementSegment<'f> {
     place: ElemPlace<'f>,
     of: ReferenceType,
-    elements: &'f [Vec<Instruction>],
+    elements: &'f [Element],
 }
 
 /// What is done with a segment of this mode.
@@ -1521,15 +1539,43 @@ fn is_byte(byte: u8, opcode: Opcode) -> bool {
     }
 }
 
+/// `ref.func`.
+///
+/// # Proved
+///
+/// ```text
+/// ensures { result ∷ [] ≡ grammar.ref_func index }
+/// ```
+fn ref_func(index: usize) -> Instruction {
+    Instruction {
+        opcode: Opcode::Byte(0xD2),
+        argument: Argument::Index(index),
+    }
+}
+
 /// The function of an element that is one.
 ///
 /// # Proved
 ///
 /// ```text
-/// ensures { result ≡ binary.function_in element.now }
+/// ensures { result ≡ binary.function_in (items_of element.now) }
 /// ```
-fn function_in(element: &[Instruction]) -> Option<usize> {
+fn function_in(element: &Element) -> Option<usize> {
     match element {
+        Element::Function(index) => Some(*index),
+        Element::Expression(instructions) => function_by(instructions),
+    }
+}
+
+/// The function of an expression that is one.
+///
+/// # Proved
+///
+/// ```text
+/// ensures { result ≡ binary.function_in instructions.now }
+/// ```
+fn function_by(instructions: &[Instruction]) -> Option<usize> {
+    match instructions {
         [instruction] => {
             if !is_byte(0xD2, instruction.opcode) {
                 return None;
@@ -1580,10 +1626,7 @@ fn index_of(argument: &Argument) -> Option<usize> {
 /// ```text
 /// ensures { IfOk result (λ o. MatchOption o (binary.functions_in (map items_of elements.now) ≡ None) (λ xs. binary.functions_in (map items_of elements.now) ≡ Some xs.items)) }
 /// ```
-fn functions_in(
-    alloc: Global,
-    elements: &[Vec<Instruction>],
-) -> Result<Option<Vec<usize>>, AllocError> {
+fn functions_in(alloc: Global, elements: &[Element]) -> Result<Option<Vec<usize>>, AllocError> {
     let mut functions = Vec::new(alloc);
     for element in elements {
         match function_in(element) {
@@ -1604,7 +1647,7 @@ fn functions_in(
 fn functions_by(
     alloc: Global,
     of: ReferenceType,
-    elements: &[Vec<Instruction>],
+    elements: &[Element],
 ) -> Result<Option<Vec<usize>>, AllocError> {
     match of {
         ReferenceType::Func => functions_in(alloc, elements),
@@ -1654,13 +1697,31 @@ fn put_expression(
 fn put_elements_of(
     out: &mut Vec<u8>,
     types: &[FunctionType],
-    elements: &[Vec<Instruction>],
+    elements: &[Element],
 ) -> Result<(), AllocError> {
     put(out, elements.len())?;
     for element in elements {
-        put_expression(out, types, element)?;
+        put_element(out, types, element)?;
     }
     Ok(())
+}
+
+/// Appends an element by its instructions.
+///
+/// # Proved
+///
+/// ```text
+/// ensures { OnOk result (out.new.items ≡ out.old.items ++ binary.expression_bytes (map type_of types.now) (items_of element.now)) }
+/// ```
+fn put_element(
+    out: &mut Vec<u8>,
+    types: &[FunctionType],
+    element: &Element,
+) -> Result<(), AllocError> {
+    match element {
+        Element::Function(index) => put_expression(out, types, &[ref_func(*index)]),
+        Element::Expression(instructions) => put_expression(out, types, instructions),
+    }
 }
 
 /// Appends a segment of functions that is put into a table.
@@ -1747,7 +1808,7 @@ fn put_active_elements(
     index: usize,
     offset: &[Instruction],
     of: ReferenceType,
-    elements: &[Vec<Instruction>],
+    elements: &[Element],
 ) -> Result<(), AllocError> {
     if index == 0 && is_funcref(of) {
         out.push(0x04)?;
@@ -1773,7 +1834,7 @@ fn put_other_segment(
     types: &[FunctionType],
     place: ElemPlace<'_>,
     of: ReferenceType,
-    elements: &[Vec<Instruction>],
+    elements: &[Element],
 ) -> Result<(), AllocError> {
     match place {
         ElemPlace::Passive => {
