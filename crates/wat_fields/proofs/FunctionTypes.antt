@@ -1,8 +1,5 @@
 -- Function types that are the same are equal, and each is among those of its module.
 use Rattle.std.proofs.Common.{◌≡◌, ◌<◌, ◌∙◌, ℕ, zero, suc, Bool, true, false, List, [], ◌∷◌, ◌++◌, length, map, drop, get_or, ◌+◌, Some, refl, sym, ap, subst, arith}
-use Rattle.std.proofs.Common.{Global}
-use Rattle.std.specs.Prelude.{Vec}
-use Rattle.wat_instructions.specs.declared.pieces.Instruction.{Instruction}
 use Rattle.std.specs.Prelude.{◌==◌, ◌&&◌, if◌then◌else◌, slice_get, slice_index_or}
 use Rattle.std.proofs.lemmas.Bool.Decides.{Decides-eqb}
 use Rattle.wat_instructions.specs.declared.pieces.ReferenceType.{ReferenceType}
@@ -11,6 +8,7 @@ use Rattle.wat_instructions.specs.declared.pieces.ValueType.{ValueType}
 use Rattle.wat_instructions.specs.declared.pieces.ValueType.TheVariants as value
 use Rattle.std.specs.List.{flat_map}
 use Rattle.std.proofs.lemmas.List.{drop_more}
+use Rattle.wat_fields.specs.declared.fields.Element.{Element}
 use Rattle.wat_fields.specs.declared.fields.Field as declared
 use Rattle.wat_fields.specs.Views.{field_of, items_of}
 use Rattle.wat_instructions.specs.Types.{FunctionType, reference_byte, same_type, same_values, type_byte}
@@ -154,7 +152,7 @@ field_used fields f d i all before after h l e k =
     h ∙ ap (λ xs. types_after before (flat_map used_by (map field_of xs))) (drop_more fields i d l) ∙ ap (λ x. types_after before (used_by (field_of x) ++ rest)) (sym e) ∙ after_more before (used_by (field_of f)) rest ∙ ap (λ x. types_after x rest) (sym k)
 
 -- one element on
-pub element_used : (elements : List (Vec Instruction Global)) (e d : Vec Instruction Global) (i : ℕ) (all before after : List FunctionType) → all ≡ types_after before (flat_map expression_types (map items_of (drop i elements))) → i < length elements → e ≡ get_or elements i d → after ≡ types_after before (expression_types (items_of e)) → all ≡ types_after after (flat_map expression_types (map items_of (drop (i + 1) elements)))
+pub element_used : (elements : List Element) (e d : Element) (i : ℕ) (all before after : List FunctionType) → all ≡ types_after before (flat_map expression_types (map items_of (drop i elements))) → i < length elements → e ≡ get_or elements i d → after ≡ types_after before (expression_types (items_of e)) → all ≡ types_after after (flat_map expression_types (map items_of (drop (i + 1) elements)))
 element_used elements e d i all before after h l k a =
     let rest = flat_map expression_types (map items_of (drop (i + 1) elements)) in
     h ∙ ap (λ xs. types_after before (flat_map expression_types (map items_of xs))) (drop_more elements i d l) ∙ ap (λ x. types_after before (expression_types (items_of x) ++ rest)) (sym k) ∙ after_more before (expression_types (items_of e)) rest ∙ ap (λ x. types_after x rest) (sym a)

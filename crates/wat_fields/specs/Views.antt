@@ -1,6 +1,6 @@
 -- What the code's variables and functions are in the definitions.
 use denote.Ref.{Bor}
-use Rattle.std.specs.Prelude.{suc, ◌∷◌, ◌≡◌, ◌<◌, ◌≤◌, ◌==◌, ◌++◌, ℕ, List, [], map, Option, Some, None, Ok, Err, Vec, if◌then◌else◌}
+use Rattle.std.specs.Prelude.{suc, ◌∷◌, ◌≡◌, ◌<◌, ◌≤◌, ◌==◌, ◌+◌, ◌++◌, ℕ, List, [], length, map, Option, Some, None, Ok, Err, Vec, if◌then◌else◌}
 use Rattle.wat_instructions.specs.declared.pieces.Refusal.{Refusal}
 use Rattle.wat_instructions.specs.declared.pieces.Refusal.TheVariants as refusal
 use Rattle.wat_instructions.specs.Parts.{fault_of}
@@ -27,6 +27,8 @@ use Rattle.wat_fields.specs.declared.binary.Segment as declared_segment
 use Rattle.wat_fields.specs.declared.binary.Place.{Place}
 use Rattle.wat_fields.specs.declared.binary.Place.TheVariants as places
 use Rattle.wat_fields.specs.declared.fields.Target as declared_target
+use Rattle.wat_fields.specs.declared.fields.Element.{Element}
+use Rattle.wat_fields.specs.declared.fields.Element.TheVariants as elements
 use Rattle.wat_fields.specs.declared.fields.ElemMode as declared_mode
 use Rattle.wat_fields.specs.declared.fields.ElemMode.TheVariants as modes
 use Rattle.wat_fields.specs.declared.binary.ElementSegment as declared_elements
@@ -38,8 +40,10 @@ use Rattle.wat_fields.specs.declared.names.Names as declared_names
 use Rattle.wat_fields.specs.declared.names.Depth as declared_depth
 use Rattle.wat_fields.specs.declared.names.Depth.TheVariants as depths
 use Rattle.wat_lex.specs.binary.Leb128.{unsigned_leb128}
-use Rattle.wat_fields.specs.Binary.{Export, ImportEntry, Run, export, next_index, run, section, ElementSegment, element_segment, DataSegment, at_zero, data_segment}
-use Rattle.wat_fields.specs.Fields.{ExternType, FuncType, OfTable, OfMemory, OfGlobal, Field, TypeField, Import, Func, Table, Memory, Global, Start, Definition, Function, TypeUse, Binding, Variable, binding, definition, extern_space, type_use, variable, Data, Elem, ElemMode, Passive, Active, Declarative, Elements, Target, target}
+use Rattle.std.specs.List.{flat_map}
+use Rattle.wat_instructions.specs.Types.{FunctionType}
+use Rattle.wat_fields.specs.Binary.{mode_bytes, Export, ImportEntry, Run, export, next_index, run, section, ElementSegment, element_segment, DataSegment, at_zero, data_segment}
+use Rattle.wat_fields.specs.Fields.{ExternType, FuncType, OfTable, OfMemory, OfGlobal, Field, TypeField, Import, Func, Table, Memory, Global, Start, Definition, Function, TypeUse, Binding, Variable, binding, definition, extern_space, type_use, variable, Data, Elem, ElemMode, Passive, Active, Declarative, Elements, Target, ref_func, target}
 use Rattle.wat_fields.specs.Fields as field
 use Rattle.wat_fields.specs.Reading.{Item, Depth, Before, Inside}
 
@@ -49,6 +53,10 @@ variable_of v = variable (label v.name) v.of
 -- the bytes of a string
 abbrev pub text_of : Bor (List ℕ) → List ℕ
 text_of n = n.now
+
+-- the bytes of strings, one after another
+abbrev pub together : List (Bor (List ℕ)) → List ℕ
+together strings = flat_map text_of strings
 
 abbrev pub use_of : declared_use.TypeUse → TypeUse
 use_of u = type_use u.index (map variable_of u.params.items) (map variable_of u.results.items)
@@ -74,8 +82,8 @@ extern_of (externs.Global t) = OfGlobal t
 abbrev pub import_of : declared_import.Import → ImportEntry
 import_of i = record { from = i.from.now; name = i.item.now; what = extern_of i.what }
 
-abbrev pub bytes_of : {G : Type 0} → Option (Vec ℕ G) → Option (List ℕ)
-bytes_of (Some v) = Some v.items
+abbrev pub bytes_of : {G : Type 0} → Option (Vec (Bor (List ℕ)) G) → Option (List ℕ)
+bytes_of (Some v) = Some (together v.items)
 bytes_of None = None
 
 abbrev pub target_of : Option declared_target.Target → Option Target
@@ -83,10 +91,11 @@ target_of (Some t) = Some (target t.index t.offset.items)
 target_of None = None
 
 -- the instructions of an element
-abbrev pub items_of : {G : Type 0} → Vec Instruction G → List Instruction
-items_of v = v.items
+abbrev pub items_of : Element → List Instruction
+items_of (elements.Function x) = ref_func x
+items_of (elements.Expression v) = v.items
 
-abbrev pub inline_elements : {G H : Type 0} → Option (Vec (Vec Instruction G) H) → Option Elements
+abbrev pub inline_elements : {G : Type 0} → Option (Vec Element G) → Option Elements
 inline_elements (Some v) = Some (map items_of v.items)
 inline_elements None = None
 
@@ -108,7 +117,7 @@ field_of (fields.Memory m) = Memory (label m.name) (map text_of m.exports.items)
 field_of (fields.Global g) = Global (label g.name) (map text_of g.exports.items) g.of g.first.items
 field_of (fields.Export e) = field.Export e.name.now e.space e.index
 field_of (fields.Start i) = Start i
-field_of (fields.Data d) = Data (label d.name) (target_of d.target) d.bytes.items
+field_of (fields.Data d) = Data (label d.name) (target_of d.target) (together d.strings.items)
 field_of (fields.Elem e) = Elem (label e.name) (mode_of e.mode) e.of (map items_of e.elements.items)
 
 abbrev pub fields_of : List declared_field.Field → List Field
@@ -236,7 +245,15 @@ place_of (places.At t) = Some (target t.now.index t.now.offset.items)
 place_of (places.Begin i) = Some (target i at_zero)
 
 abbrev pub segment_of : declared_segment.Segment → DataSegment
-segment_of s = data_segment (place_of s.place) s.bytes.now
+segment_of s = data_segment (place_of s.place) (together s.strings.now)
+
+-- what a data segment begins with, before its bytes
+abbrev pub segment_head : List FunctionType → DataSegment → List ℕ
+segment_head types s = mode_bytes types s.target ++ unsigned_leb128 (length s.bytes)
+
+-- what a section of so many items begins with, which take so many bytes
+abbrev pub section_head : ℕ → ℕ → ℕ → List ℕ
+section_head number count len = number ∷ (unsigned_leb128 (length (unsigned_leb128 count) + len) ++ unsigned_leb128 count)
 
 -- the element segments of a field, and of fields, by these indices
 abbrev pub elements_by : Counts → Field → List ElementSegment

@@ -1,9 +1,9 @@
 //! The bytes of a module.
-ghost use Rattle.std.specs.Prelude.{◌≡◌, ◌<◌, ◌≤◌, pos, ◌++◌, ◌^◌, ◌∷◌, [], ℕ, List, OnOk, IfOk, MatchOption, length, map, None, Some};
+ghost use Rattle.std.specs.Prelude.{◌≡◌, ◌<◌, ◌≤◌, pos, ◌+◌, ◌++◌, ◌^◌, ◌∷◌, [], ℕ, List, OnOk, IfOk, MatchOption, length, map, None, Some};
 ghost use Rattle.std.specs.List.{flat_map, list_any};
 ghost use Rattle.wat_fields.specs.Binary as binary;
 ghost use Rattle.wat_fields.specs.Fields as grammar;
-ghost use Rattle.wat_fields.specs.Views.{AreBelow, count, counted, counted_section, counts_of, export_of, exports_by, extern_of, field_of, fields_of, function_of, import_of, more, run_of, text_of, use_of, variable_of, data_by, elem_place_of, element_segment_of, elements_by, items_of, mode_of, place_of, segment_of};
+ghost use Rattle.wat_fields.specs.Views.{AreBelow, count, counted, counted_section, counts_of, export_of, exports_by, extern_of, field_of, fields_of, function_of, import_of, more, run_of, text_of, use_of, variable_of, data_by, elem_place_of, element_segment_of, elements_by, items_of, mode_of, place_of, section_head, segment_head, segment_of, together};
 ghost use Rattle.wat_lex.specs.binary.Encoding.{list_encoding, text_encoding};
 ghost use Rattle.wat_lex.specs.binary.Leb128.{signed_leb128, unsigned_leb128};
 ghost use Rattle.wat_instructions.specs.Types.{index_or, type_byte};
@@ -11,9 +11,10 @@ ghost use Rattle.wat_instructions.specs.Views.{type_of};
 ghost use Rattle.wat_instructions.specs.Views as unnamed;
 
 use crate::fields::{
-    ElemMode, Export, ExternType, Field, Function, GlobalType, Import, IndexSpace, Limits,
+    ElemMode, Element, Export, ExternType, Field, Function, GlobalType, Import, IndexSpace, Limits,
     TableType, Target, TypeUse, Variable,
 };
+use crate::segments::len_of;
 use crate::uses::function_type;
 use std::alloc::{AllocError, Global};
 use wat_instructions::pieces::{Argument, Instruction, Opcode, ReferenceType, ValueType};
@@ -327,14 +328,28 @@ fn add_instructions(
 fn add_elements(
     alloc: Global,
     types: &mut Vec<FunctionType>,
-    elements: &[Vec<Instruction>],
+    elements: &[Element],
 ) -> Result<(), AllocError>
     ensures { OnOk result (map type_of types.new.items ≡ binary.types_after (map type_of types.old.items) (flat_map binary.expression_types (map items_of elements.now))) }
 {
     for element in elements {
-        add_instructions(alloc, types, element)?;
+        add_element(alloc, types, element)?;
     }
     Ok(())
+}
+
+/// Appends the types that an element uses.
+fn add_element(
+    alloc: Global,
+    types: &mut Vec<FunctionType>,
+    element: &Element,
+) -> Result<(), AllocError>
+    ensures { OnOk result (map type_of types.new.items ≡ binary.types_after (map type_of types.old.items) (binary.expression_types (items_of element.now))) }
+{
+    match element {
+        Element::Function(_) => Ok(()),
+        Element::Expression(instructions) => add_instructions(alloc, types, instructions),
+    }
 }
 
 /// Appends the types that the offset of an active element segment uses.
@@ -568,7 +583,7 @@ enum Place<'f> {
 #[derive(Clone, Copy)]
 struct Segment<'f> {
     place: Place<'f>,
-    bytes: &'f [u8],
+    strings: &'f [&'f [u8]],
 }
 
 /// Appends the data segments of a field.
@@ -587,14 +602,14 @@ fn push_data<'f>(
             };
             segments.push(Segment {
                 place,
-                bytes: &data.bytes,
+                strings: &data.strings,
             })?;
             Ok(())
         }
         Field::Memory(memory) => match &memory.data {
-            Some(bytes) => {
+            Some(strings) => {
                 let place = Place::Begin(counts.memories);
-                segments.push(Segment { place, bytes })?;
+                segments.push(Segment { place, strings })?;
                 Ok(())
             }
             None => Ok(()),
@@ -639,7 +654,7 @@ enum ElemPlace<'f> {
 struct ElementSegment<'f> {
     place: ElemPlace<'f>,
     of: ReferenceType,
-    elements: &'f [Vec<Instruction>],
+    elements: &'f [Element],
 }
 
 /// What is done with a segment of this mode.
@@ -789,11 +804,37 @@ fn put_section(
     if count == 0 {
         return Ok(());
     }
-    let mut content = Vec::new(alloc);
-    put(&mut content, count)?;
-    content.extend_from_slice(items)?;
+    put_head(alloc, out, number, count, items.len())?;
+    out.extend_from_slice(items)?;
+    Ok(())
+}
+
+/// Appends what a section of so many items begins with, which take so many bytes.
+fn put_head(
+    alloc: Global,
+    out: &mut Vec<u8>,
+    number: u8,
+    count: usize,
+    len: usize,
+) -> Result<(), AllocError>
+    ensures { OnOk result (out.new.items ≡ out.old.items ++ section_head number count len) }
+{
+    let mut counted = Vec::new(alloc);
+    put(&mut counted, count)?;
     out.push(number)?;
-    put_sized(out, &content)
+    put(out, sum(counted.len(), len)?)?;
+    out.extend_from_slice(&counted)?;
+    Ok(())
+}
+
+/// The sum of two sizes. No memory holds what no number of 64 bits counts.
+fn sum(one: usize, other: usize) -> Result<usize, AllocError>
+    ensures { IfOk result (λ n. n ≡ one + other) }
+{
+    match one.checked_add(other) {
+        Some(sum) => Ok(sum),
+        None => Err(AllocError),
+    }
 }
 
 /// Appends the type section.
@@ -1127,7 +1168,50 @@ fn put_place(out: &mut Vec<u8>, types: &[FunctionType], place: Place<'_>) -> Res
     }
 }
 
-/// Appends the data section.
+/// Appends strings, one after another.
+fn put_strings(out: &mut Vec<u8>, strings: &[&[u8]]) -> Result<(), AllocError>
+    ensures { OnOk result (out.new.items ≡ out.old.items ++ together strings.now) }
+{
+    for string in strings {
+        out.extend_from_slice(string)?;
+    }
+    Ok(())
+}
+
+/// Appends what a data segment begins with, before its bytes; and how many bytes these are.
+fn put_segment_head(
+    out: &mut Vec<u8>,
+    types: &[FunctionType],
+    segment: Segment<'_>,
+) -> Result<usize, AllocError>
+    ensures head { OnOk result (out.new.items ≡ out.old.items ++ segment_head (map type_of types.now) (segment_of segment.entry)) }
+    ensures len { IfOk result (λ len. len ≡ length (together segment.entry.strings.now)) }
+{
+    let len = len_of(segment.strings)?;
+    put_place(out, types, segment.place)?;
+    put(out, len)?;
+    Ok(len)
+}
+
+/// How many bytes these data segments take.
+fn segments_len(
+    alloc: Global,
+    types: &[FunctionType],
+    segments: &[Segment<'_>],
+) -> Result<usize, AllocError>
+    ensures { IfOk result (λ len. len ≡ length (flat_map (binary.data_bytes (map type_of types.now)) (map segment_of segments.now))) }
+{
+    let mut all = 0;
+    for segment in segments {
+        let mut head = Vec::new(alloc);
+        let len = put_segment_head(&mut head, types, *segment)?;
+        all = sum(all, sum(head.len(), len)?)?;
+    }
+    Ok(all)
+}
+
+/// Appends the data section. Its size is found first, as its bytes may be most of a module's: they
+/// are written once.
 fn put_data(
     alloc: Global,
     out: &mut Vec<u8>,
@@ -1136,12 +1220,16 @@ fn put_data(
 ) -> Result<(), AllocError>
     ensures { OnOk result (out.new.items ≡ out.old.items ++ binary.list_section 11 (binary.data_bytes (map type_of types.now)) (map segment_of segments.now)) }
 {
-    let mut items = Vec::new(alloc);
-    for segment in segments {
-        put_place(&mut items, types, segment.place)?;
-        put_sized(&mut items, segment.bytes)?;
+    if segments.len() == 0 {
+        return Ok(());
     }
-    put_section(alloc, out, 11, segments.len(), &items)
+    let len = segments_len(alloc, types, segments)?;
+    put_head(alloc, out, 11, segments.len(), len)?;
+    for segment in segments {
+        put_segment_head(out, types, *segment)?;
+        put_strings(out, segment.strings)?;
+    }
+    Ok(())
 }
 
 /// `i32.const 0`.
@@ -1164,11 +1252,31 @@ fn is_byte(byte: u8, opcode: Opcode) -> bool
     }
 }
 
+/// `ref.func`.
+fn ref_func(index: usize) -> Instruction
+    ensures { result ∷ [] ≡ grammar.ref_func index }
+{
+    Instruction {
+        opcode: Opcode::Byte(0xD2),
+        argument: Argument::Index(index),
+    }
+}
+
 /// The function of an element that is one.
-fn function_in(element: &[Instruction]) -> Option<usize>
-    ensures { result ≡ binary.function_in element.now }
+fn function_in(element: &Element) -> Option<usize>
+    ensures { result ≡ binary.function_in (items_of element.now) }
 {
     match element {
+        Element::Function(index) => Some(*index),
+        Element::Expression(instructions) => function_by(instructions),
+    }
+}
+
+/// The function of an expression that is one.
+fn function_by(instructions: &[Instruction]) -> Option<usize>
+    ensures { result ≡ binary.function_in instructions.now }
+{
+    match instructions {
         [instruction] => {
             if !is_byte(0xD2, instruction.opcode) {
                 return None;
@@ -1209,10 +1317,7 @@ fn index_of(argument: &Argument) -> Option<usize>
 }
 
 /// The functions of elements, where all are functions.
-fn functions_in(
-    alloc: Global,
-    elements: &[Vec<Instruction>],
-) -> Result<Option<Vec<usize>>, AllocError>
+fn functions_in(alloc: Global, elements: &[Element]) -> Result<Option<Vec<usize>>, AllocError>
     ensures { IfOk result (λ o. MatchOption o (binary.functions_in (map items_of elements.now) ≡ None) (λ xs. binary.functions_in (map items_of elements.now) ≡ Some xs.items)) }
 {
     let mut functions = Vec::new(alloc);
@@ -1229,7 +1334,7 @@ fn functions_in(
 fn functions_by(
     alloc: Global,
     of: ReferenceType,
-    elements: &[Vec<Instruction>],
+    elements: &[Element],
 ) -> Result<Option<Vec<usize>>, AllocError>
     ensures { IfOk result (λ o. MatchOption o (binary.functions_by of (map items_of elements.now) ≡ None) (λ xs. binary.functions_by of (map items_of elements.now) ≡ Some xs.items)) }
 {
@@ -1267,15 +1372,29 @@ fn put_expression(
 fn put_elements_of(
     out: &mut Vec<u8>,
     types: &[FunctionType],
-    elements: &[Vec<Instruction>],
+    elements: &[Element],
 ) -> Result<(), AllocError>
     ensures { OnOk result (out.new.items ≡ out.old.items ++ binary.element_list (map type_of types.now) (map items_of elements.now)) }
 {
     put(out, elements.len())?;
     for element in elements {
-        put_expression(out, types, element)?;
+        put_element(out, types, element)?;
     }
     Ok(())
+}
+
+/// Appends an element by its instructions.
+fn put_element(
+    out: &mut Vec<u8>,
+    types: &[FunctionType],
+    element: &Element,
+) -> Result<(), AllocError>
+    ensures { OnOk result (out.new.items ≡ out.old.items ++ binary.expression_bytes (map type_of types.now) (items_of element.now)) }
+{
+    match element {
+        Element::Function(index) => put_expression(out, types, &[ref_func(*index)]),
+        Element::Expression(instructions) => put_expression(out, types, instructions),
+    }
 }
 
 /// Appends a segment of functions that is put into a table.
@@ -1348,7 +1467,7 @@ fn put_active_elements(
     index: usize,
     offset: &[Instruction],
     of: ReferenceType,
-    elements: &[Vec<Instruction>],
+    elements: &[Element],
 ) -> Result<(), AllocError>
     ensures { OnOk result (out.new.items ≡ out.old.items ++ binary.other_segment (map type_of types.now) (grammar.Active (grammar.target index offset.now)) of (map items_of elements.now)) }
 {
@@ -1370,7 +1489,7 @@ fn put_other_segment(
     types: &[FunctionType],
     place: ElemPlace<'_>,
     of: ReferenceType,
-    elements: &[Vec<Instruction>],
+    elements: &[Element],
 ) -> Result<(), AllocError>
     ensures { OnOk result (out.new.items ≡ out.old.items ++ binary.other_segment (map type_of types.now) (elem_place_of place.entry) of (map items_of elements.now)) }
 {

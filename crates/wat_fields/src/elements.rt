@@ -1,5 +1,5 @@
 //! Element segments, and tables that bring their elements.
-ghost use Rattle.std.specs.Prelude.{◌≡◌, [], ◌∷◌, Ok, Err, Some, IfOk, codes, map, MatchOption, MatchResult};
+ghost use Rattle.std.specs.Prelude.{◌≡◌, [], ◌∷◌, Ok, Err, Some, codes, map, MatchOption, MatchResult};
 ghost use Rattle.wat_fields.specs.Fields as grammar;
 ghost use Rattle.wat_fields.specs.Reading as reading;
 ghost use Rattle.wat_fields.specs.Views.{IsItem, ItemFaults, NoItem, context_of, field_of, items_of, mode_of, text_of};
@@ -7,15 +7,13 @@ ghost use Rattle.wat_instructions.specs.Grammar.{label_of, reference_type};
 ghost use Rattle.wat_instructions.specs.Parts.{Faults, fault_of};
 ghost use Rattle.wat_instructions.specs.Terminals.{label, terminal};
 
-use crate::fields::{Elem, ElemMode, Field, Left, Limits, Table, TableType, Target};
+use crate::fields::{Elem, ElemMode, Element, Field, Left, Limits, Table, TableType, Target};
 use crate::header::{after, closed};
 use crate::names::Names;
 use crate::segments::{expression, used};
 use crate::types::{table_type, twice_closed};
-use std::alloc::{AllocError, Global};
-use wat_instructions::pieces::{
-    Argument, Fault, FaultKind, Instruction, Name, Opcode, Piece, ReferenceType, Refusal,
-};
+use std::alloc::Global;
+use wat_instructions::pieces::{Fault, FaultKind, Name, Piece, ReferenceType, Refusal};
 use wat_instructions::reading;
 
 /// Elements by their instructions.
@@ -23,7 +21,7 @@ fn items<'p, 'a>(
     alloc: Global,
     names: &Names<'p>,
     pieces: &'p [Piece<'a>],
-) -> Result<(Vec<Vec<Instruction>>, &'p [Piece<'a>]), Refusal<'p, 'a>>
+) -> Result<(Vec<Element>, &'p [Piece<'a>]), Refusal<'p, 'a>>
     ensures { MatchResult result
         (λ r. reading.all (reading.element_item (context_of names.now)) (map terminal pieces.now) ≡ Ok (map items_of r.0.items, map terminal r.1.now))
         (λ e. Faults (reading.all (reading.element_item (context_of names.now)) (map terminal pieces.now)) e) }
@@ -49,7 +47,7 @@ fn items<'p, 'a>(
 fn next_item<'p, 'a>(
     alloc: Global,
     names: &Names<'p>,
-    found: &mut Vec<Vec<Instruction>>,
+    found: &mut Vec<Element>,
     left: Left<'p, 'a>,
 ) -> Result<Option<Left<'p, 'a>>, Refusal<'p, 'a>>
     ensures { MatchResult result
@@ -61,7 +59,7 @@ fn next_item<'p, 'a>(
     match left.pieces {
         [Piece::Open, ..] => match expression(alloc, names, "item", left.pieces) {
             Ok((element, pieces)) => {
-                found.push(element)?;
+                found.push(Element::Expression(element))?;
                 Ok(Some(Left { pieces }))
             }
             Err(refusal) => Err(refusal),
@@ -85,7 +83,7 @@ fn functions<'p, 'a>(
     alloc: Global,
     names: &Names<'p>,
     pieces: &'p [Piece<'a>],
-) -> Result<(Vec<Vec<Instruction>>, &'p [Piece<'a>]), Refusal<'p, 'a>>
+) -> Result<(Vec<Element>, &'p [Piece<'a>]), Refusal<'p, 'a>>
     ensures { MatchResult result
         (λ r. reading.all (reading.function_item (context_of names.now)) (map terminal pieces.now) ≡ Ok (map items_of r.0.items, map terminal r.1.now))
         (λ e. Faults (reading.all (reading.function_item (context_of names.now)) (map terminal pieces.now)) e) }
@@ -96,7 +94,7 @@ fn functions<'p, 'a>(
     let mut found = Vec::new(alloc);
     let mut left = Left { pieces };
     'functions: loop {
-        match next_function(alloc, names, &mut found, left) {
+        match next_function(names, &mut found, left) {
             Ok(Some(next)) => {
                 left = next;
             }
@@ -109,9 +107,8 @@ fn functions<'p, 'a>(
 /// One of them, where there is one.
 #[tactic(auto, unfolding(crate::specs::Reading::function_item))]
 fn next_function<'p, 'a>(
-    alloc: Global,
     names: &Names<'p>,
-    found: &mut Vec<Vec<Instruction>>,
+    found: &mut Vec<Element>,
     left: Left<'p, 'a>,
 ) -> Result<Option<Left<'p, 'a>>, Refusal<'p, 'a>>
     ensures { MatchResult result
@@ -123,7 +120,7 @@ fn next_function<'p, 'a>(
     match left.pieces {
         [Piece::Integer(_, _) | Piece::Id(_), ..] => {
             let (index, pieces) = reading::index(&names.funcs, left.pieces)?;
-            found.push(ref_func(alloc, index)?)?;
+            found.push(Element::Function(index))?;
             Ok(Some(Left { pieces }))
         }
         [
@@ -139,25 +136,13 @@ fn next_function<'p, 'a>(
     }
 }
 
-/// The element that is a function.
-fn ref_func(alloc: Global, index: usize) -> Result<Vec<Instruction>, AllocError>
-    ensures { IfOk result (λ e. e.items ≡ grammar.ref_func index) }
-{
-    let mut element = Vec::new(alloc);
-    element.push(Instruction {
-        opcode: Opcode::Byte(0xD2),
-        argument: Argument::Index(index),
-    })?;
-    Ok(element)
-}
-
 /// Elements, by their instructions or by their functions.
 #[tactic(auto, unfolding(crate::specs::Reading::either_at))]
 fn either<'p, 'a>(
     alloc: Global,
     names: &Names<'p>,
     pieces: &'p [Piece<'a>],
-) -> Result<(Vec<Vec<Instruction>>, &'p [Piece<'a>]), Refusal<'p, 'a>>
+) -> Result<(Vec<Element>, &'p [Piece<'a>]), Refusal<'p, 'a>>
     ensures { MatchResult result
         (λ r. reading.either_at (context_of names.now) (map terminal pieces.now) ≡ Ok (map items_of r.0.items, map terminal r.1.now))
         (λ e. Faults (reading.either_at (context_of names.now) (map terminal pieces.now)) e) }
@@ -282,7 +267,7 @@ fn table_with<'p, 'a>(
     exports: Vec<&'p [u8]>,
     of: ReferenceType,
     all: &'p [Piece<'a>],
-    elements: Vec<Vec<Instruction>>,
+    elements: Vec<Element>,
     rest: &'p [Piece<'a>],
 ) -> Result<(Field<'p>, &'p [Piece<'a>]), Fault<'p, 'a>>
     ensures { MatchResult result
@@ -319,7 +304,7 @@ fn elements<'p, 'a>(
     alloc: Global,
     names: &Names<'p>,
     pieces: &'p [Piece<'a>],
-) -> Result<((ReferenceType, Vec<Vec<Instruction>>), &'p [Piece<'a>]), Refusal<'p, 'a>>
+) -> Result<((ReferenceType, Vec<Element>), &'p [Piece<'a>]), Refusal<'p, 'a>>
     ensures { MatchResult result
         (λ r. reading.elements_at (context_of names.now) (map terminal pieces.now) ≡ Ok ((r.0.0, map items_of r.0.1.items), map terminal r.1.now))
         (λ e. Faults (reading.elements_at (context_of names.now) (map terminal pieces.now)) e) }
@@ -353,7 +338,7 @@ fn elements_after<'p, 'a>(
     word: &str,
     all: &'p [Piece<'a>],
     pieces: &'p [Piece<'a>],
-) -> Result<((ReferenceType, Vec<Vec<Instruction>>), &'p [Piece<'a>]), Refusal<'p, 'a>>
+) -> Result<((ReferenceType, Vec<Element>), &'p [Piece<'a>]), Refusal<'p, 'a>>
     ensures { MatchResult result
         (λ r. reading.elements_by (context_of names.now) word.now (reference_type word.now) (map terminal all.now) (map terminal pieces.now) ≡ Ok ((r.0.0, map items_of r.0.1.items), map terminal r.1.now))
         (λ e. Faults (reading.elements_by (context_of names.now) word.now (reference_type word.now) (map terminal all.now) (map terminal pieces.now)) e) }

@@ -1,8 +1,8 @@
 //! Data segments, and what segments use.
-ghost use Rattle.std.specs.Prelude.{◌≡◌, [], ◌∷◌, Ok, Err, map, MatchOption, MatchResult};
+ghost use Rattle.std.specs.Prelude.{◌≡◌, ◌<◌, ◌^◌, [], ◌∷◌, Ok, Err, length, map, IfOk, MatchOption, MatchResult};
 ghost use Rattle.wat_fields.specs.Fields as grammar;
 ghost use Rattle.wat_fields.specs.Reading as reading;
-ghost use Rattle.wat_fields.specs.Views.{IsItem, ItemFaults, NoItem, context_of, field_of, target_of, text_of};
+ghost use Rattle.wat_fields.specs.Views.{IsItem, ItemFaults, NoItem, context_of, field_of, target_of, text_of, together};
 ghost use Rattle.wat_instructions.specs.Grammar.{label_of};
 ghost use Rattle.wat_instructions.specs.Parts.{Faults, fault_of};
 ghost use Rattle.wat_instructions.specs.Terminals.{label, terminal};
@@ -12,7 +12,7 @@ use crate::fields::{Data, Field, Left, Limits, Memory, Target, scope};
 use crate::header::{after, closed};
 use crate::names::Names;
 use crate::types::{limits, twice_closed};
-use std::alloc::Global;
+use std::alloc::{AllocError, Global};
 use wat_instructions::names::IndexedNames;
 use wat_instructions::pieces::{Fault, FaultKind, Instruction, Name, Piece, Refusal};
 use wat_instructions::{machine, reading};
@@ -20,13 +20,16 @@ use wat_instructions::{machine, reading};
 /// The bytes of a page of a memory.
 const PAGE: usize = 0x1_0000;
 
-/// Strings, together.
+/// A slice has fewer bytes.
+const MOST: usize = 1 << 63;
+
+/// Strings.
 fn strings<'p, 'a>(
     alloc: Global,
     pieces: &'p [Piece<'a>],
-) -> Result<(Vec<u8>, &'p [Piece<'a>]), Refusal<'p, 'a>>
+) -> Result<(Vec<&'p [u8]>, &'p [Piece<'a>]), Refusal<'p, 'a>>
     ensures { MatchResult result
-        (λ r. reading.all reading.string_item (map terminal pieces.now) ≡ Ok (r.0.items, map terminal r.1.now))
+        (λ r. reading.all reading.string_item (map terminal pieces.now) ≡ Ok (together r.0.items, map terminal r.1.now))
         (λ e. Faults (reading.all reading.string_item (map terminal pieces.now)) e) }
 {
     let mut found = Vec::new(alloc);
@@ -45,18 +48,18 @@ fn strings<'p, 'a>(
 /// One string, where there is one.
 #[tactic(auto, unfolding(crate::specs::Reading::string_item))]
 fn next_string<'p, 'a>(
-    found: &mut Vec<u8>,
+    found: &mut Vec<&'p [u8]>,
     left: Left<'p, 'a>,
 ) -> Result<Option<Left<'p, 'a>>, Refusal<'p, 'a>>
     ensures { MatchResult result
         (λ o. MatchOption o
-        (NoItem (reading.string_item (map terminal left.entry.pieces.now)) (found.old.items) (found.new.items))
-        (λ l. IsItem (reading.string_item (map terminal left.entry.pieces.now)) (found.old.items) (found.new.items) (map terminal l.pieces.now)))
+        (NoItem (reading.string_item (map terminal left.entry.pieces.now)) (together found.old.items) (together found.new.items))
+        (λ l. IsItem (reading.string_item (map terminal left.entry.pieces.now)) (together found.old.items) (together found.new.items) (map terminal l.pieces.now)))
         (λ e. ItemFaults (reading.string_item (map terminal left.entry.pieces.now)) e) }
 {
     match left.pieces {
         [Piece::Text(text), pieces @ ..] => {
-            found.extend_from_slice(text)?;
+            found.push(*text)?;
             Ok(Some(Left { pieces }))
         }
         [
@@ -124,29 +127,29 @@ fn memory_data<'p, 'a>(
         (λ r. reading.memory_data (label name.entry) (map text_of exports.entry.items) (map terminal pieces.now) ≡ Ok (field_of r.0 ∷ [], map terminal r.1.now))
         (λ e. Faults (reading.memory_data (label name.entry) (map text_of exports.entry.items) (map terminal pieces.now)) e) }
 {
-    let (bytes, rest) = strings(alloc, pieces)?;
+    let (strings, rest) = strings(alloc, pieces)?;
     let rest = twice_closed(rest)?;
-    Ok(memory_of(name, exports, pieces, bytes, rest)?)
+    memory_of(name, exports, pieces, strings, rest)
 }
 
-/// A memory of as many pages as hold these bytes, which it brings.
+/// A memory of as many pages as hold the bytes of these strings, which it brings.
 fn memory_of<'p, 'a>(
     name: Name<'p>,
     exports: Vec<&'p [u8]>,
     all: &'p [Piece<'a>],
-    bytes: Vec<u8>,
+    strings: Vec<&'p [u8]>,
     rest: &'p [Piece<'a>],
-) -> Result<(Field<'p>, &'p [Piece<'a>]), Fault<'p, 'a>>
+) -> Result<(Field<'p>, &'p [Piece<'a>]), Refusal<'p, 'a>>
     ensures { MatchResult result
-        (λ r. reading.memory_of (label name.entry) (map text_of exports.entry.items) (map terminal all.now) bytes.items (map terminal rest.now) ≡ Ok (field_of r.0 ∷ [], map terminal r.1.now))
-        (λ f. reading.memory_of (label name.entry) (map text_of exports.entry.items) (map terminal all.now) bytes.items (map terminal rest.now) ≡ Err (fault_of f)) }
+        (λ r. reading.memory_of (label name.entry) (map text_of exports.entry.items) (map terminal all.now) (together strings.entry.items) (map terminal rest.now) ≡ Ok (field_of r.0 ∷ [], map terminal r.1.now))
+        (λ e. Faults (reading.memory_of (label name.entry) (map text_of exports.entry.items) (map terminal all.now) (together strings.entry.items) (map terminal rest.now)) e) }
 {
-    let pages = pages_of(&bytes);
+    let pages = pages_of(&strings)?;
     if pages >= 0x1_0000_0000 {
-        return Err(Fault {
+        return Err(Refusal::Text(Fault {
             kind: FaultKind::OutOfRange,
             left: all,
-        });
+        }));
     }
     let size = pages as u32;
     Ok((
@@ -157,17 +160,33 @@ fn memory_of<'p, 'a>(
                 min: size,
                 max: Some(size),
             },
-            data: Some(bytes),
+            data: Some(strings),
         }),
         rest,
     ))
 }
 
-/// How many pages hold these bytes.
-fn pages_of(bytes: &[u8]) -> usize
-    ensures { result ≡ grammar.pages_of bytes.now }
+/// How many bytes these strings have together. Memory is refused where they are more than a slice
+/// can have.
+pub(crate) fn len_of(strings: &[&[u8]]) -> Result<usize, AllocError>
+    ensures is { IfOk result (λ len. len ≡ length (together strings.now)) }
+    ensures small { IfOk result (λ len. len < 2 ^ 63) }
 {
-    (bytes.len() + (PAGE - 1)) / PAGE
+    let mut len = 0;
+    for string in strings {
+        len += string.len();
+        if len >= MOST {
+            return Err(AllocError);
+        }
+    }
+    Ok(len)
+}
+
+/// How many pages hold the bytes of these strings.
+fn pages_of(strings: &[&[u8]]) -> Result<usize, AllocError>
+    ensures { IfOk result (λ pages. pages ≡ grammar.pages_of (together strings.now)) }
+{
+    Ok((len_of(strings)? + (PAGE - 1)) / PAGE)
 }
 
 /// The memory or the table that a segment uses: the one that is said after the word, or the first.
@@ -342,13 +361,13 @@ fn data_strings<'p, 'a>(
         (λ r. reading.data_strings (label name.entry) (target_of target) (map terminal pieces.now) ≡ Ok (field_of r.0 ∷ [], map terminal r.1.now))
         (λ e. Faults (reading.data_strings (label name.entry) (target_of target) (map terminal pieces.now)) e) }
 {
-    let (bytes, rest) = strings(alloc, pieces)?;
+    let (strings, rest) = strings(alloc, pieces)?;
     let rest = closed(rest)?;
     Ok((
         Field::Data(Data {
             name,
             target,
-            bytes,
+            strings,
         }),
         rest,
     ))

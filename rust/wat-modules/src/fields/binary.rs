@@ -3,9 +3,10 @@
 
 use wat_lex::shim::prelude::*;
 use crate::fields::fields::{
-    ElemMode, Export, ExternType, Field, Function, GlobalType, Import, IndexSpace, Limits,
+    ElemMode, Element, Export, ExternType, Field, Function, GlobalType, Import, IndexSpace, Limits,
     TableType, Target, TypeUse, Variable,
 };
+use crate::fields::segments::len_of;
 use crate::fields::uses::function_type;
 use wat_lex::shim::alloc::{AllocError, Global};
 use crate::instructions::pieces::{Argument, Instruction, Opcode, ReferenceType, ValueType};
@@ -393,12 +394,30 @@ fn add_instructions(
 fn add_elements(
     alloc: Global,
     types: &mut Vec<FunctionType>,
-    elements: &[Vec<Instruction>],
+    elements: &[Element],
 ) -> Result<(), AllocError> {
     for element in elements {
-        add_instructions(alloc, types, element)?;
+        add_element(alloc, types, element)?;
     }
     Ok(())
+}
+
+/// Appends the types that an element uses.
+///
+/// # Proved
+///
+/// ```text
+/// ensures { OnOk result (map type_of types.new.items ≡ binary.types_after (map type_of types.old.items) (binary.expression_types (items_of element.now))) }
+/// ```
+fn add_element(
+    alloc: Global,
+    types: &mut Vec<FunctionType>,
+    element: &Element,
+) -> Result<(), AllocError> {
+    match element {
+        Element::Function(_) => Ok(()),
+        Element::Expression(instructions) => add_instructions(alloc, types, instructions),
+    }
 }
 
 /// Appends the types that the offset of an active element segment uses.
@@ -691,7 +710,7 @@ enum Place<'f> {
 #[derive(Clone, Copy)]
 struct Segment<'f> {
     place: Place<'f>,
-    bytes: &'f [u8],
+    strings: &'f [&'f [u8]],
 }
 
 /// Appends the data segments of a field.
@@ -714,14 +733,14 @@ fn push_data<'f>(
             };
             segments.push(Segment {
                 place,
-                bytes: &data.bytes,
+                strings: &data.strings,
             })?;
             Ok(())
         }
         Field::Memory(memory) => match &memory.data {
-            Some(bytes) => {
+            Some(strings) => {
                 let place = Place::Begin(counts.memories);
-                segments.push(Segment { place, bytes })?;
+                segments.push(Segment { place, strings })?;
                 Ok(())
             }
             None => Ok(()),
@@ -769,7 +788,7 @@ enum ElemPlace<'f> {
 struct ElementSegment<'f> {
     place: ElemPlace<'f>,
     of: ReferenceType,
-    elements: &'f [Vec<Instruction>],
+    elements: &'f [Element],
 }
 
 /// What is done with a segment of this mode.
@@ -949,11 +968,45 @@ fn put_section(
     if count == 0 {
         return Ok(());
     }
-    let mut content = Vec::new(alloc);
-    put(&mut content, count)?;
-    content.extend_from_slice(items)?;
+    put_head(alloc, out, number, count, items.len())?;
+    out.extend_from_slice(items)?;
+    Ok(())
+}
+
+/// Appends what a section of so many items begins with, which take so many bytes.
+///
+/// # Proved
+///
+/// ```text
+/// ensures { OnOk result (out.new.items ≡ out.old.items ++ section_head number count len) }
+/// ```
+fn put_head(
+    alloc: Global,
+    out: &mut Vec<u8>,
+    number: u8,
+    count: usize,
+    len: usize,
+) -> Result<(), AllocError> {
+    let mut counted = Vec::new(alloc);
+    put(&mut counted, count)?;
     out.push(number)?;
-    put_sized(out, &content)
+    put(out, sum(counted.len(), len)?)?;
+    out.extend_from_slice(&counted)?;
+    Ok(())
+}
+
+/// The sum of two sizes. No memory holds what no number of 64 bits counts.
+///
+/// # Proved
+///
+/// ```text
+/// ensures { IfOk result (λ n. n ≡ one + other) }
+/// ```
+fn sum(one: usize, other: usize) -> Result<usize, AllocError> {
+    match one.checked_add(other) {
+        Some(sum) => Ok(sum),
+        None => Err(AllocError),
+    }
 }
 
 /// Appends the type section.
@@ -1378,7 +1431,62 @@ fn put_place(
     }
 }
 
-/// Appends the data section.
+/// Appends strings, one after another.
+///
+/// # Proved
+///
+/// ```text
+/// ensures { OnOk result (out.new.items ≡ out.old.items ++ together strings.now) }
+/// ```
+fn put_strings(out: &mut Vec<u8>, strings: &[&[u8]]) -> Result<(), AllocError> {
+    for string in strings {
+        out.extend_from_slice(string)?;
+    }
+    Ok(())
+}
+
+/// Appends what a data segment begins with, before its bytes; and how many bytes these are.
+///
+/// # Proved
+///
+/// ```text
+/// ensures head { OnOk result (out.new.items ≡ out.old.items ++ segment_head (map type_of types.now) (segment_of segment.entry)) }
+/// ensures len { IfOk result (λ len. len ≡ length (together segment.entry.strings.now)) }
+/// ```
+fn put_segment_head(
+    out: &mut Vec<u8>,
+    types: &[FunctionType],
+    segment: Segment<'_>,
+) -> Result<usize, AllocError> {
+    let len = len_of(segment.strings)?;
+    put_place(out, types, segment.place)?;
+    put(out, len)?;
+    Ok(len)
+}
+
+/// How many bytes these data segments take.
+///
+/// # Proved
+///
+/// ```text
+/// ensures { IfOk result (λ len. len ≡ length (flat_map (binary.data_bytes (map type_of types.now)) (map segment_of segments.now))) }
+/// ```
+fn segments_len(
+    alloc: Global,
+    types: &[FunctionType],
+    segments: &[Segment<'_>],
+) -> Result<usize, AllocError> {
+    let mut all = 0;
+    for segment in segments {
+        let mut head = Vec::new(alloc);
+        let len = put_segment_head(&mut head, types, *segment)?;
+        all = sum(all, sum(head.len(), len)?)?;
+    }
+    Ok(all)
+}
+
+/// Appends the data section. Its size is found first, as its bytes may be most of a module's: they
+/// are written once.
 ///
 /// # Proved
 ///
@@ -1391,12 +1499,16 @@ fn put_data(
     types: &[FunctionType],
     segments: &[Segment<'_>],
 ) -> Result<(), AllocError> {
-    let mut items = Vec::new(alloc);
-    for segment in segments {
-        put_place(&mut items, types, segment.place)?;
-        put_sized(&mut items, segment.bytes)?;
+    if segments.len() == 0 {
+        return Ok(());
     }
-    put_section(alloc, out, 11, segments.len(), &items)
+    let len = segments_len(alloc, types, segments)?;
+    put_head(alloc, out, 11, segments.len(), len)?;
+    for segment in segments {
+        put_segment_head(out, types, *segment)?;
+        put_strings(out, segment.strings)?;
+    }
+    Ok(())
 }
 
 /// `i32.const 0`.
@@ -1427,15 +1539,43 @@ fn is_byte(byte: u8, opcode: Opcode) -> bool {
     }
 }
 
+/// `ref.func`.
+///
+/// # Proved
+///
+/// ```text
+/// ensures { result ∷ [] ≡ grammar.ref_func index }
+/// ```
+fn ref_func(index: usize) -> Instruction {
+    Instruction {
+        opcode: Opcode::Byte(0xD2),
+        argument: Argument::Index(index),
+    }
+}
+
 /// The function of an element that is one.
 ///
 /// # Proved
 ///
 /// ```text
-/// ensures { result ≡ binary.function_in element.now }
+/// ensures { result ≡ binary.function_in (items_of element.now) }
 /// ```
-fn function_in(element: &[Instruction]) -> Option<usize> {
+fn function_in(element: &Element) -> Option<usize> {
     match element {
+        Element::Function(index) => Some(*index),
+        Element::Expression(instructions) => function_by(instructions),
+    }
+}
+
+/// The function of an expression that is one.
+///
+/// # Proved
+///
+/// ```text
+/// ensures { result ≡ binary.function_in instructions.now }
+/// ```
+fn function_by(instructions: &[Instruction]) -> Option<usize> {
+    match instructions {
         [instruction] => {
             if !is_byte(0xD2, instruction.opcode) {
                 return None;
@@ -1486,10 +1626,7 @@ fn index_of(argument: &Argument) -> Option<usize> {
 /// ```text
 /// ensures { IfOk result (λ o. MatchOption o (binary.functions_in (map items_of elements.now) ≡ None) (λ xs. binary.functions_in (map items_of elements.now) ≡ Some xs.items)) }
 /// ```
-fn functions_in(
-    alloc: Global,
-    elements: &[Vec<Instruction>],
-) -> Result<Option<Vec<usize>>, AllocError> {
+fn functions_in(alloc: Global, elements: &[Element]) -> Result<Option<Vec<usize>>, AllocError> {
     let mut functions = Vec::new(alloc);
     for element in elements {
         match function_in(element) {
@@ -1510,7 +1647,7 @@ fn functions_in(
 fn functions_by(
     alloc: Global,
     of: ReferenceType,
-    elements: &[Vec<Instruction>],
+    elements: &[Element],
 ) -> Result<Option<Vec<usize>>, AllocError> {
     match of {
         ReferenceType::Func => functions_in(alloc, elements),
@@ -1560,13 +1697,31 @@ fn put_expression(
 fn put_elements_of(
     out: &mut Vec<u8>,
     types: &[FunctionType],
-    elements: &[Vec<Instruction>],
+    elements: &[Element],
 ) -> Result<(), AllocError> {
     put(out, elements.len())?;
     for element in elements {
-        put_expression(out, types, element)?;
+        put_element(out, types, element)?;
     }
     Ok(())
+}
+
+/// Appends an element by its instructions.
+///
+/// # Proved
+///
+/// ```text
+/// ensures { OnOk result (out.new.items ≡ out.old.items ++ binary.expression_bytes (map type_of types.now) (items_of element.now)) }
+/// ```
+fn put_element(
+    out: &mut Vec<u8>,
+    types: &[FunctionType],
+    element: &Element,
+) -> Result<(), AllocError> {
+    match element {
+        Element::Function(index) => put_expression(out, types, &[ref_func(*index)]),
+        Element::Expression(instructions) => put_expression(out, types, instructions),
+    }
 }
 
 /// Appends a segment of functions that is put into a table.
@@ -1653,7 +1808,7 @@ fn put_active_elements(
     index: usize,
     offset: &[Instruction],
     of: ReferenceType,
-    elements: &[Vec<Instruction>],
+    elements: &[Element],
 ) -> Result<(), AllocError> {
     if index == 0 && is_funcref(of) {
         out.push(0x04)?;
@@ -1679,7 +1834,7 @@ fn put_other_segment(
     types: &[FunctionType],
     place: ElemPlace<'_>,
     of: ReferenceType,
-    elements: &[Vec<Instruction>],
+    elements: &[Element],
 ) -> Result<(), AllocError> {
     match place {
         ElemPlace::Passive => {

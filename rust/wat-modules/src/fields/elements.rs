@@ -2,15 +2,13 @@
 //! Element segments, and tables that bring their elements.
 
 use wat_lex::shim::prelude::*;
-use crate::fields::fields::{Elem, ElemMode, Field, Left, Limits, Table, TableType, Target};
+use crate::fields::fields::{Elem, ElemMode, Element, Field, Left, Limits, Table, TableType, Target};
 use crate::fields::header::{after, closed};
 use crate::fields::names::Names;
 use crate::fields::segments::{expression, used};
 use crate::fields::types::{table_type, twice_closed};
-use wat_lex::shim::alloc::{AllocError, Global};
-use crate::instructions::pieces::{
-    Argument, Fault, FaultKind, Instruction, Name, Opcode, Piece, ReferenceType, Refusal,
-};
+use wat_lex::shim::alloc::Global;
+use crate::instructions::pieces::{Fault, FaultKind, Name, Piece, ReferenceType, Refusal};
 use crate::instructions::reading;
 
 /// Elements by their instructions.
@@ -26,7 +24,7 @@ fn items<'p, 'a>(
     alloc: Global,
     names: &Names<'p>,
     pieces: &'p [Piece<'a>],
-) -> Result<(Vec<Vec<Instruction>>, &'p [Piece<'a>]), Refusal<'p, 'a>> {
+) -> Result<(Vec<Element>, &'p [Piece<'a>]), Refusal<'p, 'a>> {
     crate::instructions::laws::machine_is_grammar();
     crate::instructions::laws::folded_is_grammar();
     crate::instructions::laws::instructions_are_balanced();
@@ -57,13 +55,13 @@ fn items<'p, 'a>(
 fn next_item<'p, 'a>(
     alloc: Global,
     names: &Names<'p>,
-    found: &mut Vec<Vec<Instruction>>,
+    found: &mut Vec<Element>,
     left: Left<'p, 'a>,
 ) -> Result<Option<Left<'p, 'a>>, Refusal<'p, 'a>> {
     match left.pieces {
         [Piece::Open, ..] => match expression(alloc, names, "item", left.pieces) {
             Ok((element, pieces)) => {
-                found.push(element)?;
+                found.push(Element::Expression(element))?;
                 Ok(Some(Left { pieces }))
             }
             Err(refusal) => Err(refusal),
@@ -95,14 +93,14 @@ fn functions<'p, 'a>(
     alloc: Global,
     names: &Names<'p>,
     pieces: &'p [Piece<'a>],
-) -> Result<(Vec<Vec<Instruction>>, &'p [Piece<'a>]), Refusal<'p, 'a>> {
+) -> Result<(Vec<Element>, &'p [Piece<'a>]), Refusal<'p, 'a>> {
     crate::instructions::laws::machine_is_grammar();
     crate::instructions::laws::folded_is_grammar();
     crate::instructions::laws::instructions_are_balanced();
     let mut found = Vec::new(alloc);
     let mut left = Left { pieces };
     'functions: loop {
-        match next_function(alloc, names, &mut found, left) {
+        match next_function(names, &mut found, left) {
             Ok(Some(next)) => {
                 left = next;
             }
@@ -124,15 +122,14 @@ fn functions<'p, 'a>(
 /// (λ e. ItemFaults (reading.function_item (context_of names.now) (map terminal left.entry.pieces.now)) e) }
 /// ```
 fn next_function<'p, 'a>(
-    alloc: Global,
     names: &Names<'p>,
-    found: &mut Vec<Vec<Instruction>>,
+    found: &mut Vec<Element>,
     left: Left<'p, 'a>,
 ) -> Result<Option<Left<'p, 'a>>, Refusal<'p, 'a>> {
     match left.pieces {
         [Piece::Integer(_, _) | Piece::Id(_), ..] => {
             let (index, pieces) = reading::index(&names.funcs, left.pieces)?;
-            found.push(ref_func(alloc, index)?)?;
+            found.push(Element::Function(index))?;
             Ok(Some(Left { pieces }))
         }
         [
@@ -148,22 +145,6 @@ fn next_function<'p, 'a>(
     }
 }
 
-/// The element that is a function.
-///
-/// # Proved
-///
-/// ```text
-/// ensures { IfOk result (λ e. e.items ≡ grammar.ref_func index) }
-/// ```
-fn ref_func(alloc: Global, index: usize) -> Result<Vec<Instruction>, AllocError> {
-    let mut element = Vec::new(alloc);
-    element.push(Instruction {
-        opcode: Opcode::Byte(0xD2),
-        argument: Argument::Index(index),
-    })?;
-    Ok(element)
-}
-
 /// Elements, by their instructions or by their functions.
 ///
 /// # Proved
@@ -177,7 +158,7 @@ fn either<'p, 'a>(
     alloc: Global,
     names: &Names<'p>,
     pieces: &'p [Piece<'a>],
-) -> Result<(Vec<Vec<Instruction>>, &'p [Piece<'a>]), Refusal<'p, 'a>> {
+) -> Result<(Vec<Element>, &'p [Piece<'a>]), Refusal<'p, 'a>> {
     match pieces {
         [Piece::Open, ..] => items(alloc, names, pieces),
         [
@@ -321,7 +302,7 @@ fn table_with<'p, 'a>(
     exports: Vec<&'p [u8]>,
     of: ReferenceType,
     all: &'p [Piece<'a>],
-    elements: Vec<Vec<Instruction>>,
+    elements: Vec<Element>,
     rest: &'p [Piece<'a>],
 ) -> Result<(Field<'p>, &'p [Piece<'a>]), Fault<'p, 'a>> {
     if elements.len() >= 0x1_0000_0000 {
@@ -361,7 +342,7 @@ fn elements<'p, 'a>(
     alloc: Global,
     names: &Names<'p>,
     pieces: &'p [Piece<'a>],
-) -> Result<((ReferenceType, Vec<Vec<Instruction>>), &'p [Piece<'a>]), Refusal<'p, 'a>> {
+) -> Result<((ReferenceType, Vec<Element>), &'p [Piece<'a>]), Refusal<'p, 'a>> {
     match pieces {
         [Piece::Word(word), rest @ ..] => elements_after(alloc, names, *word, pieces, rest),
         [
@@ -399,7 +380,7 @@ fn elements_after<'p, 'a>(
     word: &str,
     all: &'p [Piece<'a>],
     pieces: &'p [Piece<'a>],
-) -> Result<((ReferenceType, Vec<Vec<Instruction>>), &'p [Piece<'a>]), Refusal<'p, 'a>> {
+) -> Result<((ReferenceType, Vec<Element>), &'p [Piece<'a>]), Refusal<'p, 'a>> {
     match reading::reference_type(word) {
         Some(of) => {
             let (elements, rest) = items(alloc, names, pieces)?;

@@ -77,20 +77,27 @@ pub struct GlobalType {
     pub value: ValueType,
 }
 
-/// A table, and the elements that it brings with it, if any: each by its instructions.
+/// An element: a function by its index, which is an expression of `ref.func` alone; or any
+/// expression, by its instructions.
+pub enum Element {
+    Function(usize),
+    Expression(Vec<Instruction>),
+}
+
+/// A table, and the elements that it brings with it, if any.
 pub struct Table<'p> {
     pub name: Name<'p>,
     pub exports: Vec<&'p [u8]>,
     pub of: TableType,
-    pub elements: Option<Vec<Vec<Instruction>>>,
+    pub elements: Option<Vec<Element>>,
 }
 
-/// A memory, and the bytes that it brings with it, if any.
+/// A memory, and the strings of the bytes that it brings with it, if any.
 pub struct Memory<'p> {
     pub name: Name<'p>,
     pub exports: Vec<&'p [u8]>,
     pub limits: Limits,
-    pub data: Option<Vec<u8>>,
+    pub data: Option<Vec<&'p [u8]>>,
 }
 
 /// Where a segment is put: a memory or a table, by its index, and the offset in it, by instructions.
@@ -106,19 +113,19 @@ pub enum ElemMode {
     Declarative,
 }
 
-/// An element segment: its elements are of a type, each by its instructions.
+/// An element segment: its elements are of a type.
 pub struct Elem<'p> {
     pub name: Name<'p>,
     pub mode: ElemMode,
     pub of: ReferenceType,
-    pub elements: Vec<Vec<Instruction>>,
+    pub elements: Vec<Element>,
 }
 
-/// A data segment: passive, or put where its target says; and its bytes.
+/// A data segment: passive, or put where its target says; and the strings of its bytes.
 pub struct Data<'p> {
     pub name: Name<'p>,
     pub target: Option<Target>,
-    pub bytes: Vec<u8>,
+    pub strings: Vec<&'p [u8]>,
 }
 
 /// A global variable, and the instructions of its first value.

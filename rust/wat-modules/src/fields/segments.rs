@@ -7,7 +7,7 @@ use crate::fields::fields::{Data, Field, Left, Limits, Memory, Target, scope};
 use crate::fields::header::{after, closed};
 use crate::fields::names::Names;
 use crate::fields::types::{limits, twice_closed};
-use wat_lex::shim::alloc::Global;
+use wat_lex::shim::alloc::{AllocError, Global};
 use crate::instructions::names::IndexedNames;
 use crate::instructions::pieces::{Fault, FaultKind, Instruction, Name, Piece, Refusal};
 use crate::instructions::{machine, reading};
@@ -15,19 +15,22 @@ use crate::instructions::{machine, reading};
 /// The bytes of a page of a memory.
 const PAGE: usize = 0x1_0000;
 
-/// Strings, together.
+/// A slice has fewer bytes.
+const MOST: usize = 1 << 63;
+
+/// Strings.
 ///
 /// # Proved
 ///
 /// ```text
 /// ensures { MatchResult result
-/// (λ r. reading.all reading.string_item (map terminal pieces.now) ≡ Ok (r.0.items, map terminal r.1.now))
+/// (λ r. reading.all reading.string_item (map terminal pieces.now) ≡ Ok (together r.0.items, map terminal r.1.now))
 /// (λ e. Faults (reading.all reading.string_item (map terminal pieces.now)) e) }
 /// ```
 fn strings<'p, 'a>(
     alloc: Global,
     pieces: &'p [Piece<'a>],
-) -> Result<(Vec<u8>, &'p [Piece<'a>]), Refusal<'p, 'a>> {
+) -> Result<(Vec<&'p [u8]>, &'p [Piece<'a>]), Refusal<'p, 'a>> {
     let mut found = Vec::new(alloc);
     let mut left = Left { pieces };
     'strings: loop {
@@ -48,17 +51,17 @@ fn strings<'p, 'a>(
 /// ```text
 /// ensures { MatchResult result
 /// (λ o. MatchOption o
-/// (NoItem (reading.string_item (map terminal left.entry.pieces.now)) (found.old.items) (found.new.items))
-/// (λ l. IsItem (reading.string_item (map terminal left.entry.pieces.now)) (found.old.items) (found.new.items) (map terminal l.pieces.now)))
+/// (NoItem (reading.string_item (map terminal left.entry.pieces.now)) (together found.old.items) (together found.new.items))
+/// (λ l. IsItem (reading.string_item (map terminal left.entry.pieces.now)) (together found.old.items) (together found.new.items) (map terminal l.pieces.now)))
 /// (λ e. ItemFaults (reading.string_item (map terminal left.entry.pieces.now)) e) }
 /// ```
 fn next_string<'p, 'a>(
-    found: &mut Vec<u8>,
+    found: &mut Vec<&'p [u8]>,
     left: Left<'p, 'a>,
 ) -> Result<Option<Left<'p, 'a>>, Refusal<'p, 'a>> {
     match left.pieces {
         [Piece::Text(text), pieces @ ..] => {
-            found.extend_from_slice(text)?;
+            found.push(*text)?;
             Ok(Some(Left { pieces }))
         }
         [
@@ -138,33 +141,33 @@ fn memory_data<'p, 'a>(
     exports: Vec<&'p [u8]>,
     pieces: &'p [Piece<'a>],
 ) -> Result<(Field<'p>, &'p [Piece<'a>]), Refusal<'p, 'a>> {
-    let (bytes, rest) = strings(alloc, pieces)?;
+    let (strings, rest) = strings(alloc, pieces)?;
     let rest = twice_closed(rest)?;
-    Ok(memory_of(name, exports, pieces, bytes, rest)?)
+    memory_of(name, exports, pieces, strings, rest)
 }
 
-/// A memory of as many pages as hold these bytes, which it brings.
+/// A memory of as many pages as hold the bytes of these strings, which it brings.
 ///
 /// # Proved
 ///
 /// ```text
 /// ensures { MatchResult result
-/// (λ r. reading.memory_of (label name.entry) (map text_of exports.entry.items) (map terminal all.now) bytes.items (map terminal rest.now) ≡ Ok (field_of r.0 ∷ [], map terminal r.1.now))
-/// (λ f. reading.memory_of (label name.entry) (map text_of exports.entry.items) (map terminal all.now) bytes.items (map terminal rest.now) ≡ Err (fault_of f)) }
+/// (λ r. reading.memory_of (label name.entry) (map text_of exports.entry.items) (map terminal all.now) (together strings.entry.items) (map terminal rest.now) ≡ Ok (field_of r.0 ∷ [], map terminal r.1.now))
+/// (λ e. Faults (reading.memory_of (label name.entry) (map text_of exports.entry.items) (map terminal all.now) (together strings.entry.items) (map terminal rest.now)) e) }
 /// ```
 fn memory_of<'p, 'a>(
     name: Name<'p>,
     exports: Vec<&'p [u8]>,
     all: &'p [Piece<'a>],
-    bytes: Vec<u8>,
+    strings: Vec<&'p [u8]>,
     rest: &'p [Piece<'a>],
-) -> Result<(Field<'p>, &'p [Piece<'a>]), Fault<'p, 'a>> {
-    let pages = pages_of(&bytes);
+) -> Result<(Field<'p>, &'p [Piece<'a>]), Refusal<'p, 'a>> {
+    let pages = pages_of(&strings)?;
     if pages >= 0x1_0000_0000 {
-        return Err(Fault {
+        return Err(Refusal::Text(Fault {
             kind: FaultKind::OutOfRange,
             left: all,
-        });
+        }));
     }
     let size = pages as u32;
     Ok((
@@ -175,21 +178,41 @@ fn memory_of<'p, 'a>(
                 min: size,
                 max: Some(size),
             },
-            data: Some(bytes),
+            data: Some(strings),
         }),
         rest,
     ))
 }
 
-/// How many pages hold these bytes.
+/// How many bytes these strings have together. Memory is refused where they are more than a slice
+/// can have.
 ///
 /// # Proved
 ///
 /// ```text
-/// ensures { result ≡ grammar.pages_of bytes.now }
+/// ensures is { IfOk result (λ len. len ≡ length (together strings.now)) }
+/// ensures small { IfOk result (λ len. len < 2 ^ 63) }
 /// ```
-fn pages_of(bytes: &[u8]) -> usize {
-    (bytes.len() + (PAGE - 1)) / PAGE
+pub(crate) fn len_of(strings: &[&[u8]]) -> Result<usize, AllocError> {
+    let mut len = 0;
+    for string in strings {
+        len += string.len();
+        if len >= MOST {
+            return Err(AllocError);
+        }
+    }
+    Ok(len)
+}
+
+/// How many pages hold the bytes of these strings.
+///
+/// # Proved
+///
+/// ```text
+/// ensures { IfOk result (λ pages. pages ≡ grammar.pages_of (together strings.now)) }
+/// ```
+fn pages_of(strings: &[&[u8]]) -> Result<usize, AllocError> {
+    Ok((len_of(strings)? + (PAGE - 1)) / PAGE)
 }
 
 /// The memory or the table that a segment uses: the one that is said after the word, or the first.
@@ -393,13 +416,13 @@ fn data_strings<'p, 'a>(
     target: Option<Target>,
     pieces: &'p [Piece<'a>],
 ) -> Result<(Field<'p>, &'p [Piece<'a>]), Refusal<'p, 'a>> {
-    let (bytes, rest) = strings(alloc, pieces)?;
+    let (strings, rest) = strings(alloc, pieces)?;
     let rest = closed(rest)?;
     Ok((
         Field::Data(Data {
             name,
             target,
-            bytes,
+            strings,
         }),
         rest,
     ))
