@@ -6,12 +6,11 @@ use Rattle.std.specs.Option.{option_copied, unwrap_or}
 use Rattle.std.specs.BTreeMap.{BTreeMap, UpdatesBy, get_by, is_at}
 use Rattle.std.specs.Map.{AreApart, IsKeyTest, KeepsOthers, lookup}
 use Rattle.std.specs.Cmp.Lexicographic.{slice_cmp}
-use Rattle.std.specs.Ordering.{eq_by_cmp, is_eq, nat_cmp}
+use Rattle.std.specs.Ordering.{eq_by_cmp, nat_cmp}
 use Rattle.std.proofs.lemmas.Cmp.{eq_by_cmp_equiv, nat_list_cmp_total, nat_list_eq_equiv}
 use Rattle.std.proofs.lemmas.List.{length-map, map-append}
 use Rattle.std.proofs.lemmas.Map.Text.{is_eq-slice_cmp}
 use Rattle.std.proofs.lemmas.Slice.Eq.{bytes_eq-Decides}
-use Rattle.wat_instructions.specs.declared.pieces.ReferenceType.{ReferenceType}
 use Rattle.wat_instructions.specs.declared.pieces.ReferenceType.TheVariants as reference
 use Rattle.wat_instructions.specs.declared.pieces.ValueType.{ValueType}
 use Rattle.wat_instructions.specs.declared.pieces.ValueType.TheVariants as value
@@ -134,7 +133,7 @@ some_copied : (o : Option (Bor ℕ)) → is_some o ≡ is_some (option_copied o)
 some_copied (Some x) = refl
 some_copied None = refl
 
-found_by : {G : Type 0} (m : BTreeMap (Vec ℕ G) ℕ) (ts : List FunctionType) (t : FunctionType) (xs : List ℕ) → AreIndices m ts → xs ≡ type_key t → get_by (λ k. slice_cmp nat_cmp xs k.items) m ≡ found_type t ts
+pub found_by : {G : Type 0} (m : BTreeMap (Vec ℕ G) ℕ) (ts : List FunctionType) (t : FunctionType) (xs : List ℕ) → AreIndices m ts → xs ≡ type_key t → get_by (λ k. slice_cmp nat_cmp xs k.items) m ≡ found_type t ts
 found_by m ts t xs a e = ap (λ x. get_by (λ k. slice_cmp nat_cmp x k.items) m) e ∙ a t
 
 pub has_by : {G : Type 0} (o : Option (Bor ℕ)) (m : BTreeMap (Vec ℕ G) ℕ) (ts : List FunctionType) (t : FunctionType) (xs : List ℕ) → AreIndices m ts → xs ≡ type_key t → option_copied o ≡ get_by (λ k. slice_cmp nat_cmp xs k.items) m → is_some o ≡ has_type t ts
@@ -157,8 +156,8 @@ index_found t ts = by (has_type t ts) refl
     by true e = refl
     by false e = sym (absent_index t ts e)
 
-pub index_by : {G : Type 0} (o : Option ℕ) (m : BTreeMap (Vec ℕ G) ℕ) (types : List declared.FunctionType) (t : FunctionType) (xs : List ℕ) (n : ℕ) → AreIndices m (map type_of types) → xs ≡ type_key t → o ≡ get_by (λ k. slice_cmp nat_cmp xs k.items) m → n ≡ length types → unwrap_or o n ≡ type_index t (map type_of types)
-index_by o m types t xs n a e g l = ap (λ x. unwrap_or x n) (g ∙ found_by m (map type_of types) t xs a e) ∙ ap (unwrap_or (found_type t (map type_of types))) (l ∙ sym (length-map types type_of)) ∙ index_found t (map type_of types)
+pub index_by : (o : Option ℕ) (types : List declared.FunctionType) (ts : List FunctionType) (t : FunctionType) (n : ℕ) → map type_of types ≡ ts → o ≡ found_type t ts → n ≡ length types → unwrap_or o n ≡ type_index t ts
+index_by o types ts t n e g l = ap (λ x. unwrap_or x n) g ∙ ap (unwrap_or (found_type t ts)) (l ∙ sym (length-map types type_of) ∙ ap length e) ∙ index_found t ts
 
 index_within : (t : FunctionType) (ts : List FunctionType) → type_index t ts ≤ length ts
 index_within t [] = omega arith
@@ -168,8 +167,8 @@ index_within t (u ∷ us) = by (same_type u t) (index_within t us)
     by true h = omega arith
     by false h = omega (arith, h)
 
-pub index_below : (t : FunctionType) (types : List declared.FunctionType) → type_index t (map type_of types) ≤ length types
-index_below t types = subst (λ n. type_index t (map type_of types) ≤ n) (length-map types type_of) (index_within t (map type_of types))
+pub index_below : (t : FunctionType) (types : List declared.FunctionType) (ts : List FunctionType) → map type_of types ≡ ts → type_index t ts ≤ length types
+index_below t types ts e = subst (λ n. type_index t ts ≤ n) (ap length (sym e) ∙ length-map types type_of) (index_within t ts)
 
 -- a type's index in a map
 

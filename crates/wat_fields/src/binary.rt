@@ -15,7 +15,6 @@ use crate::fields::{
     TableType, Target, TypeUse, Variable,
 };
 use crate::indexed_types::IndexedTypes;
-use crate::uses::function_type;
 use std::alloc::{AllocError, Global};
 use wat_instructions::pieces::{Argument, Instruction, Opcode, ReferenceType, ValueType};
 use wat_instructions::types::{FunctionType, UnnamedUse, copied, reference_byte, type_byte};
@@ -270,82 +269,62 @@ fn instruction_use(instruction: &Instruction) -> Option<&UnnamedUse>
 }
 
 /// Appends the types that instructions use.
-fn add_instructions(
-    alloc: Global,
-    types: &mut IndexedTypes,
-    all: &[Instruction],
-) -> Result<(), AllocError>
+fn add_instructions(types: &mut IndexedTypes, all: &[Instruction]) -> Result<(), AllocError>
     ensures { OnOk result (types.new ≡ binary.types_after types.old (flat_map binary.instruction_types all.now)) }
 {
     for instruction in all {
         if let Some(uses) = instruction_use(instruction) {
-            if !types.contains(&uses.of)? {
-                types.push(copied(alloc, &uses.of)?)?;
-            }
+            types.add(&uses.of)?;
         }
     }
     Ok(())
 }
 
 /// Appends the types that elements use.
-fn add_elements(
-    alloc: Global,
-    types: &mut IndexedTypes,
-    elements: &[Vec<Instruction>],
-) -> Result<(), AllocError>
+fn add_elements(types: &mut IndexedTypes, elements: &[Vec<Instruction>]) -> Result<(), AllocError>
     ensures { OnOk result (types.new ≡ binary.types_after types.old (flat_map binary.expression_types (map items_of elements.now))) }
 {
     for element in elements {
-        add_instructions(alloc, types, element)?;
+        add_instructions(types, element)?;
     }
     Ok(())
 }
 
 /// Appends the types that the offset of an active element segment uses.
-fn add_mode(alloc: Global, types: &mut IndexedTypes, mode: &ElemMode) -> Result<(), AllocError>
+fn add_mode(types: &mut IndexedTypes, mode: &ElemMode) -> Result<(), AllocError>
     ensures { OnOk result (types.new ≡ binary.types_after types.old (binary.mode_types (mode_of mode.now))) }
 {
     match mode {
-        ElemMode::Active(target) => add_instructions(alloc, types, &target.offset),
+        ElemMode::Active(target) => add_instructions(types, &target.offset),
         ElemMode::Passive | ElemMode::Declarative => Ok(()),
     }
 }
 
-/// Appends the type of a type use.
-fn add_use(alloc: Global, types: &mut IndexedTypes, uses: &TypeUse<'_>) -> Result<(), AllocError>
-    ensures { OnOk result (types.new ≡ binary.with_type types.old (binary.used_type (use_of uses.now))) }
-{
-    if !types.contains_used(uses)? {
-        types.push(function_type(alloc, &uses.params, &uses.results)?)?;
-    }
-    Ok(())
-}
-
 /// Appends the types that a field uses.
-fn add_field(alloc: Global, types: &mut IndexedTypes, field: &Field<'_>) -> Result<(), AllocError>
+fn add_field(types: &mut IndexedTypes, field: &Field<'_>) -> Result<(), AllocError>
     ensures { OnOk result (types.new ≡ binary.types_after types.old (binary.used_by (field_of field.now))) }
 {
     match field {
         Field::Func(function) => {
-            add_use(alloc, types, &function.uses)?;
-            add_instructions(alloc, types, &function.body)
+            types.add_used(&function.uses)?;
+            add_instructions(types, &function.body)
         }
         Field::Import(import) => match &import.what {
-            ExternType::Func(uses) => add_use(alloc, types, uses),
+            ExternType::Func(uses) => types.add_used(uses),
             ExternType::Table(_) | ExternType::Memory(_) | ExternType::Global(_) => Ok(()),
         },
         Field::Table(table) => match &table.elements {
-            Some(elements) => add_elements(alloc, types, elements),
+            Some(elements) => add_elements(types, elements),
             None => Ok(()),
         },
-        Field::Global(global) => add_instructions(alloc, types, &global.first),
+        Field::Global(global) => add_instructions(types, &global.first),
         Field::Elem(elem) => {
-            add_mode(alloc, types, &elem.mode)?;
-            add_elements(alloc, types, &elem.elements)?;
+            add_mode(types, &elem.mode)?;
+            add_elements(types, &elem.elements)?;
             Ok(())
         }
         Field::Data(data) => match &data.target {
-            Some(target) => add_instructions(alloc, types, &target.offset),
+            Some(target) => add_instructions(types, &target.offset),
             None => Ok(()),
         },
         Field::Type(_) | Field::Memory(_) | Field::Export(_) | Field::Start(_) => Ok(()),
@@ -359,7 +338,7 @@ fn types_of(alloc: Global, fields: &[Field<'_>]) -> Result<IndexedTypes, AllocEr
 {
     let mut types = defined_types(alloc, fields)?;
     for field in fields {
-        add_field(alloc, &mut types, field)?;
+        add_field(&mut types, field)?;
     }
     Ok(types)
 }
@@ -381,7 +360,7 @@ fn use_index(types: &IndexedTypes, uses: &TypeUse<'_>) -> Result<usize, AllocErr
 {
     match uses.index {
         Some(index) => Ok(index),
-        None => types.index_used(uses),
+        None => types.used_index(uses),
     }
 }
 

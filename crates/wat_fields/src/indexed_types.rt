@@ -4,15 +4,16 @@ ghost use Rattle.wat_fields.specs.Binary as binary;
 ghost use Rattle.wat_fields.specs.Fields as grammar;
 ghost use Rattle.wat_fields.specs.Indices.{AreIndices, found_type, type_key};
 ghost use Rattle.wat_fields.specs.Views.{use_of, variable_of};
-ghost use Rattle.wat_instructions.specs.Types.{type_byte};
+ghost use Rattle.wat_instructions.specs.Types.{same_type, same_values, type_byte};
 ghost use Rattle.wat_instructions.specs.Views.{type_of};
 
 use crate::fields::{TypeUse, Variable};
+use crate::uses::function_type;
 use std::alloc::{AllocError, Global};
 use std::collections::BTreeMap;
 use std::marker::Model;
 use wat_instructions::pieces::ValueType;
-use wat_instructions::types::{FunctionType, type_byte};
+use wat_instructions::types::{FunctionType, copied, same_type, type_byte};
 
 /// Function types, in the order of their indices.
 #[derive(Drop)]
@@ -36,6 +37,9 @@ impl Model for IndexedTypes {
     ghost invariant = { λ t. AreIndices t.indices (map type_of t.types.items) };
 }
 
+/// So many types are searched one by one, which takes no memory.
+const FEW: usize = 32;
+
 impl IndexedTypes {
     /// No types. It takes no memory.
     pub(crate) fn none(alloc: Global) -> IndexedTypes
@@ -55,37 +59,43 @@ impl IndexedTypes {
         &self.types
     }
 
-    /// Whether this type is among them.
-    pub(crate) fn contains(&self, of: &FunctionType) -> Result<bool, AllocError>
-        ensures { IfOk result (λ b. b ≡ binary.has_type (type_of of.now) self.now) }
+    /// The least index of this type.
+    fn position(&self, of: &FunctionType) -> Result<Option<usize>, AllocError>
+        ensures { IfOk result (λ i. i ≡ found_type (type_of of.now) self.now) }
     {
+        if self.types.len() <= FEW {
+            return Ok(first(&self.types, of));
+        }
         let key = type_key(self.alloc, of)?;
-        Ok(self.indices.get(&key).is_some())
+        Ok(self.indices.get(&key).copied())
     }
 
-    /// Whether the type of a type use is among them.
-    pub(crate) fn contains_used(&self, uses: &TypeUse<'_>) -> Result<bool, AllocError>
-        ensures { IfOk result (λ b. b ≡ binary.has_type (binary.used_type (use_of uses.now)) self.now) }
+    /// The least index of the type of a type use.
+    fn used_position(&self, uses: &TypeUse<'_>) -> Result<Option<usize>, AllocError>
+        ensures { IfOk result (λ i. i ≡ found_type (binary.used_type (use_of uses.now)) self.now) }
     {
+        if self.types.len() <= FEW {
+            return Ok(first_used(&self.types, uses));
+        }
         let key = use_key(self.alloc, uses)?;
-        Ok(self.indices.get(&key).is_some())
+        Ok(self.indices.get(&key).copied())
     }
 
-    /// The index of this type, which is their number where it is not among them.
+    /// The least index of this type, which is their number where it is not among them.
     pub(crate) fn index(&self, of: &FunctionType) -> Result<usize, AllocError>
         ensures is { IfOk result (λ i. i ≡ binary.type_index (type_of of.now) self.now) }
         ensures small { IfOk result (λ i. i < 2 ^ 63) }
     {
-        let key = type_key(self.alloc, of)?;
-        Ok(self.indices.get(&key).copied().unwrap_or(self.types.len()))
+        let position = self.position(of)?;
+        Ok(position.unwrap_or(self.types.len()))
     }
 
-    /// The index of the type of a type use.
-    pub(crate) fn index_used(&self, uses: &TypeUse<'_>) -> Result<usize, AllocError>
+    /// The same of the type of a type use.
+    pub(crate) fn used_index(&self, uses: &TypeUse<'_>) -> Result<usize, AllocError>
         ensures { IfOk result (λ i. i ≡ binary.type_index (binary.used_type (use_of uses.now)) self.now) }
     {
-        let key = use_key(self.alloc, uses)?;
-        Ok(self.indices.get(&key).copied().unwrap_or(self.types.len()))
+        let position = self.used_position(uses)?;
+        Ok(position.unwrap_or(self.types.len()))
     }
 
     /// Appends a type, also where it is among them.
@@ -102,6 +112,72 @@ impl IndexedTypes {
         self.types.push(of)?;
         Ok(())
     }
+
+    /// Appends a type where it is not among them.
+    pub(crate) fn add(&mut self, of: &FunctionType) -> Result<(), AllocError>
+        ensures { OnOk result (self.new ≡ binary.with_type self.old (type_of of.now)) }
+    {
+        if self.position(of)?.is_none() {
+            self.push(copied(self.alloc, of)?)?;
+        }
+        Ok(())
+    }
+
+    /// The same of the type of a type use.
+    pub(crate) fn add_used(&mut self, uses: &TypeUse<'_>) -> Result<(), AllocError>
+        ensures { OnOk result (self.new ≡ binary.with_type self.old (binary.used_type (use_of uses.now))) }
+    {
+        if self.used_position(uses)?.is_none() {
+            self.push(function_type(self.alloc, &uses.params, &uses.results)?)?;
+        }
+        Ok(())
+    }
+}
+
+/// The first of these types that is this one.
+fn first(types: &[FunctionType], of: &FunctionType) -> Option<usize>
+    ensures { result ≡ found_type (type_of of.now) (map type_of types.now) }
+{
+    for (i, known) in types.iter().enumerate() {
+        if same_type(known, of) {
+            return Some(i);
+        }
+    }
+    None
+}
+
+/// The first of these types that is that of a type use.
+fn first_used(types: &[FunctionType], uses: &TypeUse<'_>) -> Option<usize>
+    ensures { result ≡ found_type (binary.used_type (use_of uses.now)) (map type_of types.now) }
+{
+    for (i, known) in types.iter().enumerate() {
+        if is_used(known, uses) {
+            return Some(i);
+        }
+    }
+    None
+}
+
+/// Whether it is the type of a type use.
+fn is_used(of: &FunctionType, uses: &TypeUse<'_>) -> bool
+    ensures { result ≡ same_type (type_of of.now) (binary.used_type (use_of uses.now)) }
+{
+    have_types(&of.params, &uses.params) && have_types(&of.results, &uses.results)
+}
+
+/// Whether these are the types of variables.
+fn have_types(types: &[ValueType], variables: &[Variable<'_>]) -> bool
+    ensures { result ≡ same_values types.now (map grammar.type_of (map variable_of variables.now)) }
+{
+    if types.len() != variables.len() {
+        return false;
+    }
+    for (i, of) in types.iter().enumerate() {
+        if type_byte(*of) != type_byte(variables[i].of) {
+            return false;
+        }
+    }
+    true
 }
 
 /// What no type's byte is.

@@ -1,4 +1,4 @@
-use Rattle.std.proofs.Common.{◌∙◌, ap, rules}
+use Rattle.std.proofs.Common.{◌∙◌, ap}
 use Rattle.wat_fields.specs.Binary.{expression_types, types_after}
 use Rattle.wat_fields.proofs.FunctionTypes.{element_used}
 use Rattle.wat_fields.proofs.binary.add_elements.Goals as goal

@@ -1,4 +1,3 @@
-use Rattle.std.proofs.Common.{map}
 use Rattle.wat_fields.proofs.FunctionTypes.{field_used}
 use Rattle.wat_fields.proofs.binary.types_of.Goals as goal
 
