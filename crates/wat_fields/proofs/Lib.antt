@@ -6,6 +6,7 @@ pub mod ElementKinds
 pub mod FieldKinds
 pub mod Counting
 pub mod FunctionTypes
+pub mod TypeKeys
 pub mod Headers
 pub mod Modules
 pub mod Bytes

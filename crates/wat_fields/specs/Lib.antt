@@ -3,3 +3,4 @@ pub mod Binary
 pub mod Reading
 pub mod Law
 pub mod Views
+pub mod Indices

@@ -14,13 +14,11 @@ use crate::fields::{
     ElemMode, Element, Export, ExternType, Field, Function, GlobalType, Import, IndexSpace, Limits,
     TableType, Target, TypeUse, Variable,
 };
+use crate::indexed_types::IndexedTypes;
 use crate::segments::len_of;
-use crate::uses::function_type;
 use std::alloc::{AllocError, Global};
 use wat_instructions::pieces::{Argument, Instruction, Opcode, ReferenceType, ValueType};
-use wat_instructions::types::{
-    FunctionType, UnnamedUse, copied, reference_byte, same_type, type_byte,
-};
+use wat_instructions::types::{FunctionType, UnnamedUse, copied, reference_byte, type_byte};
 use wat_lex::encode::{Encode, EncodeError};
 
 /// The magic number and the version.
@@ -112,10 +110,10 @@ fn put_opcode(out: &mut Vec<u8>, opcode: Opcode) -> Result<(), AllocError>
 /// Appends an instruction.
 fn put_instruction(
     out: &mut Vec<u8>,
-    types: &[FunctionType],
+    types: &IndexedTypes,
     instruction: &Instruction,
 ) -> Result<(), AllocError>
-    ensures { OnOk result (out.new.items ≡ out.old.items ++ binary.instruction_bytes (map type_of types.now) instruction.now) }
+    ensures { OnOk result (out.new.items ≡ out.old.items ++ binary.instruction_bytes types.now instruction.now) }
 {
     put_opcode(out, instruction.opcode)?;
     put_argument(out, types, &instruction.argument)
@@ -124,10 +122,10 @@ fn put_instruction(
 /// Appends the immediate of an instruction.
 fn put_argument(
     out: &mut Vec<u8>,
-    types: &[FunctionType],
+    types: &IndexedTypes,
     argument: &Argument,
 ) -> Result<(), AllocError>
-    ensures { OnOk result (out.new.items ≡ out.old.items ++ binary.argument_bytes (map type_of types.now) argument.now) }
+    ensures { OnOk result (out.new.items ≡ out.old.items ++ binary.argument_bytes types.now argument.now) }
 {
     match argument {
         Argument::Nothing => Ok(()),
@@ -153,14 +151,14 @@ fn put_argument(
             Ok(())
         }
         Argument::Indirect(call) => {
-            put(out, unnamed_index(types, call.uses()))?;
+            put(out, unnamed_index(types, call.uses())?)?;
             put(out, call.table())
         }
         Argument::Block(of) => {
             out.push(block_byte(*of))?;
             Ok(())
         }
-        Argument::BlockUse(uses) => put_signed(out, unnamed_index(types, uses.uses())),
+        Argument::BlockUse(uses) => put_signed(out, unnamed_index(types, uses.uses())?),
         Argument::Memory(align, offset) => {
             put(out, usize::from(*align))?;
             put(out, *offset as usize)?;
@@ -208,10 +206,10 @@ fn put_argument(
 /// Appends instructions.
 fn put_instructions(
     out: &mut Vec<u8>,
-    types: &[FunctionType],
+    types: &IndexedTypes,
     all: &[Instruction],
 ) -> Result<(), AllocError>
-    ensures { OnOk result (out.new.items ≡ out.old.items ++ flat_map (binary.instruction_bytes (map type_of types.now)) all.now) }
+    ensures { OnOk result (out.new.items ≡ out.old.items ++ flat_map (binary.instruction_bytes types.now) all.now) }
 {
     for instruction in all {
         put_instruction(out, types, instruction)?;
@@ -230,52 +228,17 @@ fn variable_bytes(alloc: Global, variables: &[Variable<'_>]) -> Result<Vec<u8>, 
     Ok(bytes)
 }
 
-/// The index of a type among these, which is their number where it is not among them.
-fn type_index(types: &[FunctionType], of: &FunctionType) -> usize
-    ensures within { result ≤ length types.now }
-    ensures is { result ≡ binary.type_index (type_of of.now) (map type_of types.now) }
-{
-    for (i, known) in types.iter().enumerate() {
-        if same_type(known, of) {
-            return i;
-        }
-    }
-    types.len()
-}
-
-/// Whether a type is among these.
-fn has_type(types: &[FunctionType], of: &FunctionType) -> bool
-    ensures { result ≡ binary.has_type (type_of of.now) (map type_of types.now) }
-{
-    for known in types {
-        if same_type(known, of) {
-            return true;
-        }
-    }
-    false
-}
-
 /// The types that fields define.
-fn defined_types(alloc: Global, fields: &[Field<'_>]) -> Result<Vec<FunctionType>, AllocError>
-    ensures { IfOk result (λ types. map type_of types.items ≡ map grammar.definition_type (grammar.definitions_of (fields_of fields.now))) }
+fn defined_types(alloc: Global, fields: &[Field<'_>]) -> Result<IndexedTypes, AllocError>
+    ensures { IfOk result (λ types. types ≡ map grammar.definition_type (grammar.definitions_of (fields_of fields.now))) }
 {
-    let mut types = Vec::new(alloc);
+    let mut types = IndexedTypes::none(alloc);
     for field in fields {
         if let Field::Type(definition) = field {
             types.push(copied(alloc, &definition.of)?)?;
         }
     }
     Ok(types)
-}
-
-/// Appends a type where it is not among these.
-fn add_type(types: &mut Vec<FunctionType>, of: FunctionType) -> Result<(), AllocError>
-    ensures { OnOk result (map type_of types.new.items ≡ binary.with_type (map type_of types.old.items) (type_of of)) }
-{
-    if !has_type(types, &of) {
-        types.push(of)?;
-    }
-    Ok(())
 }
 
 /// The type use of an instruction, where it has one.
@@ -307,102 +270,72 @@ fn instruction_use(instruction: &Instruction) -> Option<&UnnamedUse>
 }
 
 /// Appends the types that instructions use.
-fn add_instructions(
-    alloc: Global,
-    types: &mut Vec<FunctionType>,
-    all: &[Instruction],
-) -> Result<(), AllocError>
-    ensures { OnOk result (map type_of types.new.items ≡ binary.types_after (map type_of types.old.items) (flat_map binary.instruction_types all.now)) }
+fn add_instructions(types: &mut IndexedTypes, all: &[Instruction]) -> Result<(), AllocError>
+    ensures { OnOk result (types.new ≡ binary.types_after types.old (flat_map binary.instruction_types all.now)) }
 {
     for instruction in all {
         if let Some(uses) = instruction_use(instruction) {
-            if !has_type(types, &uses.of) {
-                types.push(copied(alloc, &uses.of)?)?;
-            }
+            types.add(&uses.of)?;
         }
     }
     Ok(())
 }
 
 /// Appends the types that elements use.
-fn add_elements(
-    alloc: Global,
-    types: &mut Vec<FunctionType>,
-    elements: &[Element],
-) -> Result<(), AllocError>
-    ensures { OnOk result (map type_of types.new.items ≡ binary.types_after (map type_of types.old.items) (flat_map binary.expression_types (map items_of elements.now))) }
+fn add_elements(types: &mut IndexedTypes, elements: &[Element]) -> Result<(), AllocError>
+    ensures { OnOk result (types.new ≡ binary.types_after types.old (flat_map binary.expression_types (map items_of elements.now))) }
 {
     for element in elements {
-        add_element(alloc, types, element)?;
+        add_element(types, element)?;
     }
     Ok(())
 }
 
 /// Appends the types that an element uses.
-fn add_element(
-    alloc: Global,
-    types: &mut Vec<FunctionType>,
-    element: &Element,
-) -> Result<(), AllocError>
-    ensures { OnOk result (map type_of types.new.items ≡ binary.types_after (map type_of types.old.items) (binary.expression_types (items_of element.now))) }
+fn add_element(types: &mut IndexedTypes, element: &Element) -> Result<(), AllocError>
+    ensures { OnOk result (types.new ≡ binary.types_after types.old (binary.expression_types (items_of element.now))) }
 {
     match element {
         Element::Function(_) => Ok(()),
-        Element::Expression(instructions) => add_instructions(alloc, types, instructions),
+        Element::Expression(instructions) => add_instructions(types, instructions),
     }
 }
 
 /// Appends the types that the offset of an active element segment uses.
-fn add_mode(alloc: Global, types: &mut Vec<FunctionType>, mode: &ElemMode) -> Result<(), AllocError>
-    ensures { OnOk result (map type_of types.new.items ≡ binary.types_after (map type_of types.old.items) (binary.mode_types (mode_of mode.now))) }
+fn add_mode(types: &mut IndexedTypes, mode: &ElemMode) -> Result<(), AllocError>
+    ensures { OnOk result (types.new ≡ binary.types_after types.old (binary.mode_types (mode_of mode.now))) }
 {
     match mode {
-        ElemMode::Active(target) => add_instructions(alloc, types, &target.offset),
+        ElemMode::Active(target) => add_instructions(types, &target.offset),
         ElemMode::Passive | ElemMode::Declarative => Ok(()),
     }
 }
 
-/// Appends the type of a type use.
-fn add_use(
-    alloc: Global,
-    types: &mut Vec<FunctionType>,
-    uses: &TypeUse<'_>,
-) -> Result<(), AllocError>
-    ensures { OnOk result (map type_of types.new.items ≡ binary.with_type (map type_of types.old.items) (binary.used_type (use_of uses.now))) }
-{
-    let of = function_type(alloc, &uses.params, &uses.results)?;
-    add_type(types, of)
-}
-
 /// Appends the types that a field uses.
-fn add_field(
-    alloc: Global,
-    types: &mut Vec<FunctionType>,
-    field: &Field<'_>,
-) -> Result<(), AllocError>
-    ensures { OnOk result (map type_of types.new.items ≡ binary.types_after (map type_of types.old.items) (binary.used_by (field_of field.now))) }
+fn add_field(types: &mut IndexedTypes, field: &Field<'_>) -> Result<(), AllocError>
+    ensures { OnOk result (types.new ≡ binary.types_after types.old (binary.used_by (field_of field.now))) }
 {
     match field {
         Field::Func(function) => {
-            add_use(alloc, types, &function.uses)?;
-            add_instructions(alloc, types, &function.body)
+            types.add_used(&function.uses)?;
+            add_instructions(types, &function.body)
         }
         Field::Import(import) => match &import.what {
-            ExternType::Func(uses) => add_use(alloc, types, uses),
+            ExternType::Func(uses) => types.add_used(uses),
             ExternType::Table(_) | ExternType::Memory(_) | ExternType::Global(_) => Ok(()),
         },
         Field::Table(table) => match &table.elements {
-            Some(elements) => add_elements(alloc, types, elements),
+            Some(elements) => add_elements(types, elements),
             None => Ok(()),
         },
-        Field::Global(global) => add_instructions(alloc, types, &global.first),
+        Field::Global(global) => add_instructions(types, &global.first),
         Field::Elem(elem) => {
-            add_mode(alloc, types, &elem.mode)?;
-            add_elements(alloc, types, &elem.elements)?;
+            add_mode(types, &elem.mode)?;
+            add_elements(types, &elem.elements)?;
             Ok(())
         }
         Field::Data(data) => match &data.target {
-            Some(target) => add_instructions(alloc, types, &target.offset),
+            Some(target) => add_instructions(types, &target.offset),
             None => Ok(()),
         },
         Field::Type(_) | Field::Memory(_) | Field::Export(_) | Field::Start(_) => Ok(()),
@@ -411,37 +344,34 @@ fn add_field(
 
 /// The types that fields define, and after them those that type uses bring, each once.
 #[tactic(auto, unfolding(crate::specs::Binary::types_of))]
-fn types_of(alloc: Global, fields: &[Field<'_>]) -> Result<Vec<FunctionType>, AllocError>
-    ensures { IfOk result (λ types. map type_of types.items ≡ binary.types_of (fields_of fields.now)) }
+fn types_of(alloc: Global, fields: &[Field<'_>]) -> Result<IndexedTypes, AllocError>
+    ensures { IfOk result (λ types. types ≡ binary.types_of (fields_of fields.now)) }
 {
     let mut types = defined_types(alloc, fields)?;
     for field in fields {
-        add_field(alloc, &mut types, field)?;
+        add_field(&mut types, field)?;
     }
     Ok(types)
 }
 
 /// The index of the type that an instruction uses.
-fn unnamed_index(types: &[FunctionType], uses: &UnnamedUse) -> usize
-    ensures is { result ≡ binary.unnamed_index (map type_of types.now) (unnamed.use_of uses.now) }
-    ensures small { index_or uses.now.index 0 < 2 ^ 63 → result < 2 ^ 63 }
+fn unnamed_index(types: &IndexedTypes, uses: &UnnamedUse) -> Result<usize, AllocError>
+    ensures is { IfOk result (λ n. n ≡ binary.unnamed_index types.now (unnamed.use_of uses.now)) }
+    ensures small { index_or uses.now.index 0 < 2 ^ 63 → IfOk result (λ n. n < 2 ^ 63) }
 {
     match uses.index {
-        Some(index) => index,
-        None => type_index(types, &uses.of),
+        Some(index) => Ok(index),
+        None => types.index(&uses.of),
     }
 }
 
 /// The index of the type that is used.
-fn use_index(alloc: Global, types: &[FunctionType], uses: &TypeUse<'_>) -> Result<usize, AllocError>
-    ensures { IfOk result (λ n. n ≡ index_or (use_of uses.now).index (binary.type_index (binary.used_type (use_of uses.now)) (map type_of types.now))) }
+fn use_index(types: &IndexedTypes, uses: &TypeUse<'_>) -> Result<usize, AllocError>
+    ensures { IfOk result (λ n. n ≡ index_or (use_of uses.now).index (binary.type_index (binary.used_type (use_of uses.now)) types.now)) }
 {
     match uses.index {
         Some(index) => Ok(index),
-        None => {
-            let of = function_type(alloc, &uses.params, &uses.results)?;
-            Ok(type_index(types, &of))
-        }
+        None => types.used_index(uses),
     }
 }
 
@@ -775,12 +705,8 @@ fn put_runs(out: &mut Vec<u8>, runs: &[Run]) -> Result<(), AllocError>
 
 /// The bytes of a function's local variables and instructions.
 #[tactic(auto, unfolding(crate::specs::Binary::code))]
-fn code(
-    alloc: Global,
-    types: &[FunctionType],
-    function: &Function<'_>,
-) -> Result<Vec<u8>, AllocError>
-    ensures { IfOk result (λ bytes. bytes.items ≡ binary.code (map type_of types.now) (function_of function.now)) }
+fn code(alloc: Global, types: &IndexedTypes, function: &Function<'_>) -> Result<Vec<u8>, AllocError>
+    ensures { IfOk result (λ bytes. bytes.items ≡ binary.code types.now (function_of function.now)) }
 {
     let locals = variable_bytes(alloc, &function.locals)?;
     let runs = runs_of(alloc, &locals)?;
@@ -838,53 +764,38 @@ fn sum(one: usize, other: usize) -> Result<usize, AllocError>
 }
 
 /// Appends the type section.
-fn put_types(alloc: Global, out: &mut Vec<u8>, types: &[FunctionType]) -> Result<(), AllocError>
-    ensures { OnOk result (out.new.items ≡ out.old.items ++ binary.list_section 1 binary.type_bytes (map type_of types.now)) }
+fn put_types(alloc: Global, out: &mut Vec<u8>, types: &IndexedTypes) -> Result<(), AllocError>
+    ensures { OnOk result (out.new.items ≡ out.old.items ++ binary.list_section 1 binary.type_bytes types.now) }
 {
     let mut items = Vec::new(alloc);
     for of in types {
-        put_type(alloc, &mut items, of)?;
+        put_type(&mut items, of)?;
     }
     put_section(alloc, out, 1, types.len(), &items)
 }
 
-/// The bytes of value types.
-fn value_bytes(alloc: Global, types: &[ValueType]) -> Result<Vec<u8>, AllocError>
-    ensures { IfOk result (λ bytes. bytes.items ≡ map type_byte types.now) }
-{
-    let mut bytes = Vec::new(alloc);
-    for of in types {
-        bytes.push(type_byte(*of))?;
-    }
-    Ok(bytes)
-}
-
 /// Appends a function type.
 #[tactic(auto, unfolding(crate::specs::Binary::type_bytes))]
-fn put_type(alloc: Global, out: &mut Vec<u8>, of: &FunctionType) -> Result<(), AllocError>
+fn put_type(out: &mut Vec<u8>, of: &FunctionType) -> Result<(), AllocError>
     ensures { OnOk result (out.new.items ≡ out.old.items ++ binary.type_bytes (type_of of.now)) }
 {
-    let params = value_bytes(alloc, &of.params)?;
-    let results = value_bytes(alloc, &of.results)?;
     out.push(0x60)?;
-    put_sized(out, &params)?;
-    put_sized(out, &results)?;
-    Ok(())
+    put_values(out, &of.params)?;
+    put_values(out, &of.results)
 }
 
 /// Appends what is imported.
 fn put_extern(
-    alloc: Global,
     out: &mut Vec<u8>,
-    types: &[FunctionType],
+    types: &IndexedTypes,
     what: &ExternType<'_>,
 ) -> Result<(), AllocError>
-    ensures { OnOk result (out.new.items ≡ out.old.items ++ binary.extern_bytes (map type_of types.now) (extern_of what.now)) }
+    ensures { OnOk result (out.new.items ≡ out.old.items ++ binary.extern_bytes types.now (extern_of what.now)) }
 {
     match what {
         ExternType::Func(uses) => {
             out.push(0x00)?;
-            put(out, use_index(alloc, types, uses)?)
+            put(out, use_index(types, uses)?)
         }
         ExternType::Table(of) => {
             out.push(0x01)?;
@@ -903,32 +814,31 @@ fn put_extern(
 
 /// Appends an import.
 fn put_import(
-    alloc: Global,
     out: &mut Vec<u8>,
-    types: &[FunctionType],
+    types: &IndexedTypes,
     import: &Import<'_>,
 ) -> Result<(), AllocError>
-    ensures { OnOk result (out.new.items ≡ out.old.items ++ binary.import_bytes (map type_of types.now) (import_of import.now)) }
+    ensures { OnOk result (out.new.items ≡ out.old.items ++ binary.import_bytes types.now (import_of import.now)) }
 {
     put_sized(out, import.from)?;
     put_sized(out, import.item)?;
-    put_extern(alloc, out, types, &import.what)
+    put_extern(out, types, &import.what)
 }
 
 /// Appends the import section.
 fn put_imports(
     alloc: Global,
     out: &mut Vec<u8>,
-    types: &[FunctionType],
+    types: &IndexedTypes,
     fields: &[Field<'_>],
 ) -> Result<(), AllocError>
-    ensures { OnOk result (out.new.items ≡ out.old.items ++ binary.list_section 2 (binary.import_bytes (map type_of types.now)) (flat_map binary.import_of (fields_of fields.now))) }
+    ensures { OnOk result (out.new.items ≡ out.old.items ++ binary.list_section 2 (binary.import_bytes types.now) (flat_map binary.import_of (fields_of fields.now))) }
 {
     let mut items = Vec::new(alloc);
     let mut count = 0;
     for field in fields {
         if let Field::Import(import) = field {
-            put_import(alloc, &mut items, types, import)?;
+            put_import(&mut items, types, import)?;
             count += 1;
         }
     }
@@ -939,16 +849,16 @@ fn put_imports(
 fn put_functions(
     alloc: Global,
     out: &mut Vec<u8>,
-    types: &[FunctionType],
+    types: &IndexedTypes,
     fields: &[Field<'_>],
 ) -> Result<(), AllocError>
-    ensures { OnOk result (out.new.items ≡ out.old.items ++ binary.list_section 3 (binary.function_bytes (map type_of types.now)) (binary.functions_of (fields_of fields.now))) }
+    ensures { OnOk result (out.new.items ≡ out.old.items ++ binary.list_section 3 (binary.function_bytes types.now) (binary.functions_of (fields_of fields.now))) }
 {
     let mut items = Vec::new(alloc);
     let mut count = 0;
     for field in fields {
         if let Field::Func(function) = field {
-            put(&mut items, use_index(alloc, types, &function.uses)?)?;
+            put(&mut items, use_index(types, &function.uses)?)?;
             count += 1;
         }
     }
@@ -1029,11 +939,11 @@ fn put_global_type(out: &mut Vec<u8>, of: GlobalType) -> Result<(), AllocError>
 /// Appends a global variable.
 fn put_global(
     out: &mut Vec<u8>,
-    types: &[FunctionType],
+    types: &IndexedTypes,
     of: GlobalType,
     first: &[Instruction],
 ) -> Result<(), AllocError>
-    ensures { OnOk result (out.new.items ≡ out.old.items ++ binary.global_bytes (map type_of types.now) (of, first.now)) }
+    ensures { OnOk result (out.new.items ≡ out.old.items ++ binary.global_bytes types.now (of, first.now)) }
 {
     put_global_type(out, of)?;
     put_instructions(out, types, first)?;
@@ -1045,10 +955,10 @@ fn put_global(
 fn put_globals(
     alloc: Global,
     out: &mut Vec<u8>,
-    types: &[FunctionType],
+    types: &IndexedTypes,
     fields: &[Field<'_>],
 ) -> Result<(), AllocError>
-    ensures { OnOk result (out.new.items ≡ out.old.items ++ binary.list_section 6 (binary.global_bytes (map type_of types.now)) (flat_map binary.global_of (fields_of fields.now))) }
+    ensures { OnOk result (out.new.items ≡ out.old.items ++ binary.list_section 6 (binary.global_bytes types.now) (flat_map binary.global_of (fields_of fields.now))) }
 {
     let mut items = Vec::new(alloc);
     let mut count = 0;
@@ -1117,10 +1027,10 @@ fn put_start(alloc: Global, out: &mut Vec<u8>, fields: &[Field<'_>]) -> Result<(
 fn put_codes(
     alloc: Global,
     out: &mut Vec<u8>,
-    types: &[FunctionType],
+    types: &IndexedTypes,
     fields: &[Field<'_>],
 ) -> Result<(), AllocError>
-    ensures { OnOk result (out.new.items ≡ out.old.items ++ binary.list_section 10 (binary.code_bytes (map type_of types.now)) (binary.functions_of (fields_of fields.now))) }
+    ensures { OnOk result (out.new.items ≡ out.old.items ++ binary.list_section 10 (binary.code_bytes types.now) (binary.functions_of (fields_of fields.now))) }
 {
     let mut items = Vec::new(alloc);
     let mut count = 0;
@@ -1137,11 +1047,11 @@ fn put_codes(
 /// Appends where an active segment is put.
 fn put_target(
     out: &mut Vec<u8>,
-    types: &[FunctionType],
+    types: &IndexedTypes,
     index: usize,
     offset: &[Instruction],
 ) -> Result<(), AllocError>
-    ensures { OnOk result (out.new.items ≡ out.old.items ++ binary.target_bytes (map type_of types.now) (grammar.target index offset.now)) }
+    ensures { OnOk result (out.new.items ≡ out.old.items ++ binary.target_bytes types.now (grammar.target index offset.now)) }
 {
     if index == 0 {
         out.push(0x00)?;
@@ -1155,8 +1065,8 @@ fn put_target(
 }
 
 /// Appends where a segment is put.
-fn put_place(out: &mut Vec<u8>, types: &[FunctionType], place: Place<'_>) -> Result<(), AllocError>
-    ensures { OnOk result (out.new.items ≡ out.old.items ++ binary.mode_bytes (map type_of types.now) (place_of place.entry)) }
+fn put_place(out: &mut Vec<u8>, types: &IndexedTypes, place: Place<'_>) -> Result<(), AllocError>
+    ensures { OnOk result (out.new.items ≡ out.old.items ++ binary.mode_bytes types.now (place_of place.entry)) }
 {
     match place {
         Place::Nowhere => {
@@ -1181,10 +1091,10 @@ fn put_strings(out: &mut Vec<u8>, strings: &[&[u8]]) -> Result<(), AllocError>
 /// Appends what a data segment begins with, before its bytes; and how many bytes these are.
 fn put_segment_head(
     out: &mut Vec<u8>,
-    types: &[FunctionType],
+    types: &IndexedTypes,
     segment: Segment<'_>,
 ) -> Result<usize, AllocError>
-    ensures head { OnOk result (out.new.items ≡ out.old.items ++ segment_head (map type_of types.now) (segment_of segment.entry)) }
+    ensures head { OnOk result (out.new.items ≡ out.old.items ++ segment_head types.now (segment_of segment.entry)) }
     ensures len { IfOk result (λ len. len ≡ length (together segment.entry.strings.now)) }
 {
     let len = len_of(segment.strings)?;
@@ -1196,10 +1106,10 @@ fn put_segment_head(
 /// How many bytes these data segments take.
 fn segments_len(
     alloc: Global,
-    types: &[FunctionType],
+    types: &IndexedTypes,
     segments: &[Segment<'_>],
 ) -> Result<usize, AllocError>
-    ensures { IfOk result (λ len. len ≡ length (flat_map (binary.data_bytes (map type_of types.now)) (map segment_of segments.now))) }
+    ensures { IfOk result (λ len. len ≡ length (flat_map (binary.data_bytes types.now) (map segment_of segments.now))) }
 {
     let mut all = 0;
     for segment in segments {
@@ -1215,10 +1125,10 @@ fn segments_len(
 fn put_data(
     alloc: Global,
     out: &mut Vec<u8>,
-    types: &[FunctionType],
+    types: &IndexedTypes,
     segments: &[Segment<'_>],
 ) -> Result<(), AllocError>
-    ensures { OnOk result (out.new.items ≡ out.old.items ++ binary.list_section 11 (binary.data_bytes (map type_of types.now)) (map segment_of segments.now)) }
+    ensures { OnOk result (out.new.items ≡ out.old.items ++ binary.list_section 11 (binary.data_bytes types.now) (map segment_of segments.now)) }
 {
     if segments.len() == 0 {
         return Ok(());
@@ -1358,10 +1268,10 @@ fn put_functions_of(out: &mut Vec<u8>, functions: &[usize]) -> Result<(), AllocE
 /// Appends an expression.
 fn put_expression(
     out: &mut Vec<u8>,
-    types: &[FunctionType],
+    types: &IndexedTypes,
     instructions: &[Instruction],
 ) -> Result<(), AllocError>
-    ensures { OnOk result (out.new.items ≡ out.old.items ++ binary.expression_bytes (map type_of types.now) instructions.now) }
+    ensures { OnOk result (out.new.items ≡ out.old.items ++ binary.expression_bytes types.now instructions.now) }
 {
     put_instructions(out, types, instructions)?;
     out.push(0x0B)?;
@@ -1371,10 +1281,10 @@ fn put_expression(
 /// Appends elements by their instructions.
 fn put_elements_of(
     out: &mut Vec<u8>,
-    types: &[FunctionType],
+    types: &IndexedTypes,
     elements: &[Element],
 ) -> Result<(), AllocError>
-    ensures { OnOk result (out.new.items ≡ out.old.items ++ binary.element_list (map type_of types.now) (map items_of elements.now)) }
+    ensures { OnOk result (out.new.items ≡ out.old.items ++ binary.element_list types.now (map items_of elements.now)) }
 {
     put(out, elements.len())?;
     for element in elements {
@@ -1384,12 +1294,8 @@ fn put_elements_of(
 }
 
 /// Appends an element by its instructions.
-fn put_element(
-    out: &mut Vec<u8>,
-    types: &[FunctionType],
-    element: &Element,
-) -> Result<(), AllocError>
-    ensures { OnOk result (out.new.items ≡ out.old.items ++ binary.expression_bytes (map type_of types.now) (items_of element.now)) }
+fn put_element(out: &mut Vec<u8>, types: &IndexedTypes, element: &Element) -> Result<(), AllocError>
+    ensures { OnOk result (out.new.items ≡ out.old.items ++ binary.expression_bytes types.now (items_of element.now)) }
 {
     match element {
         Element::Function(index) => put_expression(out, types, &[ref_func(*index)]),
@@ -1400,12 +1306,12 @@ fn put_element(
 /// Appends a segment of functions that is put into a table.
 fn put_active_functions(
     out: &mut Vec<u8>,
-    types: &[FunctionType],
+    types: &IndexedTypes,
     index: usize,
     offset: &[Instruction],
     functions: &[usize],
 ) -> Result<(), AllocError>
-    ensures { OnOk result (out.new.items ≡ out.old.items ++ binary.function_segment (map type_of types.now) (grammar.Active (grammar.target index offset.now)) functions.now) }
+    ensures { OnOk result (out.new.items ≡ out.old.items ++ binary.function_segment types.now (grammar.Active (grammar.target index offset.now)) functions.now) }
 {
     if index > 0 {
         out.push(0x02)?;
@@ -1422,11 +1328,11 @@ fn put_active_functions(
 /// Appends a segment of functions.
 fn put_function_segment(
     out: &mut Vec<u8>,
-    types: &[FunctionType],
+    types: &IndexedTypes,
     place: ElemPlace<'_>,
     functions: &[usize],
 ) -> Result<(), AllocError>
-    ensures { OnOk result (out.new.items ≡ out.old.items ++ binary.function_segment (map type_of types.now) (elem_place_of place.entry) functions.now) }
+    ensures { OnOk result (out.new.items ≡ out.old.items ++ binary.function_segment types.now (elem_place_of place.entry) functions.now) }
 {
     match place {
         ElemPlace::Passive => {
@@ -1463,13 +1369,13 @@ fn is_funcref(of: ReferenceType) -> bool
 /// Appends a segment of any elements that is put into a table.
 fn put_active_elements(
     out: &mut Vec<u8>,
-    types: &[FunctionType],
+    types: &IndexedTypes,
     index: usize,
     offset: &[Instruction],
     of: ReferenceType,
     elements: &[Element],
 ) -> Result<(), AllocError>
-    ensures { OnOk result (out.new.items ≡ out.old.items ++ binary.other_segment (map type_of types.now) (grammar.Active (grammar.target index offset.now)) of (map items_of elements.now)) }
+    ensures { OnOk result (out.new.items ≡ out.old.items ++ binary.other_segment types.now (grammar.Active (grammar.target index offset.now)) of (map items_of elements.now)) }
 {
     if index == 0 && is_funcref(of) {
         out.push(0x04)?;
@@ -1486,12 +1392,12 @@ fn put_active_elements(
 /// Appends a segment of any elements.
 fn put_other_segment(
     out: &mut Vec<u8>,
-    types: &[FunctionType],
+    types: &IndexedTypes,
     place: ElemPlace<'_>,
     of: ReferenceType,
     elements: &[Element],
 ) -> Result<(), AllocError>
-    ensures { OnOk result (out.new.items ≡ out.old.items ++ binary.other_segment (map type_of types.now) (elem_place_of place.entry) of (map items_of elements.now)) }
+    ensures { OnOk result (out.new.items ≡ out.old.items ++ binary.other_segment types.now (elem_place_of place.entry) of (map items_of elements.now)) }
 {
     match place {
         ElemPlace::Passive => {
@@ -1515,10 +1421,10 @@ fn put_other_segment(
 fn put_element_segment(
     alloc: Global,
     out: &mut Vec<u8>,
-    types: &[FunctionType],
+    types: &IndexedTypes,
     segment: ElementSegment<'_>,
 ) -> Result<(), AllocError>
-    ensures { OnOk result (out.new.items ≡ out.old.items ++ binary.elem_bytes (map type_of types.now) (element_segment_of segment.entry)) }
+    ensures { OnOk result (out.new.items ≡ out.old.items ++ binary.elem_bytes types.now (element_segment_of segment.entry)) }
 {
     match functions_by(alloc, segment.of, segment.elements)? {
         Some(functions) => put_function_segment(out, types, segment.place, &functions),
@@ -1530,10 +1436,10 @@ fn put_element_segment(
 fn put_elements(
     alloc: Global,
     out: &mut Vec<u8>,
-    types: &[FunctionType],
+    types: &IndexedTypes,
     segments: &[ElementSegment<'_>],
 ) -> Result<(), AllocError>
-    ensures { OnOk result (out.new.items ≡ out.old.items ++ binary.list_section 9 (binary.elem_bytes (map type_of types.now)) (map element_segment_of segments.now)) }
+    ensures { OnOk result (out.new.items ≡ out.old.items ++ binary.list_section 9 (binary.elem_bytes types.now) (map element_segment_of segments.now)) }
 {
     let mut items = Vec::new(alloc);
     for segment in segments {
@@ -1621,7 +1527,7 @@ pub(crate) fn module_bytes(alloc: Global, fields: &[Field<'_>]) -> Result<Vec<u8
     let mut bytes = Vec::new(alloc);
     bytes.extend_from_slice(&HEADER)?;
     let types = types_of(alloc, fields)?;
-    put_types(alloc, &mut bytes, &types)?;
+    put_types(alloc, &mut bytes, types.as_slice())?;
     put_imports(alloc, &mut bytes, &types, fields)?;
     put_functions(alloc, &mut bytes, &types, fields)?;
     put_tables(alloc, &mut bytes, fields)?;

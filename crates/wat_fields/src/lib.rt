@@ -6,6 +6,7 @@ mod binary;
 mod elements;
 pub mod fields;
 mod header;
+mod indexed_types;
 pub mod laws;
 mod names;
 mod segments;

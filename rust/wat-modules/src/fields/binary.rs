@@ -6,13 +6,11 @@ use crate::fields::fields::{
     ElemMode, Element, Export, ExternType, Field, Function, GlobalType, Import, IndexSpace, Limits,
     TableType, Target, TypeUse, Variable,
 };
+use crate::fields::indexed_types::IndexedTypes;
 use crate::fields::segments::len_of;
-use crate::fields::uses::function_type;
 use wat_lex::shim::alloc::{AllocError, Global};
 use crate::instructions::pieces::{Argument, Instruction, Opcode, ReferenceType, ValueType};
-use crate::instructions::types::{
-    FunctionType, UnnamedUse, copied, reference_byte, same_type, type_byte,
-};
+use crate::instructions::types::{FunctionType, UnnamedUse, copied, reference_byte, type_byte};
 use wat_lex::proved::encode::{Encode, EncodeError};
 
 /// The magic number and the version.
@@ -134,11 +132,11 @@ fn put_opcode(out: &mut Vec<u8>, opcode: Opcode) -> Result<(), AllocError> {
 /// # Proved
 ///
 /// ```text
-/// ensures { OnOk result (out.new.items ≡ out.old.items ++ binary.instruction_bytes (map type_of types.now) instruction.now) }
+/// ensures { OnOk result (out.new.items ≡ out.old.items ++ binary.instruction_bytes types.now instruction.now) }
 /// ```
 fn put_instruction(
     out: &mut Vec<u8>,
-    types: &[FunctionType],
+    types: &IndexedTypes,
     instruction: &Instruction,
 ) -> Result<(), AllocError> {
     put_opcode(out, instruction.opcode)?;
@@ -150,11 +148,11 @@ fn put_instruction(
 /// # Proved
 ///
 /// ```text
-/// ensures { OnOk result (out.new.items ≡ out.old.items ++ binary.argument_bytes (map type_of types.now) argument.now) }
+/// ensures { OnOk result (out.new.items ≡ out.old.items ++ binary.argument_bytes types.now argument.now) }
 /// ```
 fn put_argument(
     out: &mut Vec<u8>,
-    types: &[FunctionType],
+    types: &IndexedTypes,
     argument: &Argument,
 ) -> Result<(), AllocError> {
     match argument {
@@ -181,14 +179,14 @@ fn put_argument(
             Ok(())
         }
         Argument::Indirect(call) => {
-            put(out, unnamed_index(types, call.uses()))?;
+            put(out, unnamed_index(types, call.uses())?)?;
             put(out, call.table())
         }
         Argument::Block(of) => {
             out.push(block_byte(*of))?;
             Ok(())
         }
-        Argument::BlockUse(uses) => put_signed(out, unnamed_index(types, uses.uses())),
+        Argument::BlockUse(uses) => put_signed(out, unnamed_index(types, uses.uses())?),
         Argument::Memory(align, offset) => {
             put(out, usize::from(*align))?;
             put(out, *offset as usize)?;
@@ -238,11 +236,11 @@ fn put_argument(
 /// # Proved
 ///
 /// ```text
-/// ensures { OnOk result (out.new.items ≡ out.old.items ++ flat_map (binary.instruction_bytes (map type_of types.now)) all.now) }
+/// ensures { OnOk result (out.new.items ≡ out.old.items ++ flat_map (binary.instruction_bytes types.now) all.now) }
 /// ```
 fn put_instructions(
     out: &mut Vec<u8>,
-    types: &[FunctionType],
+    types: &IndexedTypes,
     all: &[Instruction],
 ) -> Result<(), AllocError> {
     for instruction in all {
@@ -266,68 +264,21 @@ fn variable_bytes(alloc: Global, variables: &[Variable<'_>]) -> Result<Vec<u8>, 
     Ok(bytes)
 }
 
-/// The index of a type among these, which is their number where it is not among them.
-///
-/// # Proved
-///
-/// ```text
-/// ensures within { result ≤ length types.now }
-/// ensures is { result ≡ binary.type_index (type_of of.now) (map type_of types.now) }
-/// ```
-fn type_index(types: &[FunctionType], of: &FunctionType) -> usize {
-    for (i, known) in types.iter().enumerate() {
-        if same_type(known, of) {
-            return i;
-        }
-    }
-    types.len()
-}
-
-/// Whether a type is among these.
-///
-/// # Proved
-///
-/// ```text
-/// ensures { result ≡ binary.has_type (type_of of.now) (map type_of types.now) }
-/// ```
-fn has_type(types: &[FunctionType], of: &FunctionType) -> bool {
-    for known in types {
-        if same_type(known, of) {
-            return true;
-        }
-    }
-    false
-}
-
 /// The types that fields define.
 ///
 /// # Proved
 ///
 /// ```text
-/// ensures { IfOk result (λ types. map type_of types.items ≡ map grammar.definition_type (grammar.definitions_of (fields_of fields.now))) }
+/// ensures { IfOk result (λ types. types ≡ map grammar.definition_type (grammar.definitions_of (fields_of fields.now))) }
 /// ```
-fn defined_types(alloc: Global, fields: &[Field<'_>]) -> Result<Vec<FunctionType>, AllocError> {
-    let mut types = Vec::new(alloc);
+fn defined_types(alloc: Global, fields: &[Field<'_>]) -> Result<IndexedTypes, AllocError> {
+    let mut types = IndexedTypes::none(alloc);
     for field in fields {
         if let Field::Type(definition) = field {
             types.push(copied(alloc, &definition.of)?)?;
         }
     }
     Ok(types)
-}
-
-/// Appends a type where it is not among these.
-///
-/// # Proved
-///
-/// ```text
-/// ensures { OnOk result (map type_of types.new.items ≡ binary.with_type (map type_of types.old.items) (type_of of)) }
-/// ```
-fn add_type(types: &mut Vec<FunctionType>, of: FunctionType) -> Result<(), AllocError> {
-    if !has_type(types, &of) {
-        types.push(of)?;
-    }
-    Ok(())
 }
 
 /// The type use of an instruction, where it has one.
@@ -367,18 +318,12 @@ fn instruction_use(instruction: &Instruction) -> Option<&UnnamedUse> {
 /// # Proved
 ///
 /// ```text
-/// ensures { OnOk result (map type_of types.new.items ≡ binary.types_after (map type_of types.old.items) (flat_map binary.instruction_types all.now)) }
+/// ensures { OnOk result (types.new ≡ binary.types_after types.old (flat_map binary.instruction_types all.now)) }
 /// ```
-fn add_instructions(
-    alloc: Global,
-    types: &mut Vec<FunctionType>,
-    all: &[Instruction],
-) -> Result<(), AllocError> {
+fn add_instructions(types: &mut IndexedTypes, all: &[Instruction]) -> Result<(), AllocError> {
     for instruction in all {
         if let Some(uses) = instruction_use(instruction) {
-            if !has_type(types, &uses.of) {
-                types.push(copied(alloc, &uses.of)?)?;
-            }
+            types.add(&uses.of)?;
         }
     }
     Ok(())
@@ -389,15 +334,11 @@ fn add_instructions(
 /// # Proved
 ///
 /// ```text
-/// ensures { OnOk result (map type_of types.new.items ≡ binary.types_after (map type_of types.old.items) (flat_map binary.expression_types (map items_of elements.now))) }
+/// ensures { OnOk result (types.new ≡ binary.types_after types.old (flat_map binary.expression_types (map items_of elements.now))) }
 /// ```
-fn add_elements(
-    alloc: Global,
-    types: &mut Vec<FunctionType>,
-    elements: &[Element],
-) -> Result<(), AllocError> {
+fn add_elements(types: &mut IndexedTypes, elements: &[Element]) -> Result<(), AllocError> {
     for element in elements {
-        add_element(alloc, types, element)?;
+        add_element(types, element)?;
     }
     Ok(())
 }
@@ -407,16 +348,12 @@ fn add_elements(
 /// # Proved
 ///
 /// ```text
-/// ensures { OnOk result (map type_of types.new.items ≡ binary.types_after (map type_of types.old.items) (binary.expression_types (items_of element.now))) }
+/// ensures { OnOk result (types.new ≡ binary.types_after types.old (binary.expression_types (items_of element.now))) }
 /// ```
-fn add_element(
-    alloc: Global,
-    types: &mut Vec<FunctionType>,
-    element: &Element,
-) -> Result<(), AllocError> {
+fn add_element(types: &mut IndexedTypes, element: &Element) -> Result<(), AllocError> {
     match element {
         Element::Function(_) => Ok(()),
-        Element::Expression(instructions) => add_instructions(alloc, types, instructions),
+        Element::Expression(instructions) => add_instructions(types, instructions),
     }
 }
 
@@ -425,33 +362,13 @@ fn add_element(
 /// # Proved
 ///
 /// ```text
-/// ensures { OnOk result (map type_of types.new.items ≡ binary.types_after (map type_of types.old.items) (binary.mode_types (mode_of mode.now))) }
+/// ensures { OnOk result (types.new ≡ binary.types_after types.old (binary.mode_types (mode_of mode.now))) }
 /// ```
-fn add_mode(
-    alloc: Global,
-    types: &mut Vec<FunctionType>,
-    mode: &ElemMode,
-) -> Result<(), AllocError> {
+fn add_mode(types: &mut IndexedTypes, mode: &ElemMode) -> Result<(), AllocError> {
     match mode {
-        ElemMode::Active(target) => add_instructions(alloc, types, &target.offset),
+        ElemMode::Active(target) => add_instructions(types, &target.offset),
         ElemMode::Passive | ElemMode::Declarative => Ok(()),
     }
-}
-
-/// Appends the type of a type use.
-///
-/// # Proved
-///
-/// ```text
-/// ensures { OnOk result (map type_of types.new.items ≡ binary.with_type (map type_of types.old.items) (binary.used_type (use_of uses.now))) }
-/// ```
-fn add_use(
-    alloc: Global,
-    types: &mut Vec<FunctionType>,
-    uses: &TypeUse<'_>,
-) -> Result<(), AllocError> {
-    let of = function_type(alloc, &uses.params, &uses.results)?;
-    add_type(types, of)
 }
 
 /// Appends the types that a field uses.
@@ -459,34 +376,30 @@ fn add_use(
 /// # Proved
 ///
 /// ```text
-/// ensures { OnOk result (map type_of types.new.items ≡ binary.types_after (map type_of types.old.items) (binary.used_by (field_of field.now))) }
+/// ensures { OnOk result (types.new ≡ binary.types_after types.old (binary.used_by (field_of field.now))) }
 /// ```
-fn add_field(
-    alloc: Global,
-    types: &mut Vec<FunctionType>,
-    field: &Field<'_>,
-) -> Result<(), AllocError> {
+fn add_field(types: &mut IndexedTypes, field: &Field<'_>) -> Result<(), AllocError> {
     match field {
         Field::Func(function) => {
-            add_use(alloc, types, &function.uses)?;
-            add_instructions(alloc, types, &function.body)
+            types.add_used(&function.uses)?;
+            add_instructions(types, &function.body)
         }
         Field::Import(import) => match &import.what {
-            ExternType::Func(uses) => add_use(alloc, types, uses),
+            ExternType::Func(uses) => types.add_used(uses),
             ExternType::Table(_) | ExternType::Memory(_) | ExternType::Global(_) => Ok(()),
         },
         Field::Table(table) => match &table.elements {
-            Some(elements) => add_elements(alloc, types, elements),
+            Some(elements) => add_elements(types, elements),
             None => Ok(()),
         },
-        Field::Global(global) => add_instructions(alloc, types, &global.first),
+        Field::Global(global) => add_instructions(types, &global.first),
         Field::Elem(elem) => {
-            add_mode(alloc, types, &elem.mode)?;
-            add_elements(alloc, types, &elem.elements)?;
+            add_mode(types, &elem.mode)?;
+            add_elements(types, &elem.elements)?;
             Ok(())
         }
         Field::Data(data) => match &data.target {
-            Some(target) => add_instructions(alloc, types, &target.offset),
+            Some(target) => add_instructions(types, &target.offset),
             None => Ok(()),
         },
         Field::Type(_) | Field::Memory(_) | Field::Export(_) | Field::Start(_) => Ok(()),
@@ -498,12 +411,12 @@ fn add_field(
 /// # Proved
 ///
 /// ```text
-/// ensures { IfOk result (λ types. map type_of types.items ≡ binary.types_of (fields_of fields.now)) }
+/// ensures { IfOk result (λ types. types ≡ binary.types_of (fields_of fields.now)) }
 /// ```
-fn types_of(alloc: Global, fields: &[Field<'_>]) -> Result<Vec<FunctionType>, AllocError> {
+fn types_of(alloc: Global, fields: &[Field<'_>]) -> Result<IndexedTypes, AllocError> {
     let mut types = defined_types(alloc, fields)?;
     for field in fields {
-        add_field(alloc, &mut types, field)?;
+        add_field(&mut types, field)?;
     }
     Ok(types)
 }
@@ -513,13 +426,13 @@ fn types_of(alloc: Global, fields: &[Field<'_>]) -> Result<Vec<FunctionType>, Al
 /// # Proved
 ///
 /// ```text
-/// ensures is { result ≡ binary.unnamed_index (map type_of types.now) (unnamed.use_of uses.now) }
-/// ensures small { index_or uses.now.index 0 < 2 ^ 63 → result < 2 ^ 63 }
+/// ensures is { IfOk result (λ n. n ≡ binary.unnamed_index types.now (unnamed.use_of uses.now)) }
+/// ensures small { index_or uses.now.index 0 < 2 ^ 63 → IfOk result (λ n. n < 2 ^ 63) }
 /// ```
-fn unnamed_index(types: &[FunctionType], uses: &UnnamedUse) -> usize {
+fn unnamed_index(types: &IndexedTypes, uses: &UnnamedUse) -> Result<usize, AllocError> {
     match uses.index {
-        Some(index) => index,
-        None => type_index(types, &uses.of),
+        Some(index) => Ok(index),
+        None => types.index(&uses.of),
     }
 }
 
@@ -528,19 +441,12 @@ fn unnamed_index(types: &[FunctionType], uses: &UnnamedUse) -> usize {
 /// # Proved
 ///
 /// ```text
-/// ensures { IfOk result (λ n. n ≡ index_or (use_of uses.now).index (binary.type_index (binary.used_type (use_of uses.now)) (map type_of types.now))) }
+/// ensures { IfOk result (λ n. n ≡ index_or (use_of uses.now).index (binary.type_index (binary.used_type (use_of uses.now)) types.now)) }
 /// ```
-fn use_index(
-    alloc: Global,
-    types: &[FunctionType],
-    uses: &TypeUse<'_>,
-) -> Result<usize, AllocError> {
+fn use_index(types: &IndexedTypes, uses: &TypeUse<'_>) -> Result<usize, AllocError> {
     match uses.index {
         Some(index) => Ok(index),
-        None => {
-            let of = function_type(alloc, &uses.params, &uses.results)?;
-            Ok(type_index(types, &of))
-        }
+        None => types.used_index(uses),
     }
 }
 
@@ -935,11 +841,11 @@ fn put_runs(out: &mut Vec<u8>, runs: &[Run]) -> Result<(), AllocError> {
 /// # Proved
 ///
 /// ```text
-/// ensures { IfOk result (λ bytes. bytes.items ≡ binary.code (map type_of types.now) (function_of function.now)) }
+/// ensures { IfOk result (λ bytes. bytes.items ≡ binary.code types.now (function_of function.now)) }
 /// ```
 fn code(
     alloc: Global,
-    types: &[FunctionType],
+    types: &IndexedTypes,
     function: &Function<'_>,
 ) -> Result<Vec<u8>, AllocError> {
     let locals = variable_bytes(alloc, &function.locals)?;
@@ -1014,29 +920,14 @@ fn sum(one: usize, other: usize) -> Result<usize, AllocError> {
 /// # Proved
 ///
 /// ```text
-/// ensures { OnOk result (out.new.items ≡ out.old.items ++ binary.list_section 1 binary.type_bytes (map type_of types.now)) }
+/// ensures { OnOk result (out.new.items ≡ out.old.items ++ binary.list_section 1 binary.type_bytes types.now) }
 /// ```
-fn put_types(alloc: Global, out: &mut Vec<u8>, types: &[FunctionType]) -> Result<(), AllocError> {
+fn put_types(alloc: Global, out: &mut Vec<u8>, types: &IndexedTypes) -> Result<(), AllocError> {
     let mut items = Vec::new(alloc);
     for of in types {
-        put_type(alloc, &mut items, of)?;
+        put_type(&mut items, of)?;
     }
     put_section(alloc, out, 1, types.len(), &items)
-}
-
-/// The bytes of value types.
-///
-/// # Proved
-///
-/// ```text
-/// ensures { IfOk result (λ bytes. bytes.items ≡ map type_byte types.now) }
-/// ```
-fn value_bytes(alloc: Global, types: &[ValueType]) -> Result<Vec<u8>, AllocError> {
-    let mut bytes = Vec::new(alloc);
-    for of in types {
-        bytes.push(type_byte(*of))?;
-    }
-    Ok(bytes)
 }
 
 /// Appends a function type.
@@ -1046,13 +937,10 @@ fn value_bytes(alloc: Global, types: &[ValueType]) -> Result<Vec<u8>, AllocError
 /// ```text
 /// ensures { OnOk result (out.new.items ≡ out.old.items ++ binary.type_bytes (type_of of.now)) }
 /// ```
-fn put_type(alloc: Global, out: &mut Vec<u8>, of: &FunctionType) -> Result<(), AllocError> {
-    let params = value_bytes(alloc, &of.params)?;
-    let results = value_bytes(alloc, &of.results)?;
+fn put_type(out: &mut Vec<u8>, of: &FunctionType) -> Result<(), AllocError> {
     out.push(0x60)?;
-    put_sized(out, &params)?;
-    put_sized(out, &results)?;
-    Ok(())
+    put_values(out, &of.params)?;
+    put_values(out, &of.results)
 }
 
 /// Appends what is imported.
@@ -1060,18 +948,17 @@ fn put_type(alloc: Global, out: &mut Vec<u8>, of: &FunctionType) -> Result<(), A
 /// # Proved
 ///
 /// ```text
-/// ensures { OnOk result (out.new.items ≡ out.old.items ++ binary.extern_bytes (map type_of types.now) (extern_of what.now)) }
+/// ensures { OnOk result (out.new.items ≡ out.old.items ++ binary.extern_bytes types.now (extern_of what.now)) }
 /// ```
 fn put_extern(
-    alloc: Global,
     out: &mut Vec<u8>,
-    types: &[FunctionType],
+    types: &IndexedTypes,
     what: &ExternType<'_>,
 ) -> Result<(), AllocError> {
     match what {
         ExternType::Func(uses) => {
             out.push(0x00)?;
-            put(out, use_index(alloc, types, uses)?)
+            put(out, use_index(types, uses)?)
         }
         ExternType::Table(of) => {
             out.push(0x01)?;
@@ -1093,17 +980,16 @@ fn put_extern(
 /// # Proved
 ///
 /// ```text
-/// ensures { OnOk result (out.new.items ≡ out.old.items ++ binary.import_bytes (map type_of types.now) (import_of import.now)) }
+/// ensures { OnOk result (out.new.items ≡ out.old.items ++ binary.import_bytes types.now (import_of import.now)) }
 /// ```
 fn put_import(
-    alloc: Global,
     out: &mut Vec<u8>,
-    types: &[FunctionType],
+    types: &IndexedTypes,
     import: &Import<'_>,
 ) -> Result<(), AllocError> {
     put_sized(out, import.from)?;
     put_sized(out, import.item)?;
-    put_extern(alloc, out, types, &import.what)
+    put_extern(out, types, &import.what)
 }
 
 /// Appends the import section.
@@ -1111,19 +997,19 @@ fn put_import(
 /// # Proved
 ///
 /// ```text
-/// ensures { OnOk result (out.new.items ≡ out.old.items ++ binary.list_section 2 (binary.import_bytes (map type_of types.now)) (flat_map binary.import_of (fields_of fields.now))) }
+/// ensures { OnOk result (out.new.items ≡ out.old.items ++ binary.list_section 2 (binary.import_bytes types.now) (flat_map binary.import_of (fields_of fields.now))) }
 /// ```
 fn put_imports(
     alloc: Global,
     out: &mut Vec<u8>,
-    types: &[FunctionType],
+    types: &IndexedTypes,
     fields: &[Field<'_>],
 ) -> Result<(), AllocError> {
     let mut items = Vec::new(alloc);
     let mut count = 0;
     for field in fields {
         if let Field::Import(import) = field {
-            put_import(alloc, &mut items, types, import)?;
+            put_import(&mut items, types, import)?;
             count += 1;
         }
     }
@@ -1135,19 +1021,19 @@ fn put_imports(
 /// # Proved
 ///
 /// ```text
-/// ensures { OnOk result (out.new.items ≡ out.old.items ++ binary.list_section 3 (binary.function_bytes (map type_of types.now)) (binary.functions_of (fields_of fields.now))) }
+/// ensures { OnOk result (out.new.items ≡ out.old.items ++ binary.list_section 3 (binary.function_bytes types.now) (binary.functions_of (fields_of fields.now))) }
 /// ```
 fn put_functions(
     alloc: Global,
     out: &mut Vec<u8>,
-    types: &[FunctionType],
+    types: &IndexedTypes,
     fields: &[Field<'_>],
 ) -> Result<(), AllocError> {
     let mut items = Vec::new(alloc);
     let mut count = 0;
     for field in fields {
         if let Field::Func(function) = field {
-            put(&mut items, use_index(alloc, types, &function.uses)?)?;
+            put(&mut items, use_index(types, &function.uses)?)?;
             count += 1;
         }
     }
@@ -1254,11 +1140,11 @@ fn put_global_type(out: &mut Vec<u8>, of: GlobalType) -> Result<(), AllocError> 
 /// # Proved
 ///
 /// ```text
-/// ensures { OnOk result (out.new.items ≡ out.old.items ++ binary.global_bytes (map type_of types.now) (of, first.now)) }
+/// ensures { OnOk result (out.new.items ≡ out.old.items ++ binary.global_bytes types.now (of, first.now)) }
 /// ```
 fn put_global(
     out: &mut Vec<u8>,
-    types: &[FunctionType],
+    types: &IndexedTypes,
     of: GlobalType,
     first: &[Instruction],
 ) -> Result<(), AllocError> {
@@ -1273,12 +1159,12 @@ fn put_global(
 /// # Proved
 ///
 /// ```text
-/// ensures { OnOk result (out.new.items ≡ out.old.items ++ binary.list_section 6 (binary.global_bytes (map type_of types.now)) (flat_map binary.global_of (fields_of fields.now))) }
+/// ensures { OnOk result (out.new.items ≡ out.old.items ++ binary.list_section 6 (binary.global_bytes types.now) (flat_map binary.global_of (fields_of fields.now))) }
 /// ```
 fn put_globals(
     alloc: Global,
     out: &mut Vec<u8>,
-    types: &[FunctionType],
+    types: &IndexedTypes,
     fields: &[Field<'_>],
 ) -> Result<(), AllocError> {
     let mut items = Vec::new(alloc);
@@ -1365,12 +1251,12 @@ fn put_start(alloc: Global, out: &mut Vec<u8>, fields: &[Field<'_>]) -> Result<(
 /// # Proved
 ///
 /// ```text
-/// ensures { OnOk result (out.new.items ≡ out.old.items ++ binary.list_section 10 (binary.code_bytes (map type_of types.now)) (binary.functions_of (fields_of fields.now))) }
+/// ensures { OnOk result (out.new.items ≡ out.old.items ++ binary.list_section 10 (binary.code_bytes types.now) (binary.functions_of (fields_of fields.now))) }
 /// ```
 fn put_codes(
     alloc: Global,
     out: &mut Vec<u8>,
-    types: &[FunctionType],
+    types: &IndexedTypes,
     fields: &[Field<'_>],
 ) -> Result<(), AllocError> {
     let mut items = Vec::new(alloc);
@@ -1390,11 +1276,11 @@ fn put_codes(
 /// # Proved
 ///
 /// ```text
-/// ensures { OnOk result (out.new.items ≡ out.old.items ++ binary.target_bytes (map type_of types.now) (grammar.target index offset.now)) }
+/// ensures { OnOk result (out.new.items ≡ out.old.items ++ binary.target_bytes types.now (grammar.target index offset.now)) }
 /// ```
 fn put_target(
     out: &mut Vec<u8>,
-    types: &[FunctionType],
+    types: &IndexedTypes,
     index: usize,
     offset: &[Instruction],
 ) -> Result<(), AllocError> {
@@ -1414,13 +1300,9 @@ fn put_target(
 /// # Proved
 ///
 /// ```text
-/// ensures { OnOk result (out.new.items ≡ out.old.items ++ binary.mode_bytes (map type_of types.now) (place_of place.entry)) }
+/// ensures { OnOk result (out.new.items ≡ out.old.items ++ binary.mode_bytes types.now (place_of place.entry)) }
 /// ```
-fn put_place(
-    out: &mut Vec<u8>,
-    types: &[FunctionType],
-    place: Place<'_>,
-) -> Result<(), AllocError> {
+fn put_place(out: &mut Vec<u8>, types: &IndexedTypes, place: Place<'_>) -> Result<(), AllocError> {
     match place {
         Place::Nowhere => {
             out.push(0x01)?;
@@ -1450,12 +1332,12 @@ fn put_strings(out: &mut Vec<u8>, strings: &[&[u8]]) -> Result<(), AllocError> {
 /// # Proved
 ///
 /// ```text
-/// ensures head { OnOk result (out.new.items ≡ out.old.items ++ segment_head (map type_of types.now) (segment_of segment.entry)) }
+/// ensures head { OnOk result (out.new.items ≡ out.old.items ++ segment_head types.now (segment_of segment.entry)) }
 /// ensures len { IfOk result (λ len. len ≡ length (together segment.entry.strings.now)) }
 /// ```
 fn put_segment_head(
     out: &mut Vec<u8>,
-    types: &[FunctionType],
+    types: &IndexedTypes,
     segment: Segment<'_>,
 ) -> Result<usize, AllocError> {
     let len = len_of(segment.strings)?;
@@ -1469,11 +1351,11 @@ fn put_segment_head(
 /// # Proved
 ///
 /// ```text
-/// ensures { IfOk result (λ len. len ≡ length (flat_map (binary.data_bytes (map type_of types.now)) (map segment_of segments.now))) }
+/// ensures { IfOk result (λ len. len ≡ length (flat_map (binary.data_bytes types.now) (map segment_of segments.now))) }
 /// ```
 fn segments_len(
     alloc: Global,
-    types: &[FunctionType],
+    types: &IndexedTypes,
     segments: &[Segment<'_>],
 ) -> Result<usize, AllocError> {
     let mut all = 0;
@@ -1491,12 +1373,12 @@ fn segments_len(
 /// # Proved
 ///
 /// ```text
-/// ensures { OnOk result (out.new.items ≡ out.old.items ++ binary.list_section 11 (binary.data_bytes (map type_of types.now)) (map segment_of segments.now)) }
+/// ensures { OnOk result (out.new.items ≡ out.old.items ++ binary.list_section 11 (binary.data_bytes types.now) (map segment_of segments.now)) }
 /// ```
 fn put_data(
     alloc: Global,
     out: &mut Vec<u8>,
-    types: &[FunctionType],
+    types: &IndexedTypes,
     segments: &[Segment<'_>],
 ) -> Result<(), AllocError> {
     if segments.len() == 0 {
@@ -1675,11 +1557,11 @@ fn put_functions_of(out: &mut Vec<u8>, functions: &[usize]) -> Result<(), AllocE
 /// # Proved
 ///
 /// ```text
-/// ensures { OnOk result (out.new.items ≡ out.old.items ++ binary.expression_bytes (map type_of types.now) instructions.now) }
+/// ensures { OnOk result (out.new.items ≡ out.old.items ++ binary.expression_bytes types.now instructions.now) }
 /// ```
 fn put_expression(
     out: &mut Vec<u8>,
-    types: &[FunctionType],
+    types: &IndexedTypes,
     instructions: &[Instruction],
 ) -> Result<(), AllocError> {
     put_instructions(out, types, instructions)?;
@@ -1692,11 +1574,11 @@ fn put_expression(
 /// # Proved
 ///
 /// ```text
-/// ensures { OnOk result (out.new.items ≡ out.old.items ++ binary.element_list (map type_of types.now) (map items_of elements.now)) }
+/// ensures { OnOk result (out.new.items ≡ out.old.items ++ binary.element_list types.now (map items_of elements.now)) }
 /// ```
 fn put_elements_of(
     out: &mut Vec<u8>,
-    types: &[FunctionType],
+    types: &IndexedTypes,
     elements: &[Element],
 ) -> Result<(), AllocError> {
     put(out, elements.len())?;
@@ -1711,11 +1593,11 @@ fn put_elements_of(
 /// # Proved
 ///
 /// ```text
-/// ensures { OnOk result (out.new.items ≡ out.old.items ++ binary.expression_bytes (map type_of types.now) (items_of element.now)) }
+/// ensures { OnOk result (out.new.items ≡ out.old.items ++ binary.expression_bytes types.now (items_of element.now)) }
 /// ```
 fn put_element(
     out: &mut Vec<u8>,
-    types: &[FunctionType],
+    types: &IndexedTypes,
     element: &Element,
 ) -> Result<(), AllocError> {
     match element {
@@ -1729,11 +1611,11 @@ fn put_element(
 /// # Proved
 ///
 /// ```text
-/// ensures { OnOk result (out.new.items ≡ out.old.items ++ binary.function_segment (map type_of types.now) (grammar.Active (grammar.target index offset.now)) functions.now) }
+/// ensures { OnOk result (out.new.items ≡ out.old.items ++ binary.function_segment types.now (grammar.Active (grammar.target index offset.now)) functions.now) }
 /// ```
 fn put_active_functions(
     out: &mut Vec<u8>,
-    types: &[FunctionType],
+    types: &IndexedTypes,
     index: usize,
     offset: &[Instruction],
     functions: &[usize],
@@ -1755,11 +1637,11 @@ fn put_active_functions(
 /// # Proved
 ///
 /// ```text
-/// ensures { OnOk result (out.new.items ≡ out.old.items ++ binary.function_segment (map type_of types.now) (elem_place_of place.entry) functions.now) }
+/// ensures { OnOk result (out.new.items ≡ out.old.items ++ binary.function_segment types.now (elem_place_of place.entry) functions.now) }
 /// ```
 fn put_function_segment(
     out: &mut Vec<u8>,
-    types: &[FunctionType],
+    types: &IndexedTypes,
     place: ElemPlace<'_>,
     functions: &[usize],
 ) -> Result<(), AllocError> {
@@ -1800,11 +1682,11 @@ fn is_funcref(of: ReferenceType) -> bool {
 /// # Proved
 ///
 /// ```text
-/// ensures { OnOk result (out.new.items ≡ out.old.items ++ binary.other_segment (map type_of types.now) (grammar.Active (grammar.target index offset.now)) of (map items_of elements.now)) }
+/// ensures { OnOk result (out.new.items ≡ out.old.items ++ binary.other_segment types.now (grammar.Active (grammar.target index offset.now)) of (map items_of elements.now)) }
 /// ```
 fn put_active_elements(
     out: &mut Vec<u8>,
-    types: &[FunctionType],
+    types: &IndexedTypes,
     index: usize,
     offset: &[Instruction],
     of: ReferenceType,
@@ -1827,11 +1709,11 @@ fn put_active_elements(
 /// # Proved
 ///
 /// ```text
-/// ensures { OnOk result (out.new.items ≡ out.old.items ++ binary.other_segment (map type_of types.now) (elem_place_of place.entry) of (map items_of elements.now)) }
+/// ensures { OnOk result (out.new.items ≡ out.old.items ++ binary.other_segment types.now (elem_place_of place.entry) of (map items_of elements.now)) }
 /// ```
 fn put_other_segment(
     out: &mut Vec<u8>,
-    types: &[FunctionType],
+    types: &IndexedTypes,
     place: ElemPlace<'_>,
     of: ReferenceType,
     elements: &[Element],
@@ -1859,12 +1741,12 @@ fn put_other_segment(
 /// # Proved
 ///
 /// ```text
-/// ensures { OnOk result (out.new.items ≡ out.old.items ++ binary.elem_bytes (map type_of types.now) (element_segment_of segment.entry)) }
+/// ensures { OnOk result (out.new.items ≡ out.old.items ++ binary.elem_bytes types.now (element_segment_of segment.entry)) }
 /// ```
 fn put_element_segment(
     alloc: Global,
     out: &mut Vec<u8>,
-    types: &[FunctionType],
+    types: &IndexedTypes,
     segment: ElementSegment<'_>,
 ) -> Result<(), AllocError> {
     match functions_by(alloc, segment.of, segment.elements)? {
@@ -1878,12 +1760,12 @@ fn put_element_segment(
 /// # Proved
 ///
 /// ```text
-/// ensures { OnOk result (out.new.items ≡ out.old.items ++ binary.list_section 9 (binary.elem_bytes (map type_of types.now)) (map element_segment_of segments.now)) }
+/// ensures { OnOk result (out.new.items ≡ out.old.items ++ binary.list_section 9 (binary.elem_bytes types.now) (map element_segment_of segments.now)) }
 /// ```
 fn put_elements(
     alloc: Global,
     out: &mut Vec<u8>,
-    types: &[FunctionType],
+    types: &IndexedTypes,
     segments: &[ElementSegment<'_>],
 ) -> Result<(), AllocError> {
     let mut items = Vec::new(alloc);
@@ -1995,7 +1877,7 @@ pub(crate) fn module_bytes(alloc: Global, fields: &[Field<'_>]) -> Result<Vec<u8
     let mut bytes = Vec::new(alloc);
     bytes.extend_from_slice(&HEADER)?;
     let types = types_of(alloc, fields)?;
-    put_types(alloc, &mut bytes, &types)?;
+    put_types(alloc, &mut bytes, types.as_slice())?;
     put_imports(alloc, &mut bytes, &types, fields)?;
     put_functions(alloc, &mut bytes, &types, fields)?;
     put_tables(alloc, &mut bytes, fields)?;

@@ -1,8 +1,6 @@
-use Rattle.std.proofs.Common.{map}
-use Rattle.wat_instructions.specs.Views.{type_of}
 use Rattle.wat_fields.proofs.FunctionTypes.{element_used}
 use Rattle.wat_fields.proofs.binary.add_elements.Goals as goal
 
 pub loop-element-preserved : goal.loop-element-preserved
 loop-element-preserved c =
-    element_used c.args.elements.now c.element-item.result _ c.loop-element.element-index _ (map type_of c.loop-element.types.items) (map type_of c.add_element.new.types.items) c.loop-element.invariant c.loop-element-test.true c.element-item.is c.in_ok-add_element.ensures
+    element_used c.args.elements.now c.element-item.result _ c.loop-element.element-index _ c.loop-element.types c.add_element.new.types c.loop-element.invariant c.loop-element-test.true c.element-item.is c.in_ok-add_element.ensures

@@ -6,4 +6,4 @@ use Rattle.wat_instructions.specs.Views.{type_of}
 use Rattle.wat_fields.proofs.binary.segments_len.Given as goal
 
 abbrev pub invariant-loop-segment : goal.invariant-loop-segment
-invariant-loop-segment l = l.all ≡ length (flat_map (data_bytes (map type_of l.types)) (map segment_of (take l.segment-index l.segments)))
+invariant-loop-segment l = l.all ≡ length (flat_map (data_bytes l.types) (map segment_of (take l.segment-index l.segments)))
