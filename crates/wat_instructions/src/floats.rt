@@ -4,7 +4,7 @@ ghost use Rattle.wat_instructions.specs.Grammar.{bits_by, f32, f64, is_minus};
 ghost use Rattle.wat_instructions.specs.Parts.{fault_of};
 ghost use Rattle.wat_instructions.specs.Terminals.{terminal};
 
-use crate::pieces::{Fault, FaultKind, Piece, Sign};
+use crate::pieces::{Fault, FaultKind, Piece, Sign, unexpected};
 use wat_floats::{f32_of_integer, f64_of_integer};
 
 /// Whether an integer is one below 0, or `-0`.
@@ -70,22 +70,7 @@ pub(crate) fn float_32<'p, 'a>(
             rest,
         ),
         [Piece::Float(bits, _), rest @ ..] => single(*bits, pieces, rest),
-        [
-            Piece::Open
-            | Piece::Close
-            | Piece::Word(_)
-            | Piece::Id(_)
-            | Piece::Text(_)
-            | Piece::Other,
-            ..
-        ] => Err(Fault {
-            kind: FaultKind::Unexpected,
-            left: pieces,
-        }),
-        [] => Err(Fault {
-            kind: FaultKind::Unexpected,
-            left: pieces,
-        }),
+        _ => Err(unexpected(pieces)),
     }
 }
 
@@ -104,21 +89,6 @@ pub(crate) fn float_64<'p, 'a>(
             rest,
         ),
         [Piece::Float(_, bits), rest @ ..] => double(*bits, pieces, rest),
-        [
-            Piece::Open
-            | Piece::Close
-            | Piece::Word(_)
-            | Piece::Id(_)
-            | Piece::Text(_)
-            | Piece::Other,
-            ..
-        ] => Err(Fault {
-            kind: FaultKind::Unexpected,
-            left: pieces,
-        }),
-        [] => Err(Fault {
-            kind: FaultKind::Unexpected,
-            left: pieces,
-        }),
+        _ => Err(unexpected(pieces)),
     }
 }

@@ -7,7 +7,7 @@ ghost use Rattle.wat_instructions.specs.Terminals as terminals;
 ghost use Rattle.wat_instructions.specs.Terminals.{Terminal, terminal};
 ghost use Rattle.std.specs.Prelude.{◌≡◌, [], ◌∷◌, map, Ok, Err, MatchResult, List};
 
-use crate::pieces::{Argument, Fault, FaultKind, Frame, Instruction, Name, Opcode, Piece, Refusal};
+use crate::pieces::{Argument, Frame, Instruction, Name, Opcode, Piece, Refusal, unexpected};
 use crate::reading::{self, Scope};
 use crate::uses;
 use std::alloc::Global;
@@ -82,23 +82,7 @@ fn first_step<'p, 'a>(
         [Piece::Word(word), rest @ ..] => folded_instruction(
             alloc, scope, frames, out, word, pieces, rest,
         ),
-        [
-            Piece::Open
-            | Piece::Close
-            | Piece::Id(_)
-            | Piece::Integer(_, _)
-            | Piece::Text(_)
-            | Piece::Float(_, _)
-            | Piece::Other,
-            ..
-        ] => Err(Refusal::Text(Fault {
-            kind: FaultKind::Unexpected,
-            left: pieces,
-        })),
-        [] => Err(Refusal::Text(Fault {
-            kind: FaultKind::Unexpected,
-            left: pieces,
-        })),
+        _ => Err(Refusal::Text(unexpected(pieces))),
     }
 }
 
@@ -173,21 +157,7 @@ fn step<'p, 'a>(
         [Piece::Word(word), rest @ ..] => at_word(
             alloc, scope, frame, frames, out, word, pieces, rest,
         ),
-        [
-            Piece::Id(_)
-            | Piece::Integer(_, _)
-            | Piece::Text(_)
-            | Piece::Float(_, _)
-            | Piece::Other,
-            ..
-        ] => Err(Refusal::Text(Fault {
-            kind: FaultKind::Unexpected,
-            left: pieces,
-        })),
-        [] => Err(Refusal::Text(Fault {
-            kind: FaultKind::Unexpected,
-            left: pieces,
-        })),
+        _ => Err(Refusal::Text(unexpected(pieces))),
     }
 }
 
@@ -215,14 +185,8 @@ fn closed<'p, 'a>(
         }
         Frame::Then(label) => after_then(label, frames, out, rest),
         Frame::Else(_) => after_else(frames, out, rest),
-        Frame::Block(_, _) => Err(Refusal::Text(Fault {
-            kind: FaultKind::Unexpected,
-            left: pieces,
-        })),
-        Frame::Condition(_, _) => Err(Refusal::Text(Fault {
-            kind: FaultKind::Unexpected,
-            left: pieces,
-        })),
+        Frame::Block(_, _) => Err(Refusal::Text(unexpected(pieces))),
+        Frame::Condition(_, _) => Err(Refusal::Text(unexpected(pieces))),
     }
 }
 
@@ -241,23 +205,7 @@ fn after_else<'p, 'a>(
             out.push(END)?;
             Ok(rest)
         }
-        [
-            Piece::Open
-            | Piece::Word(_)
-            | Piece::Id(_)
-            | Piece::Integer(_, _)
-            | Piece::Text(_)
-            | Piece::Float(_, _)
-            | Piece::Other,
-            ..
-        ] => Err(Refusal::Text(Fault {
-            kind: FaultKind::Unexpected,
-            left: pieces,
-        })),
-        [] => Err(Refusal::Text(Fault {
-            kind: FaultKind::Unexpected,
-            left: pieces,
-        })),
+        _ => Err(Refusal::Text(unexpected(pieces))),
     }
 }
 
@@ -278,22 +226,7 @@ fn after_then<'p, 'a>(
             Ok(rest)
         }
         [Piece::Open, rest @ ..] => other_part(label, frames, out, rest),
-        [
-            Piece::Word(_)
-            | Piece::Id(_)
-            | Piece::Integer(_, _)
-            | Piece::Text(_)
-            | Piece::Float(_, _)
-            | Piece::Other,
-            ..
-        ] => Err(Refusal::Text(Fault {
-            kind: FaultKind::Unexpected,
-            left: pieces,
-        })),
-        [] => Err(Refusal::Text(Fault {
-            kind: FaultKind::Unexpected,
-            left: pieces,
-        })),
+        _ => Err(Refusal::Text(unexpected(pieces))),
     }
 }
 
@@ -314,29 +247,10 @@ fn other_part<'p, 'a>(
             if reading::is_else(word) {
                 turned(label, frames, out, rest)
             } else {
-                Err(Refusal::Text(Fault {
-                    kind: FaultKind::Unexpected,
-                    left: pieces,
-                }))
+                Err(Refusal::Text(unexpected(pieces)))
             }
         }
-        [
-            Piece::Open
-            | Piece::Close
-            | Piece::Id(_)
-            | Piece::Integer(_, _)
-            | Piece::Text(_)
-            | Piece::Float(_, _)
-            | Piece::Other,
-            ..
-        ] => Err(Refusal::Text(Fault {
-            kind: FaultKind::Unexpected,
-            left: pieces,
-        })),
-        [] => Err(Refusal::Text(Fault {
-            kind: FaultKind::Unexpected,
-            left: pieces,
-        })),
+        _ => Err(Refusal::Text(unexpected(pieces))),
     }
 }
 
@@ -374,23 +288,7 @@ fn folded<'p, 'a>(
         [Piece::Word(word), rest @ ..] => folded_word(
             alloc, scope, frame, frames, out, word, pieces, rest,
         ),
-        [
-            Piece::Open
-            | Piece::Close
-            | Piece::Id(_)
-            | Piece::Integer(_, _)
-            | Piece::Text(_)
-            | Piece::Float(_, _)
-            | Piece::Other,
-            ..
-        ] => Err(Refusal::Text(Fault {
-            kind: FaultKind::Unexpected,
-            left: pieces,
-        })),
-        [] => Err(Refusal::Text(Fault {
-            kind: FaultKind::Unexpected,
-            left: pieces,
-        })),
+        _ => Err(Refusal::Text(unexpected(pieces))),
     }
 }
 
@@ -503,14 +401,8 @@ fn at_word<'p, 'a>(
         (λ e. Faults (spec.word_step (scope_of scope.now) (part frame.entry) word.now (map terminal pieces.now) (map terminal rest.now) (stack frames.old.items)) e) }
 {
     match frame {
-        Frame::Operands(_) => Err(Refusal::Text(Fault {
-            kind: FaultKind::Unexpected,
-            left: pieces,
-        })),
-        Frame::Condition(_, _) => Err(Refusal::Text(Fault {
-            kind: FaultKind::Unexpected,
-            left: pieces,
-        })),
+        Frame::Operands(_) => Err(Refusal::Text(unexpected(pieces))),
+        Frame::Condition(_, _) => Err(Refusal::Text(unexpected(pieces))),
         Frame::Block(may_turn, label) => {
             if reading::is_end(word) {
                 let rest = reading::end_label(label, rest)?;

@@ -1,6 +1,7 @@
 //! What is read, and what comes of it.
 ghost use Rattle.std.specs.Prelude.{◌≡◌};
 ghost use Rattle.wat_instructions.specs.Grammar.{is_name};
+ghost use Rattle.wat_instructions.specs.declared.pieces.FaultKind.TheVariants.{Unexpected};
 ghost use Rattle.wat_instructions.specs.Terminals.{label};
 
 use crate::branches::BranchTable;
@@ -172,6 +173,16 @@ pub enum FaultKind {
 pub struct Fault<'p, 'a> {
     pub kind: FaultKind,
     pub left: &'p [Piece<'a>],
+}
+
+/// The fault of a token that no rule takes here, or of the end.
+pub(crate) fn unexpected<'p, 'a>(pieces: &'p [Piece<'a>]) -> Fault<'p, 'a>
+    ensures { (result.kind ≡ Unexpected) × (result.left.now ≡ pieces.now) }
+{
+    Fault {
+        kind: FaultKind::Unexpected,
+        left: pieces,
+    }
 }
 
 /// Why nothing is answered: the text is refused, or out of memory.

@@ -10,7 +10,7 @@ use crate::branches::BranchTable;
 use crate::names::IndexedNames;
 use crate::pieces::{
     Argument, Fault, FaultKind, Frame, Instruction, Name, Opcode, Piece, ReferenceType, Refusal,
-    Sign, ValueType,
+    Sign, ValueType, unexpected,
 };
 use crate::table::{self, Immediate};
 use crate::types::FunctionType;
@@ -81,10 +81,6 @@ pub fn index<'p, 'a>(
                 })
             }
         }
-        [Piece::Integer(Sign::Plus | Sign::Minus, _), ..] => Err(Fault {
-            kind: FaultKind::Unexpected,
-            left: pieces,
-        }),
         [Piece::Id(name), rest @ ..] => match names.position(name) {
             Some(n) => Ok((n, rest)),
             None => Err(Fault {
@@ -92,22 +88,7 @@ pub fn index<'p, 'a>(
                 left: pieces,
             }),
         },
-        [
-            Piece::Open
-            | Piece::Close
-            | Piece::Word(_)
-            | Piece::Text(_)
-            | Piece::Float(_, _)
-            | Piece::Other,
-            ..
-        ] => Err(Fault {
-            kind: FaultKind::Unexpected,
-            left: pieces,
-        }),
-        [] => Err(Fault {
-            kind: FaultKind::Unexpected,
-            left: pieces,
-        }),
+        _ => Err(unexpected(pieces)),
     }
 }
 
@@ -131,10 +112,6 @@ fn label_number<'p, 'a>(
                 })
             }
         }
-        [Piece::Integer(Sign::Plus | Sign::Minus, _), ..] => Err(Fault {
-            kind: FaultKind::Unexpected,
-            left: pieces,
-        }),
         [Piece::Id(name), rest @ ..] => match label_index(frames, name) {
             Some(n) => Ok((n, rest)),
             None => Err(Fault {
@@ -142,22 +119,7 @@ fn label_number<'p, 'a>(
                 left: pieces,
             }),
         },
-        [
-            Piece::Open
-            | Piece::Close
-            | Piece::Word(_)
-            | Piece::Text(_)
-            | Piece::Float(_, _)
-            | Piece::Other,
-            ..
-        ] => Err(Fault {
-            kind: FaultKind::Unexpected,
-            left: pieces,
-        }),
-        [] => Err(Fault {
-            kind: FaultKind::Unexpected,
-            left: pieces,
-        }),
+        _ => Err(unexpected(pieces)),
     }
 }
 
@@ -265,16 +227,7 @@ fn next_label<'p, 'a>(
             labels.push(last.label)?;
             Ok(Some(LastLabel { label, pieces }))
         }
-        [
-            Piece::Open
-            | Piece::Close
-            | Piece::Word(_)
-            | Piece::Text(_)
-            | Piece::Float(_, _)
-            | Piece::Other,
-            ..
-        ] => Ok(None),
-        [] => Ok(None),
+        _ => Ok(None),
     }
 }
 
@@ -323,23 +276,7 @@ fn number_32<'p, 'a>(pieces: &'p [Piece<'a>]) -> Result<(Argument, &'p [Piece<'a
                 left: pieces,
             }),
         },
-        [
-            Piece::Open
-            | Piece::Close
-            | Piece::Word(_)
-            | Piece::Id(_)
-            | Piece::Text(_)
-            | Piece::Float(_, _)
-            | Piece::Other,
-            ..
-        ] => Err(Fault {
-            kind: FaultKind::Unexpected,
-            left: pieces,
-        }),
-        [] => Err(Fault {
-            kind: FaultKind::Unexpected,
-            left: pieces,
-        }),
+        _ => Err(unexpected(pieces)),
     }
 }
 
@@ -386,23 +323,7 @@ fn number_64<'p, 'a>(pieces: &'p [Piece<'a>]) -> Result<(Argument, &'p [Piece<'a
                 left: pieces,
             }),
         },
-        [
-            Piece::Open
-            | Piece::Close
-            | Piece::Word(_)
-            | Piece::Id(_)
-            | Piece::Text(_)
-            | Piece::Float(_, _)
-            | Piece::Other,
-            ..
-        ] => Err(Fault {
-            kind: FaultKind::Unexpected,
-            left: pieces,
-        }),
-        [] => Err(Fault {
-            kind: FaultKind::Unexpected,
-            left: pieces,
-        }),
+        _ => Err(unexpected(pieces)),
     }
 }
 
@@ -455,23 +376,7 @@ fn heap_argument<'p, 'a>(
                 left: pieces,
             }),
         },
-        [
-            Piece::Open
-            | Piece::Close
-            | Piece::Id(_)
-            | Piece::Integer(_, _)
-            | Piece::Text(_)
-            | Piece::Float(_, _)
-            | Piece::Other,
-            ..
-        ] => Err(Fault {
-            kind: FaultKind::Unexpected,
-            left: pieces,
-        }),
-        [] => Err(Fault {
-            kind: FaultKind::Unexpected,
-            left: pieces,
-        }),
+        _ => Err(unexpected(pieces)),
     }
 }
 
@@ -569,23 +474,7 @@ pub fn plain<'p, 'a>(
                 left: pieces,
             })),
         },
-        [
-            Piece::Open
-            | Piece::Close
-            | Piece::Id(_)
-            | Piece::Integer(_, _)
-            | Piece::Text(_)
-            | Piece::Float(_, _)
-            | Piece::Other,
-            ..
-        ] => Err(Refusal::Text(Fault {
-            kind: FaultKind::Unexpected,
-            left: pieces,
-        })),
-        [] => Err(Refusal::Text(Fault {
-            kind: FaultKind::Unexpected,
-            left: pieces,
-        })),
+        _ => Err(Refusal::Text(unexpected(pieces))),
     }
 }
 
@@ -596,17 +485,7 @@ pub fn label<'p, 'a>(pieces: &'p [Piece<'a>]) -> (Name<'p>, &'p [Piece<'a>])
 {
     match pieces {
         [Piece::Id(name), rest @ ..] => (Name::Given(name), rest),
-        [
-            Piece::Open
-            | Piece::Close
-            | Piece::Word(_)
-            | Piece::Integer(_, _)
-            | Piece::Text(_)
-            | Piece::Float(_, _)
-            | Piece::Other,
-            ..
-        ] => (Name::Absent, pieces),
-        [] => (Name::Absent, pieces),
+        _ => (Name::Absent, pieces),
     }
 }
 
@@ -630,17 +509,7 @@ pub fn end_label<'p, 'a>(
                 })
             }
         }
-        [
-            Piece::Open
-            | Piece::Close
-            | Piece::Word(_)
-            | Piece::Integer(_, _)
-            | Piece::Text(_)
-            | Piece::Float(_, _)
-            | Piece::Other,
-            ..
-        ] => Ok(pieces),
-        [] => Ok(pieces),
+        _ => Ok(pieces),
     }
 }
 

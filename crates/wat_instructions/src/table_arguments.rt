@@ -17,16 +17,7 @@ fn is_index(pieces: &[Piece<'_>]) -> bool
 {
     match pieces {
         [Piece::Integer(_, _) | Piece::Id(_), ..] => true,
-        [
-            Piece::Open
-            | Piece::Close
-            | Piece::Word(_)
-            | Piece::Text(_)
-            | Piece::Float(_, _)
-            | Piece::Other,
-            ..
-        ] => false,
-        [] => false,
+        _ => false,
     }
 }
 
@@ -36,16 +27,7 @@ fn are_indices(pieces: &[Piece<'_>]) -> bool
 {
     match pieces {
         [Piece::Integer(_, _) | Piece::Id(_), rest @ ..] => is_index(rest),
-        [
-            Piece::Open
-            | Piece::Close
-            | Piece::Word(_)
-            | Piece::Text(_)
-            | Piece::Float(_, _)
-            | Piece::Other,
-            ..
-        ] => false,
-        [] => false,
+        _ => false,
     }
 }
 

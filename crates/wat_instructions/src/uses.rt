@@ -8,7 +8,7 @@ ghost use Rattle.wat_instructions.specs.Types as spec;
 ghost use Rattle.wat_instructions.specs.Views.{type_of, use_of};
 
 use crate::names::IndexedNames;
-use crate::pieces::{Argument, Fault, FaultKind, Piece, Refusal, ValueType};
+use crate::pieces::{Argument, Fault, FaultKind, Piece, Refusal, ValueType, unexpected};
 use crate::reading::{Scope, index, value_type};
 use crate::types::{
     BoxedUse, FunctionType, IndirectCall, SelectTypes, UnnamedUse, copied, same_type,
@@ -115,22 +115,7 @@ fn in_group<'p, 'a>(
             is_inside: false,
             pieces: rest,
         }),
-        [
-            Piece::Open
-            | Piece::Id(_)
-            | Piece::Integer(_, _)
-            | Piece::Text(_)
-            | Piece::Float(_, _)
-            | Piece::Other,
-            ..
-        ] => Err(Refusal::Text(Fault {
-            kind: FaultKind::Unexpected,
-            left: pieces,
-        })),
-        [] => Err(Refusal::Text(Fault {
-            kind: FaultKind::Unexpected,
-            left: pieces,
-        })),
+        _ => Err(Refusal::Text(unexpected(pieces))),
     }
 }
 
@@ -141,17 +126,7 @@ fn after<'p, 'a>(word: &str, pieces: &'p [Piece<'a>]) -> Option<&'p [Piece<'a>]>
 {
     match pieces {
         [Piece::Open, rest @ ..] => after_word(word, rest),
-        [
-            Piece::Close
-            | Piece::Word(_)
-            | Piece::Id(_)
-            | Piece::Integer(_, _)
-            | Piece::Text(_)
-            | Piece::Float(_, _)
-            | Piece::Other,
-            ..
-        ] => None,
-        [] => None,
+        _ => None,
     }
 }
 
@@ -162,17 +137,7 @@ fn after_word<'p, 'a>(word: &str, pieces: &'p [Piece<'a>]) -> Option<&'p [Piece<
 {
     match pieces {
         [Piece::Word(of), rest @ ..] => { if *of == word { Some(rest) } else { None } }
-        [
-            Piece::Open
-            | Piece::Close
-            | Piece::Id(_)
-            | Piece::Integer(_, _)
-            | Piece::Text(_)
-            | Piece::Float(_, _)
-            | Piece::Other,
-            ..
-        ] => None,
-        [] => None,
+        _ => None,
     }
 }
 
@@ -254,23 +219,7 @@ fn closed_use<'p, 'a>(
 {
     match pieces {
         [Piece::Close, rest @ ..] => typed_use(alloc, types, index, all, rest),
-        [
-            Piece::Open
-            | Piece::Word(_)
-            | Piece::Id(_)
-            | Piece::Integer(_, _)
-            | Piece::Text(_)
-            | Piece::Float(_, _)
-            | Piece::Other,
-            ..
-        ] => Err(Refusal::Text(Fault {
-            kind: FaultKind::Unexpected,
-            left: pieces,
-        })),
-        [] => Err(Refusal::Text(Fault {
-            kind: FaultKind::Unexpected,
-            left: pieces,
-        })),
+        _ => Err(Refusal::Text(unexpected(pieces))),
     }
 }
 
@@ -355,16 +304,7 @@ pub(crate) fn table_index<'p, 'a>(
     match pieces {
         [Piece::Integer(_, _), ..] => index(tables, pieces),
         [Piece::Id(_), ..] => index(tables, pieces),
-        [
-            Piece::Open
-            | Piece::Close
-            | Piece::Word(_)
-            | Piece::Text(_)
-            | Piece::Float(_, _)
-            | Piece::Other,
-            ..
-        ] => Ok((0, pieces)),
-        [] => Ok((0, pieces)),
+        _ => Ok((0, pieces)),
     }
 }
 

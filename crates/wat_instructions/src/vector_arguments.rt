@@ -6,7 +6,7 @@ ghost use Rattle.wat_instructions.specs.Terminals.{terminal};
 
 use crate::floats::{float_32, float_64};
 use crate::memory::{align_at, offset_at};
-use crate::pieces::{Argument, Fault, FaultKind, Piece, Refusal, Sign};
+use crate::pieces::{Argument, Fault, FaultKind, Piece, Refusal, Sign, unexpected};
 use crate::vectors::{Lane, VectorBytes};
 use std::alloc::{AllocError, Global};
 
@@ -27,27 +27,7 @@ fn lane_index<'p, 'a>(pieces: &'p [Piece<'a>]) -> Result<(u8, &'p [Piece<'a>]), 
                 })
             }
         }
-        [Piece::Integer(Sign::Plus | Sign::Minus, _), ..] => Err(Fault {
-            kind: FaultKind::Unexpected,
-            left: pieces,
-        }),
-        [
-            Piece::Open
-            | Piece::Close
-            | Piece::Word(_)
-            | Piece::Id(_)
-            | Piece::Text(_)
-            | Piece::Float(_, _)
-            | Piece::Other,
-            ..
-        ] => Err(Fault {
-            kind: FaultKind::Unexpected,
-            left: pieces,
-        }),
-        [] => Err(Fault {
-            kind: FaultKind::Unexpected,
-            left: pieces,
-        }),
+        _ => Err(unexpected(pieces)),
     }
 }
 
@@ -189,23 +169,7 @@ fn integer<'p, 'a>(
                 left: pieces,
             }),
         },
-        [
-            Piece::Open
-            | Piece::Close
-            | Piece::Word(_)
-            | Piece::Id(_)
-            | Piece::Text(_)
-            | Piece::Float(_, _)
-            | Piece::Other,
-            ..
-        ] => Err(Fault {
-            kind: FaultKind::Unexpected,
-            left: pieces,
-        }),
-        [] => Err(Fault {
-            kind: FaultKind::Unexpected,
-            left: pieces,
-        }),
+        _ => Err(unexpected(pieces)),
     }
 }
 
@@ -366,22 +330,6 @@ pub(crate) fn constant<'p, 'a>(
                 left: pieces,
             })),
         },
-        [
-            Piece::Open
-            | Piece::Close
-            | Piece::Id(_)
-            | Piece::Integer(_, _)
-            | Piece::Text(_)
-            | Piece::Float(_, _)
-            | Piece::Other,
-            ..
-        ] => Err(Refusal::Text(Fault {
-            kind: FaultKind::Unexpected,
-            left: pieces,
-        })),
-        [] => Err(Refusal::Text(Fault {
-            kind: FaultKind::Unexpected,
-            left: pieces,
-        })),
+        _ => Err(Refusal::Text(unexpected(pieces))),
     }
 }

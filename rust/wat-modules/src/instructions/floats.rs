@@ -2,7 +2,7 @@
 //! Floating-point immediates.
 
 use wat_lex::shim::prelude::*;
-use crate::instructions::pieces::{Fault, FaultKind, Piece, Sign};
+use crate::instructions::pieces::{Fault, FaultKind, Piece, Sign, unexpected};
 use wat_parser::floats::{f32_of_integer, f64_of_integer};
 
 /// Whether an integer is one below 0, or `-0`.
@@ -82,22 +82,7 @@ pub(crate) fn float_32<'p, 'a>(
             single(f32_of_integer(is_minus(*sign), *size), pieces, rest)
         }
         [Piece::Float(bits, _), rest @ ..] => single(*bits, pieces, rest),
-        [
-            Piece::Open
-            | Piece::Close
-            | Piece::Word(_)
-            | Piece::Id(_)
-            | Piece::Text(_)
-            | Piece::Other,
-            ..,
-        ] => Err(Fault {
-            kind: FaultKind::Unexpected,
-            left: pieces,
-        }),
-        [] => Err(Fault {
-            kind: FaultKind::Unexpected,
-            left: pieces,
-        }),
+        _ => Err(unexpected(pieces)),
     }
 }
 
@@ -118,21 +103,6 @@ pub(crate) fn float_64<'p, 'a>(
             double(f64_of_integer(is_minus(*sign), *size), pieces, rest)
         }
         [Piece::Float(_, bits), rest @ ..] => double(*bits, pieces, rest),
-        [
-            Piece::Open
-            | Piece::Close
-            | Piece::Word(_)
-            | Piece::Id(_)
-            | Piece::Text(_)
-            | Piece::Other,
-            ..,
-        ] => Err(Fault {
-            kind: FaultKind::Unexpected,
-            left: pieces,
-        }),
-        [] => Err(Fault {
-            kind: FaultKind::Unexpected,
-            left: pieces,
-        }),
+        _ => Err(unexpected(pieces)),
     }
 }

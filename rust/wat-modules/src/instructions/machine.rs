@@ -3,7 +3,7 @@
 
 use wat_lex::shim::prelude::*;
 use crate::instructions::pieces::{
-    Argument, Fault, FaultKind, Frame, Instruction, Name, Opcode, Piece, Refusal,
+    Argument, Frame, Instruction, Name, Opcode, Piece, Refusal, unexpected,
 };
 use crate::instructions::reading::{self, Scope};
 use crate::instructions::uses;
@@ -91,23 +91,7 @@ fn first_step<'p, 'a>(
         [Piece::Word(word), rest @ ..] => {
             folded_instruction(alloc, scope, frames, out, word, pieces, rest)
         }
-        [
-            Piece::Open
-            | Piece::Close
-            | Piece::Id(_)
-            | Piece::Integer(_, _)
-            | Piece::Text(_)
-            | Piece::Float(_, _)
-            | Piece::Other,
-            ..,
-        ] => Err(Refusal::Text(Fault {
-            kind: FaultKind::Unexpected,
-            left: pieces,
-        })),
-        [] => Err(Refusal::Text(Fault {
-            kind: FaultKind::Unexpected,
-            left: pieces,
-        })),
+        _ => Err(Refusal::Text(unexpected(pieces))),
     }
 }
 
@@ -193,21 +177,7 @@ fn step<'p, 'a>(
         [Piece::Word(word), rest @ ..] => {
             at_word(alloc, scope, frame, frames, out, word, pieces, rest)
         }
-        [
-            Piece::Id(_)
-            | Piece::Integer(_, _)
-            | Piece::Text(_)
-            | Piece::Float(_, _)
-            | Piece::Other,
-            ..,
-        ] => Err(Refusal::Text(Fault {
-            kind: FaultKind::Unexpected,
-            left: pieces,
-        })),
-        [] => Err(Refusal::Text(Fault {
-            kind: FaultKind::Unexpected,
-            left: pieces,
-        })),
+        _ => Err(Refusal::Text(unexpected(pieces))),
     }
 }
 
@@ -239,14 +209,8 @@ fn closed<'p, 'a>(
         }
         Frame::Then(label) => after_then(label, frames, out, rest),
         Frame::Else(_) => after_else(frames, out, rest),
-        Frame::Block(_, _) => Err(Refusal::Text(Fault {
-            kind: FaultKind::Unexpected,
-            left: pieces,
-        })),
-        Frame::Condition(_, _) => Err(Refusal::Text(Fault {
-            kind: FaultKind::Unexpected,
-            left: pieces,
-        })),
+        Frame::Block(_, _) => Err(Refusal::Text(unexpected(pieces))),
+        Frame::Condition(_, _) => Err(Refusal::Text(unexpected(pieces))),
     }
 }
 
@@ -269,23 +233,7 @@ fn after_else<'p, 'a>(
             out.push(END)?;
             Ok(rest)
         }
-        [
-            Piece::Open
-            | Piece::Word(_)
-            | Piece::Id(_)
-            | Piece::Integer(_, _)
-            | Piece::Text(_)
-            | Piece::Float(_, _)
-            | Piece::Other,
-            ..,
-        ] => Err(Refusal::Text(Fault {
-            kind: FaultKind::Unexpected,
-            left: pieces,
-        })),
-        [] => Err(Refusal::Text(Fault {
-            kind: FaultKind::Unexpected,
-            left: pieces,
-        })),
+        _ => Err(Refusal::Text(unexpected(pieces))),
     }
 }
 
@@ -310,22 +258,7 @@ fn after_then<'p, 'a>(
             Ok(rest)
         }
         [Piece::Open, rest @ ..] => other_part(label, frames, out, rest),
-        [
-            Piece::Word(_)
-            | Piece::Id(_)
-            | Piece::Integer(_, _)
-            | Piece::Text(_)
-            | Piece::Float(_, _)
-            | Piece::Other,
-            ..,
-        ] => Err(Refusal::Text(Fault {
-            kind: FaultKind::Unexpected,
-            left: pieces,
-        })),
-        [] => Err(Refusal::Text(Fault {
-            kind: FaultKind::Unexpected,
-            left: pieces,
-        })),
+        _ => Err(Refusal::Text(unexpected(pieces))),
     }
 }
 
@@ -349,29 +282,10 @@ fn other_part<'p, 'a>(
             if reading::is_else(word) {
                 turned(label, frames, out, rest)
             } else {
-                Err(Refusal::Text(Fault {
-                    kind: FaultKind::Unexpected,
-                    left: pieces,
-                }))
+                Err(Refusal::Text(unexpected(pieces)))
             }
         }
-        [
-            Piece::Open
-            | Piece::Close
-            | Piece::Id(_)
-            | Piece::Integer(_, _)
-            | Piece::Text(_)
-            | Piece::Float(_, _)
-            | Piece::Other,
-            ..,
-        ] => Err(Refusal::Text(Fault {
-            kind: FaultKind::Unexpected,
-            left: pieces,
-        })),
-        [] => Err(Refusal::Text(Fault {
-            kind: FaultKind::Unexpected,
-            left: pieces,
-        })),
+        _ => Err(Refusal::Text(unexpected(pieces))),
     }
 }
 
@@ -416,23 +330,7 @@ fn folded<'p, 'a>(
         [Piece::Word(word), rest @ ..] => {
             folded_word(alloc, scope, frame, frames, out, word, pieces, rest)
         }
-        [
-            Piece::Open
-            | Piece::Close
-            | Piece::Id(_)
-            | Piece::Integer(_, _)
-            | Piece::Text(_)
-            | Piece::Float(_, _)
-            | Piece::Other,
-            ..,
-        ] => Err(Refusal::Text(Fault {
-            kind: FaultKind::Unexpected,
-            left: pieces,
-        })),
-        [] => Err(Refusal::Text(Fault {
-            kind: FaultKind::Unexpected,
-            left: pieces,
-        })),
+        _ => Err(Refusal::Text(unexpected(pieces))),
     }
 }
 
@@ -557,14 +455,8 @@ fn at_word<'p, 'a>(
     rest: &'p [Piece<'a>],
 ) -> Result<&'p [Piece<'a>], Refusal<'p, 'a>> {
     match frame {
-        Frame::Operands(_) => Err(Refusal::Text(Fault {
-            kind: FaultKind::Unexpected,
-            left: pieces,
-        })),
-        Frame::Condition(_, _) => Err(Refusal::Text(Fault {
-            kind: FaultKind::Unexpected,
-            left: pieces,
-        })),
+        Frame::Operands(_) => Err(Refusal::Text(unexpected(pieces))),
+        Frame::Condition(_, _) => Err(Refusal::Text(unexpected(pieces))),
         Frame::Block(may_turn, label) => {
             if reading::is_end(word) {
                 let rest = reading::end_label(label, rest)?;

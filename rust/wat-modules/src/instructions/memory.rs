@@ -36,17 +36,7 @@ pub(crate) fn offset_at<'p, 'a>(pieces: &'p [Piece<'a>]) -> (u32, &'p [Piece<'a>
             Some(n) => (n, rest),
             None => (0, pieces),
         },
-        [
-            Piece::Open
-            | Piece::Close
-            | Piece::Id(_)
-            | Piece::Integer(_, _)
-            | Piece::Text(_)
-            | Piece::Float(_, _)
-            | Piece::Other,
-            ..,
-        ] => (0, pieces),
-        [] => (0, pieces),
+        _ => (0, pieces),
     }
 }
 
@@ -64,17 +54,7 @@ pub(crate) fn align_at<'p, 'a>(natural: u8, pieces: &'p [Piece<'a>]) -> (u8, &'p
             Some(n) => (n, rest),
             None => (natural, pieces),
         },
-        [
-            Piece::Open
-            | Piece::Close
-            | Piece::Id(_)
-            | Piece::Integer(_, _)
-            | Piece::Text(_)
-            | Piece::Float(_, _)
-            | Piece::Other,
-            ..,
-        ] => (natural, pieces),
-        [] => (natural, pieces),
+        _ => (natural, pieces),
     }
 }
 

@@ -174,6 +174,20 @@ pub struct Fault<'p, 'a> {
     pub left: &'p [Piece<'a>],
 }
 
+/// The fault of a token that no rule takes here, or of the end.
+///
+/// # Proved
+///
+/// ```text
+/// ensures { (result.kind ≡ Unexpected) × (result.left.now ≡ pieces.now) }
+/// ```
+pub(crate) fn unexpected<'p, 'a>(pieces: &'p [Piece<'a>]) -> Fault<'p, 'a> {
+    Fault {
+        kind: FaultKind::Unexpected,
+        left: pieces,
+    }
+}
+
 /// Why nothing is answered: the text is refused, or out of memory.
 #[derive(Clone, Copy)]
 pub enum Refusal<'p, 'a> {

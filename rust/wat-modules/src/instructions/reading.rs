@@ -6,7 +6,7 @@ use crate::instructions::branches::BranchTable;
 use crate::instructions::names::IndexedNames;
 use crate::instructions::pieces::{
     Argument, Fault, FaultKind, Frame, Instruction, Name, Opcode, Piece, ReferenceType, Refusal,
-    Sign, ValueType,
+    Sign, ValueType, unexpected,
 };
 use crate::instructions::table::{self, Immediate};
 use crate::instructions::types::FunctionType;
@@ -90,10 +90,6 @@ pub fn index<'p, 'a>(
                 })
             }
         }
-        [Piece::Integer(Sign::Plus | Sign::Minus, _), ..] => Err(Fault {
-            kind: FaultKind::Unexpected,
-            left: pieces,
-        }),
         [Piece::Id(name), rest @ ..] => match names.position(name) {
             Some(n) => Ok((n, rest)),
             None => Err(Fault {
@@ -101,22 +97,7 @@ pub fn index<'p, 'a>(
                 left: pieces,
             }),
         },
-        [
-            Piece::Open
-            | Piece::Close
-            | Piece::Word(_)
-            | Piece::Text(_)
-            | Piece::Float(_, _)
-            | Piece::Other,
-            ..,
-        ] => Err(Fault {
-            kind: FaultKind::Unexpected,
-            left: pieces,
-        }),
-        [] => Err(Fault {
-            kind: FaultKind::Unexpected,
-            left: pieces,
-        }),
+        _ => Err(unexpected(pieces)),
     }
 }
 
@@ -144,10 +125,6 @@ fn label_number<'p, 'a>(
                 })
             }
         }
-        [Piece::Integer(Sign::Plus | Sign::Minus, _), ..] => Err(Fault {
-            kind: FaultKind::Unexpected,
-            left: pieces,
-        }),
         [Piece::Id(name), rest @ ..] => match label_index(frames, name) {
             Some(n) => Ok((n, rest)),
             None => Err(Fault {
@@ -155,22 +132,7 @@ fn label_number<'p, 'a>(
                 left: pieces,
             }),
         },
-        [
-            Piece::Open
-            | Piece::Close
-            | Piece::Word(_)
-            | Piece::Text(_)
-            | Piece::Float(_, _)
-            | Piece::Other,
-            ..,
-        ] => Err(Fault {
-            kind: FaultKind::Unexpected,
-            left: pieces,
-        }),
-        [] => Err(Fault {
-            kind: FaultKind::Unexpected,
-            left: pieces,
-        }),
+        _ => Err(unexpected(pieces)),
     }
 }
 
@@ -301,16 +263,7 @@ fn next_label<'p, 'a>(
             labels.push(last.label)?;
             Ok(Some(LastLabel { label, pieces }))
         }
-        [
-            Piece::Open
-            | Piece::Close
-            | Piece::Word(_)
-            | Piece::Text(_)
-            | Piece::Float(_, _)
-            | Piece::Other,
-            ..,
-        ] => Ok(None),
-        [] => Ok(None),
+        _ => Ok(None),
     }
 }
 
@@ -369,23 +322,7 @@ fn number_32<'p, 'a>(
                 left: pieces,
             }),
         },
-        [
-            Piece::Open
-            | Piece::Close
-            | Piece::Word(_)
-            | Piece::Id(_)
-            | Piece::Text(_)
-            | Piece::Float(_, _)
-            | Piece::Other,
-            ..,
-        ] => Err(Fault {
-            kind: FaultKind::Unexpected,
-            left: pieces,
-        }),
-        [] => Err(Fault {
-            kind: FaultKind::Unexpected,
-            left: pieces,
-        }),
+        _ => Err(unexpected(pieces)),
     }
 }
 
@@ -442,23 +379,7 @@ fn number_64<'p, 'a>(
                 left: pieces,
             }),
         },
-        [
-            Piece::Open
-            | Piece::Close
-            | Piece::Word(_)
-            | Piece::Id(_)
-            | Piece::Text(_)
-            | Piece::Float(_, _)
-            | Piece::Other,
-            ..,
-        ] => Err(Fault {
-            kind: FaultKind::Unexpected,
-            left: pieces,
-        }),
-        [] => Err(Fault {
-            kind: FaultKind::Unexpected,
-            left: pieces,
-        }),
+        _ => Err(unexpected(pieces)),
     }
 }
 
@@ -527,23 +448,7 @@ fn heap_argument<'p, 'a>(
                 left: pieces,
             }),
         },
-        [
-            Piece::Open
-            | Piece::Close
-            | Piece::Id(_)
-            | Piece::Integer(_, _)
-            | Piece::Text(_)
-            | Piece::Float(_, _)
-            | Piece::Other,
-            ..,
-        ] => Err(Fault {
-            kind: FaultKind::Unexpected,
-            left: pieces,
-        }),
-        [] => Err(Fault {
-            kind: FaultKind::Unexpected,
-            left: pieces,
-        }),
+        _ => Err(unexpected(pieces)),
     }
 }
 
@@ -652,23 +557,7 @@ pub fn plain<'p, 'a>(
                 left: pieces,
             })),
         },
-        [
-            Piece::Open
-            | Piece::Close
-            | Piece::Id(_)
-            | Piece::Integer(_, _)
-            | Piece::Text(_)
-            | Piece::Float(_, _)
-            | Piece::Other,
-            ..,
-        ] => Err(Refusal::Text(Fault {
-            kind: FaultKind::Unexpected,
-            left: pieces,
-        })),
-        [] => Err(Refusal::Text(Fault {
-            kind: FaultKind::Unexpected,
-            left: pieces,
-        })),
+        _ => Err(Refusal::Text(unexpected(pieces))),
     }
 }
 
@@ -683,17 +572,7 @@ pub fn plain<'p, 'a>(
 pub fn label<'p, 'a>(pieces: &'p [Piece<'a>]) -> (Name<'p>, &'p [Piece<'a>]) {
     match pieces {
         [Piece::Id(name), rest @ ..] => (Name::Given(name), rest),
-        [
-            Piece::Open
-            | Piece::Close
-            | Piece::Word(_)
-            | Piece::Integer(_, _)
-            | Piece::Text(_)
-            | Piece::Float(_, _)
-            | Piece::Other,
-            ..,
-        ] => (Name::Absent, pieces),
-        [] => (Name::Absent, pieces),
+        _ => (Name::Absent, pieces),
     }
 }
 
@@ -721,17 +600,7 @@ pub fn end_label<'p, 'a>(
                 })
             }
         }
-        [
-            Piece::Open
-            | Piece::Close
-            | Piece::Word(_)
-            | Piece::Integer(_, _)
-            | Piece::Text(_)
-            | Piece::Float(_, _)
-            | Piece::Other,
-            ..,
-        ] => Ok(pieces),
-        [] => Ok(pieces),
+        _ => Ok(pieces),
     }
 }
 

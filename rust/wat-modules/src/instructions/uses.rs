@@ -3,7 +3,7 @@
 
 use wat_lex::shim::prelude::*;
 use crate::instructions::names::IndexedNames;
-use crate::instructions::pieces::{Argument, Fault, FaultKind, Piece, Refusal, ValueType};
+use crate::instructions::pieces::{Argument, Fault, FaultKind, Piece, Refusal, ValueType, unexpected};
 use crate::instructions::reading::{Scope, index, value_type};
 use crate::instructions::types::{
     BoxedUse, FunctionType, IndirectCall, SelectTypes, UnnamedUse, copied, same_type,
@@ -124,22 +124,7 @@ fn in_group<'p, 'a>(
             is_inside: false,
             pieces: rest,
         }),
-        [
-            Piece::Open
-            | Piece::Id(_)
-            | Piece::Integer(_, _)
-            | Piece::Text(_)
-            | Piece::Float(_, _)
-            | Piece::Other,
-            ..,
-        ] => Err(Refusal::Text(Fault {
-            kind: FaultKind::Unexpected,
-            left: pieces,
-        })),
-        [] => Err(Refusal::Text(Fault {
-            kind: FaultKind::Unexpected,
-            left: pieces,
-        })),
+        _ => Err(Refusal::Text(unexpected(pieces))),
     }
 }
 
@@ -154,17 +139,7 @@ fn in_group<'p, 'a>(
 fn after<'p, 'a>(word: &str, pieces: &'p [Piece<'a>]) -> Option<&'p [Piece<'a>]> {
     match pieces {
         [Piece::Open, rest @ ..] => after_word(word, rest),
-        [
-            Piece::Close
-            | Piece::Word(_)
-            | Piece::Id(_)
-            | Piece::Integer(_, _)
-            | Piece::Text(_)
-            | Piece::Float(_, _)
-            | Piece::Other,
-            ..,
-        ] => None,
-        [] => None,
+        _ => None,
     }
 }
 
@@ -185,17 +160,7 @@ fn after_word<'p, 'a>(word: &str, pieces: &'p [Piece<'a>]) -> Option<&'p [Piece<
                 None
             }
         }
-        [
-            Piece::Open
-            | Piece::Close
-            | Piece::Id(_)
-            | Piece::Integer(_, _)
-            | Piece::Text(_)
-            | Piece::Float(_, _)
-            | Piece::Other,
-            ..,
-        ] => None,
-        [] => None,
+        _ => None,
     }
 }
 
@@ -295,23 +260,7 @@ fn closed_use<'p, 'a>(
 ) -> Result<(UnnamedUse, &'p [Piece<'a>]), Refusal<'p, 'a>> {
     match pieces {
         [Piece::Close, rest @ ..] => typed_use(alloc, types, index, all, rest),
-        [
-            Piece::Open
-            | Piece::Word(_)
-            | Piece::Id(_)
-            | Piece::Integer(_, _)
-            | Piece::Text(_)
-            | Piece::Float(_, _)
-            | Piece::Other,
-            ..,
-        ] => Err(Refusal::Text(Fault {
-            kind: FaultKind::Unexpected,
-            left: pieces,
-        })),
-        [] => Err(Refusal::Text(Fault {
-            kind: FaultKind::Unexpected,
-            left: pieces,
-        })),
+        _ => Err(Refusal::Text(unexpected(pieces))),
     }
 }
 
@@ -416,16 +365,7 @@ pub(crate) fn table_index<'p, 'a>(
     match pieces {
         [Piece::Integer(_, _), ..] => index(tables, pieces),
         [Piece::Id(_), ..] => index(tables, pieces),
-        [
-            Piece::Open
-            | Piece::Close
-            | Piece::Word(_)
-            | Piece::Text(_)
-            | Piece::Float(_, _)
-            | Piece::Other,
-            ..,
-        ] => Ok((0, pieces)),
-        [] => Ok((0, pieces)),
+        _ => Ok((0, pieces)),
     }
 }
 

@@ -4,7 +4,7 @@
 use wat_lex::shim::prelude::*;
 use crate::instructions::floats::{float_32, float_64};
 use crate::instructions::memory::{align_at, offset_at};
-use crate::instructions::pieces::{Argument, Fault, FaultKind, Piece, Refusal, Sign};
+use crate::instructions::pieces::{Argument, Fault, FaultKind, Piece, Refusal, Sign, unexpected};
 use crate::instructions::vectors::{Lane, VectorBytes};
 use wat_lex::shim::alloc::{AllocError, Global};
 
@@ -29,27 +29,7 @@ fn lane_index<'p, 'a>(pieces: &'p [Piece<'a>]) -> Result<(u8, &'p [Piece<'a>]), 
                 })
             }
         }
-        [Piece::Integer(Sign::Plus | Sign::Minus, _), ..] => Err(Fault {
-            kind: FaultKind::Unexpected,
-            left: pieces,
-        }),
-        [
-            Piece::Open
-            | Piece::Close
-            | Piece::Word(_)
-            | Piece::Id(_)
-            | Piece::Text(_)
-            | Piece::Float(_, _)
-            | Piece::Other,
-            ..,
-        ] => Err(Fault {
-            kind: FaultKind::Unexpected,
-            left: pieces,
-        }),
-        [] => Err(Fault {
-            kind: FaultKind::Unexpected,
-            left: pieces,
-        }),
+        _ => Err(unexpected(pieces)),
     }
 }
 
@@ -225,23 +205,7 @@ fn integer<'p, 'a>(
                 left: pieces,
             }),
         },
-        [
-            Piece::Open
-            | Piece::Close
-            | Piece::Word(_)
-            | Piece::Id(_)
-            | Piece::Text(_)
-            | Piece::Float(_, _)
-            | Piece::Other,
-            ..,
-        ] => Err(Fault {
-            kind: FaultKind::Unexpected,
-            left: pieces,
-        }),
-        [] => Err(Fault {
-            kind: FaultKind::Unexpected,
-            left: pieces,
-        }),
+        _ => Err(unexpected(pieces)),
     }
 }
 
@@ -430,22 +394,6 @@ pub(crate) fn constant<'p, 'a>(
                 left: pieces,
             })),
         },
-        [
-            Piece::Open
-            | Piece::Close
-            | Piece::Id(_)
-            | Piece::Integer(_, _)
-            | Piece::Text(_)
-            | Piece::Float(_, _)
-            | Piece::Other,
-            ..,
-        ] => Err(Refusal::Text(Fault {
-            kind: FaultKind::Unexpected,
-            left: pieces,
-        })),
-        [] => Err(Refusal::Text(Fault {
-            kind: FaultKind::Unexpected,
-            left: pieces,
-        })),
+        _ => Err(Refusal::Text(unexpected(pieces))),
     }
 }
