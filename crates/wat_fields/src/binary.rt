@@ -358,10 +358,10 @@ fn unnamed_index(types: &IndexedTypes, uses: &UnnamedUse) -> Result<usize, Alloc
 fn use_index(types: &IndexedTypes, uses: &TypeUse<'_>) -> Result<usize, AllocError>
     ensures { IfOk result (λ n. n ≡ index_or (use_of uses.now).index (binary.type_index (binary.used_type (use_of uses.now)) types.now)) }
 {
-    match uses.index {
-        Some(index) => Ok(index),
-        None => types.used_index(uses),
+    if let Some(index) = uses.index {
+        return Ok(index);
     }
+    types.used_index(uses)
 }
 
 /// The indices that the next items have.

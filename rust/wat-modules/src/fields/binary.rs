@@ -429,10 +429,10 @@ fn unnamed_index(types: &IndexedTypes, uses: &UnnamedUse) -> Result<usize, Alloc
 /// ensures { IfOk result (λ n. n ≡ index_or (use_of uses.now).index (binary.type_index (binary.used_type (use_of uses.now)) types.now)) }
 /// ```
 fn use_index(types: &IndexedTypes, uses: &TypeUse<'_>) -> Result<usize, AllocError> {
-    match uses.index {
-        Some(index) => Ok(index),
-        None => types.used_index(uses),
+    if let Some(index) = uses.index {
+        return Ok(index);
     }
+    types.used_index(uses)
 }
 
 /// The indices that the next items have.
