@@ -39,13 +39,36 @@ fn put(out: &mut Vec<u8>, n: usize) -> Result<(), AllocError>
     }
 }
 
+/// Appends a byte.
+fn put_byte(out: &mut Vec<u8>, byte: u8) -> Result<(), AllocError>
+    ensures { OnOk result (out.new.items ≡ out.old.items ++ byte ∷ []) }
+{
+    out.push(byte)?;
+    Ok(())
+}
+
+/// Appends bytes.
+fn put_bytes(out: &mut Vec<u8>, bytes: &[u8]) -> Result<(), AllocError>
+    ensures { OnOk result (out.new.items ≡ out.old.items ++ bytes.now) }
+{
+    out.extend_from_slice(bytes)?;
+    Ok(())
+}
+
 /// Appends bytes after their number.
 fn put_sized(out: &mut Vec<u8>, bytes: &[u8]) -> Result<(), AllocError>
     ensures { OnOk result (out.new.items ≡ out.old.items ++ text_encoding bytes.now) }
 {
     put(out, bytes.len())?;
-    out.extend_from_slice(bytes)?;
-    Ok(())
+    put_bytes(out, bytes)
+}
+
+/// Appends two numbers.
+fn put_pair(out: &mut Vec<u8>, first: usize, second: usize) -> Result<(), AllocError>
+    ensures { OnOk result (out.new.items ≡ out.old.items ++ (unsigned_leb128 first ++ unsigned_leb128 second)) }
+{
+    put(out, first)?;
+    put(out, second)
 }
 
 /// The byte of a block's type.
@@ -58,26 +81,33 @@ fn block_byte(of: Option<ValueType>) -> u8
     }
 }
 
-/// Appends a number with a sign.
-fn put_signed(out: &mut Vec<u8>, n: usize) -> Result<(), AllocError>
-    requires { n < 2 ^ 63 }
-    ensures { OnOk result (out.new.items ≡ out.old.items ++ signed_leb128 (pos n)) }
+/// Appends an integer with a sign.
+fn put_integer(out: &mut Vec<u8>, n: i64) -> Result<(), AllocError>
+    ensures { OnOk result (out.new.items ≡ out.old.items ++ signed_leb128 n) }
 {
-    match (n as i64).encode(out) {
+    match n.encode(out) {
         Ok(()) => Ok(()),
         Err(error) => Err(refused(error)),
     }
 }
 
-/// Appends labels after their number.
-fn put_labels(out: &mut Vec<u8>, labels: &[usize]) -> Result<(), AllocError>
-    ensures { OnOk result (out.new.items ≡ out.old.items ++ list_encoding unsigned_leb128 labels.now) }
+/// Appends a number with a sign.
+fn put_signed(out: &mut Vec<u8>, n: usize) -> Result<(), AllocError>
+    requires { n < 2 ^ 63 }
+    ensures { OnOk result (out.new.items ≡ out.old.items ++ signed_leb128 (pos n)) }
+{
+    put_integer(out, n as i64)
+}
+
+/// Appends labels after their number, and another.
+fn put_labels(out: &mut Vec<u8>, labels: &[usize], last: usize) -> Result<(), AllocError>
+    ensures { OnOk result (out.new.items ≡ out.old.items ++ (list_encoding unsigned_leb128 labels.now ++ unsigned_leb128 last)) }
 {
     put(out, labels.len())?;
     for label in labels {
         put(out, *label)?;
     }
-    Ok(())
+    put(out, last)
 }
 
 /// Appends value types after their number.
@@ -96,10 +126,7 @@ fn put_opcode(out: &mut Vec<u8>, opcode: Opcode) -> Result<(), AllocError>
     ensures { OnOk result (out.new.items ≡ out.old.items ++ binary.opcode_bytes opcode) }
 {
     match opcode {
-        Opcode::Byte(byte) => {
-            out.push(byte)?;
-            Ok(())
-        }
+        Opcode::Byte(byte) => put_byte(out, byte),
         Opcode::Prefixed(prefix, number) => {
             out.push(prefix)?;
             put(out, usize::from(number))
@@ -130,76 +157,30 @@ fn put_argument(
     match argument {
         Argument::Nothing => Ok(()),
         Argument::Index(n) => put(out, *n),
-        Argument::Labels(table) => {
-            put_labels(out, table.labels())?;
-            put(out, table.last())
-        }
-        Argument::I32(n) => match n.encode(out) {
-            Ok(()) => Ok(()),
-            Err(error) => Err(refused(error)),
-        },
-        Argument::I64(n) => match n.encode(out) {
-            Ok(()) => Ok(()),
-            Err(error) => Err(refused(error)),
-        },
-        Argument::F32(bits) => {
-            out.extend_from_slice(&bits.to_le_bytes())?;
-            Ok(())
-        }
-        Argument::F64(bits) => {
-            out.extend_from_slice(&bits.to_le_bytes())?;
-            Ok(())
-        }
-        Argument::Indirect(call) => {
-            put(out, unnamed_index(types, call.uses())?)?;
-            put(out, call.table())
-        }
-        Argument::Block(of) => {
-            out.push(block_byte(*of))?;
-            Ok(())
-        }
+        Argument::Labels(table) => put_labels(out, table.labels(), table.last()),
+        Argument::I32(n) => put_integer(out, i64::from(*n)),
+        Argument::I64(n) => put_integer(out, *n),
+        Argument::F32(bits) => put_bytes(out, &bits.to_le_bytes()),
+        Argument::F64(bits) => put_bytes(out, &bits.to_le_bytes()),
+        Argument::Indirect(call) => put_pair(out, unnamed_index(types, call.uses())?, call.table()),
+        Argument::Block(of) => put_byte(out, block_byte(*of)),
         Argument::BlockUse(uses) => put_signed(out, unnamed_index(types, uses.uses())?),
-        Argument::Memory(align, offset) => {
-            put(out, usize::from(*align))?;
-            put(out, *offset as usize)?;
-            Ok(())
-        }
-        Argument::Zero => {
-            out.push(0)?;
-            Ok(())
-        }
-        Argument::HeapType(of) => {
-            out.push(reference_byte(*of))?;
-            Ok(())
-        }
+        Argument::Memory(align, offset) => put_pair(out, usize::from(*align), *offset as usize),
+        Argument::Zero => put_byte(out, 0),
+        Argument::HeapType(of) => put_byte(out, reference_byte(*of)),
         Argument::Select(types) => put_values(out, types.types()),
-        Argument::Zeros => {
-            out.extend_from_slice(&[0, 0])?;
-            Ok(())
-        }
+        Argument::Zeros => put_bytes(out, &[0, 0]),
         Argument::IndexZero(n) => {
             put(out, *n)?;
-            out.push(0)?;
-            Ok(())
+            put_byte(out, 0)
         }
-        Argument::Pair(pair) => {
-            put(out, pair.first())?;
-            put(out, pair.second())
-        }
-        Argument::Lane(n) => {
-            out.push(*n)?;
-            Ok(())
-        }
+        Argument::Pair(pair) => put_pair(out, pair.first(), pair.second()),
+        Argument::Lane(n) => put_byte(out, *n),
         Argument::MemoryLane(align, offset, n) => {
-            put(out, usize::from(*align))?;
-            put(out, *offset as usize)?;
-            out.push(*n)?;
-            Ok(())
+            put_pair(out, usize::from(*align), *offset as usize)?;
+            put_byte(out, *n)
         }
-        Argument::Bytes(vector) => {
-            out.extend_from_slice(vector.bytes())?;
-            Ok(())
-        }
+        Argument::Bytes(vector) => put_bytes(out, vector.bytes()),
     }
 }
 
@@ -369,10 +350,10 @@ fn unnamed_index(types: &IndexedTypes, uses: &UnnamedUse) -> Result<usize, Alloc
 fn use_index(types: &IndexedTypes, uses: &TypeUse<'_>) -> Result<usize, AllocError>
     ensures { IfOk result (λ n. n ≡ index_or (use_of uses.now).index (binary.type_index (binary.used_type (use_of uses.now)) types.now)) }
 {
-    match uses.index {
-        Some(index) => Ok(index),
-        None => types.used_index(uses),
+    if let Some(index) = uses.index {
+        return Ok(index);
     }
+    types.used_index(uses)
 }
 
 /// The indices that the next items have.
@@ -764,8 +745,8 @@ fn sum(one: usize, other: usize) -> Result<usize, AllocError>
 }
 
 /// Appends the type section.
-fn put_types(alloc: Global, out: &mut Vec<u8>, types: &IndexedTypes) -> Result<(), AllocError>
-    ensures { OnOk result (out.new.items ≡ out.old.items ++ binary.list_section 1 binary.type_bytes types.now) }
+fn put_types(alloc: Global, out: &mut Vec<u8>, types: &[FunctionType]) -> Result<(), AllocError>
+    ensures { OnOk result (out.new.items ≡ out.old.items ++ binary.list_section 1 binary.type_bytes (map type_of types.now)) }
 {
     let mut items = Vec::new(alloc);
     for of in types {
@@ -1130,7 +1111,7 @@ fn put_data(
 ) -> Result<(), AllocError>
     ensures { OnOk result (out.new.items ≡ out.old.items ++ binary.list_section 11 (binary.data_bytes types.now) (map segment_of segments.now)) }
 {
-    if segments.len() == 0 {
+    if segments.is_empty() {
         return Ok(());
     }
     let len = segments_len(alloc, types, segments)?;
