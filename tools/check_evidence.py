@@ -32,6 +32,8 @@ REFUSALS = [
         "of a variant that holds nothing, and is made of a refusal",
     ),
     ("wat_fields/src/binary.rt", "refused", "{ AllocError }", "of a variant that holds nothing, and is made of a refusal"),
+    ("wat_fields/src/binary.rt", "sum", "None => Err(AllocError)", "of a size that no number says: a request for as many bytes is refused"),
+    ("wat_fields/src/segments.rt", "len_of", "Err(AllocError);", "of more bytes than a `Vec` has: a request for them is refused"),
     (
         "wat_tokens/src/main.rt",
         "not_read",
@@ -69,6 +71,13 @@ REQUESTS = [
         'attempts.join(alloc, ", ")',
         "let all =",
         "the types that were looked for, each once",
+    ),
+    (
+        "wat_fields/src/indexed_types.rt",
+        "IndexedTypes::push",
+        "self.types.reserve(1)",
+        "let key = type_key(self.alloc, &of)?; let index = self.types.len();",
+        "room for a single type",
     ),
     (
         "wat_floats/src/literal.rt",

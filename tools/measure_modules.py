@@ -11,6 +11,7 @@ import datetime
 import os
 import pathlib
 import random
+import re
 import statistics
 import subprocess
 import sys
@@ -19,8 +20,11 @@ sys.dont_write_bytecode = True
 
 from measure_programs import linked, output
 from module_sections import agreement
+from module_texts import FORMS, big_module, choices
 
 VALUES = ["i32", "i64", "f32", "f64"]
+# Forms that one of the others does not read, or reads as something else.
+LEFT_OUT = {"saturating", "memory", "tables", "references", "reference-types", "typed-select", "vectors"}
 
 
 def module(fields):
@@ -44,6 +48,12 @@ def types(i):
     return " ".join(VALUES[i >> 2 * k & 3] for k in range(8))
 
 
+def functions(count):
+    """Functions at random, with names; the others read no underscore in a memory argument."""
+    text = big_module(choices(7, FORMS.keys() - LEFT_OUT), count, True)
+    return re.sub(r"(?:offset|align)=\S+", lambda found: found[0].replace("_", ""), text)
+
+
 def kinds(rng):
     """Texts by their names."""
     return {
@@ -56,6 +66,7 @@ def kinds(rng):
         "exports": module("(func)\n" + each(100_000, lambda i: f'(export "name{i}" (func 0))')),
         "floats": function(200_000, lambda i: f"f64.const {rng.random()!r} drop"),
         "folded": function(100_000, lambda i: "(drop (i32.add (i32.const 1) (i32.mul (local.get 0) (i32.const 2))))"),
+        "functions": functions(15_000),
         "globals": module(each(100_000, lambda i: f"(global $g{i} (mut i32) (i32.const {i}))")),
         "imports": module(each(100_000, lambda i: f'(import "env" "f{i}" (func $f{i} (param i32)))')),
         "indirect": module("(table 1 funcref)\n(func\n" + each(100_000, lambda i: "i32.const 1 i32.const 0 call_indirect (param i32) (result i64) drop") + ")\n"),
