@@ -20,8 +20,8 @@ use wat_instructions::{machine, reading};
 /// The bytes of a page of a memory.
 const PAGE: usize = 0x1_0000;
 
-/// A slice has fewer bytes.
-const MOST: usize = 1 << 63;
+/// No slice has more bytes.
+const MOST: usize = isize::MAX as usize;
 
 /// Strings.
 fn strings<'p, 'a>(
@@ -175,7 +175,7 @@ pub(crate) fn len_of(strings: &[&[u8]]) -> Result<usize, AllocError>
     let mut len = 0;
     for string in strings {
         len += string.len();
-        if len >= MOST {
+        if len > MOST {
             return Err(AllocError);
         }
     }
