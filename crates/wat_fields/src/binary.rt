@@ -229,24 +229,7 @@ fn instruction_use(instruction: &Instruction) -> Option<&UnnamedUse>
     match &instruction.argument {
         Argument::Indirect(call) => Some(call.uses()),
         Argument::BlockUse(uses) => Some(uses.uses()),
-        Argument::Nothing
-        | Argument::Index(_)
-        | Argument::Labels(_)
-        | Argument::I32(_)
-        | Argument::I64(_)
-        | Argument::F32(_)
-        | Argument::F64(_)
-        | Argument::Block(_)
-        | Argument::Memory(_, _)
-        | Argument::Zero
-        | Argument::HeapType(_)
-        | Argument::Select(_)
-        | Argument::Zeros
-        | Argument::IndexZero(_)
-        | Argument::Pair(_)
-        | Argument::Lane(_)
-        | Argument::MemoryLane(_, _, _)
-        | Argument::Bytes(_) => None,
+        _ => None,
     }
 }
 
@@ -1185,25 +1168,7 @@ fn index_of(argument: &Argument) -> Option<usize>
 {
     match argument {
         Argument::Index(index) => Some(*index),
-        Argument::Nothing
-        | Argument::Labels(_)
-        | Argument::Indirect(_)
-        | Argument::I32(_)
-        | Argument::I64(_)
-        | Argument::F32(_)
-        | Argument::F64(_)
-        | Argument::Block(_)
-        | Argument::BlockUse(_)
-        | Argument::Memory(_, _)
-        | Argument::Zero
-        | Argument::HeapType(_)
-        | Argument::Select(_)
-        | Argument::Zeros
-        | Argument::IndexZero(_)
-        | Argument::Pair(_)
-        | Argument::Lane(_)
-        | Argument::MemoryLane(_, _, _)
-        | Argument::Bytes(_) => None,
+        _ => None,
     }
 }
 

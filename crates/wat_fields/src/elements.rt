@@ -64,17 +64,7 @@ fn next_item<'p, 'a>(
             }
             Err(refusal) => Err(refusal),
         },
-        [
-            Piece::Close
-            | Piece::Word(_)
-            | Piece::Id(_)
-            | Piece::Integer(_, _)
-            | Piece::Text(_)
-            | Piece::Float(_, _)
-            | Piece::Other,
-            ..
-        ] => Ok(None),
-        [] => Ok(None),
+        _ => Ok(None),
     }
 }
 
@@ -123,16 +113,7 @@ fn next_function<'p, 'a>(
             found.push(Element::Function(index))?;
             Ok(Some(Left { pieces }))
         }
-        [
-            Piece::Open
-            | Piece::Close
-            | Piece::Word(_)
-            | Piece::Text(_)
-            | Piece::Float(_, _)
-            | Piece::Other,
-            ..
-        ] => Ok(None),
-        [] => Ok(None),
+        _ => Ok(None),
     }
 }
 
@@ -149,17 +130,7 @@ fn either<'p, 'a>(
 {
     match pieces {
         [Piece::Open, ..] => items(alloc, names, pieces),
-        [
-            Piece::Close
-            | Piece::Word(_)
-            | Piece::Id(_)
-            | Piece::Integer(_, _)
-            | Piece::Text(_)
-            | Piece::Float(_, _)
-            | Piece::Other,
-            ..
-        ] => functions(alloc, names, pieces),
-        [] => functions(alloc, names, pieces),
+        _ => functions(alloc, names, pieces),
     }
 }
 
@@ -311,20 +282,7 @@ fn elements<'p, 'a>(
 {
     match pieces {
         [Piece::Word(word), rest @ ..] => elements_after(alloc, names, *word, pieces, rest),
-        [
-            Piece::Open
-            | Piece::Close
-            | Piece::Id(_)
-            | Piece::Integer(_, _)
-            | Piece::Text(_)
-            | Piece::Float(_, _)
-            | Piece::Other,
-            ..
-        ] => Err(Refusal::Text(Fault {
-            kind: FaultKind::Unexpected,
-            left: pieces,
-        })),
-        [] => Err(Refusal::Text(Fault {
+        _ => Err(Refusal::Text(Fault {
             kind: FaultKind::Unexpected,
             left: pieces,
         })),
@@ -427,17 +385,7 @@ fn first_table<'p, 'a>(
 {
     match pieces {
         [Piece::Word(_), ..] => elem_list(alloc, names, name, mode, pieces),
-        [
-            Piece::Open
-            | Piece::Close
-            | Piece::Id(_)
-            | Piece::Integer(_, _)
-            | Piece::Text(_)
-            | Piece::Float(_, _)
-            | Piece::Other,
-            ..
-        ] => functions_list(alloc, names, name, mode, pieces),
-        [] => functions_list(alloc, names, name, mode, pieces),
+        _ => functions_list(alloc, names, name, mode, pieces),
     }
 }
 
@@ -514,19 +462,7 @@ fn elem_after<'p, 'a>(
     match pieces {
         [Piece::Open, ..] => active_elem(alloc, names, name, pieces),
         [Piece::Word(word), rest @ ..] => elem_word(alloc, names, name, *word, pieces, rest),
-        [
-            Piece::Close
-            | Piece::Id(_)
-            | Piece::Integer(_, _)
-            | Piece::Text(_)
-            | Piece::Float(_, _)
-            | Piece::Other,
-            ..
-        ] => Err(Refusal::Text(Fault {
-            kind: FaultKind::Unexpected,
-            left: pieces,
-        })),
-        [] => Err(Refusal::Text(Fault {
+        _ => Err(Refusal::Text(Fault {
             kind: FaultKind::Unexpected,
             left: pieces,
         })),

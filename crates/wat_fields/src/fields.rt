@@ -292,20 +292,7 @@ fn ended<'p, 'a>(pieces: &'p [Piece<'a>]) -> Result<(), Fault<'p, 'a>>
             kind: FaultKind::Unexpected,
             left: left,
         }),
-        [
-            Piece::Open
-            | Piece::Word(_)
-            | Piece::Id(_)
-            | Piece::Integer(_, _)
-            | Piece::Text(_)
-            | Piece::Float(_, _)
-            | Piece::Other,
-            ..
-        ] => Err(Fault {
-            kind: FaultKind::Unexpected,
-            left: pieces,
-        }),
-        [] => Err(Fault {
+        _ => Err(Fault {
             kind: FaultKind::Unexpected,
             left: pieces,
         }),
@@ -427,17 +414,7 @@ fn next_field<'p, 'a>(
             }
             Err(refusal) => Err(refusal),
         },
-        [
-            Piece::Close
-            | Piece::Word(_)
-            | Piece::Id(_)
-            | Piece::Integer(_, _)
-            | Piece::Text(_)
-            | Piece::Float(_, _)
-            | Piece::Other,
-            ..
-        ] => Ok(None),
-        [] => Ok(None),
+        _ => Ok(None),
     }
 }
 
@@ -453,20 +430,7 @@ fn field_at<'p, 'a>(
 {
     match pieces {
         [Piece::Word(word), rest @ ..] => { field_after(alloc, names, *word, pieces, rest) }
-        [
-            Piece::Open
-            | Piece::Close
-            | Piece::Id(_)
-            | Piece::Integer(_, _)
-            | Piece::Text(_)
-            | Piece::Float(_, _)
-            | Piece::Other,
-            ..
-        ] => Err(Refusal::Text(Fault {
-            kind: FaultKind::Unexpected,
-            left: pieces,
-        })),
-        [] => Err(Refusal::Text(Fault {
+        _ => Err(Refusal::Text(Fault {
             kind: FaultKind::Unexpected,
             left: pieces,
         })),
@@ -750,20 +714,7 @@ fn import_open<'p, 'a>(
 {
     match pieces {
         [Piece::Open, rest @ ..] => import_word(alloc, names, from, item, rest),
-        [
-            Piece::Close
-            | Piece::Word(_)
-            | Piece::Id(_)
-            | Piece::Integer(_, _)
-            | Piece::Text(_)
-            | Piece::Float(_, _)
-            | Piece::Other,
-            ..
-        ] => Err(Refusal::Text(Fault {
-            kind: FaultKind::Unexpected,
-            left: pieces,
-        })),
-        [] => Err(Refusal::Text(Fault {
+        _ => Err(Refusal::Text(Fault {
             kind: FaultKind::Unexpected,
             left: pieces,
         })),
@@ -790,20 +741,7 @@ fn import_word<'p, 'a>(
                 left: pieces,
             })),
         },
-        [
-            Piece::Open
-            | Piece::Close
-            | Piece::Id(_)
-            | Piece::Integer(_, _)
-            | Piece::Text(_)
-            | Piece::Float(_, _)
-            | Piece::Other,
-            ..
-        ] => Err(Refusal::Text(Fault {
-            kind: FaultKind::Unexpected,
-            left: pieces,
-        })),
-        [] => Err(Refusal::Text(Fault {
+        _ => Err(Refusal::Text(Fault {
             kind: FaultKind::Unexpected,
             left: pieces,
         })),
@@ -865,20 +803,7 @@ fn external<'p, 'a>(
 {
     match pieces {
         [Piece::Open, rest @ ..] => external_word(names, name, rest),
-        [
-            Piece::Close
-            | Piece::Word(_)
-            | Piece::Id(_)
-            | Piece::Integer(_, _)
-            | Piece::Text(_)
-            | Piece::Float(_, _)
-            | Piece::Other,
-            ..
-        ] => Err(Fault {
-            kind: FaultKind::Unexpected,
-            left: pieces,
-        }),
-        [] => Err(Fault {
+        _ => Err(Fault {
             kind: FaultKind::Unexpected,
             left: pieces,
         }),
@@ -903,20 +828,7 @@ fn external_word<'p, 'a>(
                 left: pieces,
             }),
         },
-        [
-            Piece::Open
-            | Piece::Close
-            | Piece::Id(_)
-            | Piece::Integer(_, _)
-            | Piece::Text(_)
-            | Piece::Float(_, _)
-            | Piece::Other,
-            ..
-        ] => Err(Fault {
-            kind: FaultKind::Unexpected,
-            left: pieces,
-        }),
-        [] => Err(Fault {
+        _ => Err(Fault {
             kind: FaultKind::Unexpected,
             left: pieces,
         }),

@@ -87,17 +87,7 @@ pub(crate) fn after<'p, 'a>(word: &str, pieces: &'p [Piece<'a>]) -> Option<&'p [
 {
     match pieces {
         [Piece::Open, rest @ ..] => after_word(word, rest),
-        [
-            Piece::Close
-            | Piece::Word(_)
-            | Piece::Id(_)
-            | Piece::Integer(_, _)
-            | Piece::Text(_)
-            | Piece::Float(_, _)
-            | Piece::Other,
-            ..
-        ] => None,
-        [] => None,
+        _ => None,
     }
 }
 
@@ -107,17 +97,7 @@ fn after_word<'p, 'a>(word: &str, pieces: &'p [Piece<'a>]) -> Option<&'p [Piece<
 {
     match pieces {
         [Piece::Word(of), rest @ ..] => { if *of == word { Some(rest) } else { None } }
-        [
-            Piece::Open
-            | Piece::Close
-            | Piece::Id(_)
-            | Piece::Integer(_, _)
-            | Piece::Text(_)
-            | Piece::Float(_, _)
-            | Piece::Other,
-            ..
-        ] => None,
-        [] => None,
+        _ => None,
     }
 }
 
@@ -129,20 +109,7 @@ pub(crate) fn closed<'p, 'a>(pieces: &'p [Piece<'a>]) -> Result<&'p [Piece<'a>],
 {
     match pieces {
         [Piece::Close, rest @ ..] => Ok(rest),
-        [
-            Piece::Open
-            | Piece::Word(_)
-            | Piece::Id(_)
-            | Piece::Integer(_, _)
-            | Piece::Text(_)
-            | Piece::Float(_, _)
-            | Piece::Other,
-            ..
-        ] => Err(Fault {
-            kind: FaultKind::Unexpected,
-            left: pieces,
-        }),
-        [] => Err(Fault {
+        _ => Err(Fault {
             kind: FaultKind::Unexpected,
             left: pieces,
         }),
@@ -178,20 +145,7 @@ pub(crate) fn utf8_text<'p, 'a>(
                 })
             }
         }
-        [
-            Piece::Open
-            | Piece::Close
-            | Piece::Word(_)
-            | Piece::Id(_)
-            | Piece::Integer(_, _)
-            | Piece::Float(_, _)
-            | Piece::Other,
-            ..
-        ] => Err(Fault {
-            kind: FaultKind::Unexpected,
-            left: pieces,
-        }),
-        [] => Err(Fault {
+        _ => Err(Fault {
             kind: FaultKind::Unexpected,
             left: pieces,
         }),
@@ -282,17 +236,7 @@ fn next_value<'p, 'a>(
                 left: left.pieces,
             })),
         },
-        [
-            Piece::Open
-            | Piece::Close
-            | Piece::Id(_)
-            | Piece::Integer(_, _)
-            | Piece::Text(_)
-            | Piece::Float(_, _)
-            | Piece::Other,
-            ..
-        ] => Ok(None),
-        [] => Ok(None),
+        _ => Ok(None),
     }
 }
 
@@ -318,17 +262,7 @@ fn group<'p, 'a>(
                 }))
             }
         }
-        [
-            Piece::Open
-            | Piece::Close
-            | Piece::Word(_)
-            | Piece::Integer(_, _)
-            | Piece::Text(_)
-            | Piece::Float(_, _)
-            | Piece::Other,
-            ..
-        ] => listed(alloc, pieces),
-        [] => listed(alloc, pieces),
+        _ => listed(alloc, pieces),
     }
 }
 
@@ -350,20 +284,7 @@ fn named_one<'p, 'a>(
                 left: pieces,
             })),
         },
-        [
-            Piece::Open
-            | Piece::Close
-            | Piece::Id(_)
-            | Piece::Integer(_, _)
-            | Piece::Text(_)
-            | Piece::Float(_, _)
-            | Piece::Other,
-            ..
-        ] => Err(Refusal::Text(Fault {
-            kind: FaultKind::Unexpected,
-            left: pieces,
-        })),
-        [] => Err(Refusal::Text(Fault {
+        _ => Err(Refusal::Text(Fault {
             kind: FaultKind::Unexpected,
             left: pieces,
         })),

@@ -201,17 +201,7 @@ fn binding_at<'p>(pieces: &'p [Piece<'_>]) -> Option<Binding<'p>>
                 binding_named(space_of(word), rest)
             }
         }
-        [
-            Piece::Open
-            | Piece::Close
-            | Piece::Id(_)
-            | Piece::Integer(_, _)
-            | Piece::Text(_)
-            | Piece::Float(_, _)
-            | Piece::Other,
-            ..
-        ] => None,
-        [] => None,
+        _ => None,
     }
 }
 
@@ -234,17 +224,7 @@ fn import_binding<'p>(pieces: &'p [Piece<'_>]) -> Option<Binding<'p>>
 {
     match pieces {
         [Piece::Text(_), rest @ ..] => text_binding(rest),
-        [
-            Piece::Open
-            | Piece::Close
-            | Piece::Word(_)
-            | Piece::Id(_)
-            | Piece::Integer(_, _)
-            | Piece::Float(_, _)
-            | Piece::Other,
-            ..
-        ] => None,
-        [] => None,
+        _ => None,
     }
 }
 
@@ -254,17 +234,7 @@ fn text_binding<'p>(pieces: &'p [Piece<'_>]) -> Option<Binding<'p>>
 {
     match pieces {
         [Piece::Text(_), rest @ ..] => open_binding(rest),
-        [
-            Piece::Open
-            | Piece::Close
-            | Piece::Word(_)
-            | Piece::Id(_)
-            | Piece::Integer(_, _)
-            | Piece::Float(_, _)
-            | Piece::Other,
-            ..
-        ] => None,
-        [] => None,
+        _ => None,
     }
 }
 
@@ -274,17 +244,7 @@ fn open_binding<'p>(pieces: &'p [Piece<'_>]) -> Option<Binding<'p>>
 {
     match pieces {
         [Piece::Open, rest @ ..] => word_binding(rest),
-        [
-            Piece::Close
-            | Piece::Word(_)
-            | Piece::Id(_)
-            | Piece::Integer(_, _)
-            | Piece::Text(_)
-            | Piece::Float(_, _)
-            | Piece::Other,
-            ..
-        ] => None,
-        [] => None,
+        _ => None,
     }
 }
 
@@ -294,17 +254,7 @@ fn word_binding<'p>(pieces: &'p [Piece<'_>]) -> Option<Binding<'p>>
 {
     match pieces {
         [Piece::Word(word), rest @ ..] => binding_named(space_of(word), rest),
-        [
-            Piece::Open
-            | Piece::Close
-            | Piece::Id(_)
-            | Piece::Integer(_, _)
-            | Piece::Text(_)
-            | Piece::Float(_, _)
-            | Piece::Other,
-            ..
-        ] => None,
-        [] => None,
+        _ => None,
     }
 }
 
@@ -340,17 +290,7 @@ fn data_name_at<'p, 'a>(
             }
             Ok(None)
         }
-        [
-            Piece::Open
-            | Piece::Close
-            | Piece::Id(_)
-            | Piece::Integer(_, _)
-            | Piece::Text(_)
-            | Piece::Float(_, _)
-            | Piece::Other,
-            ..
-        ] => Ok(None),
-        [] => Ok(None),
+        _ => Ok(None),
     }
 }
 
@@ -403,17 +343,7 @@ fn elem_name_at<'p, 'a>(
             }
             Ok(None)
         }
-        [
-            Piece::Open
-            | Piece::Close
-            | Piece::Id(_)
-            | Piece::Integer(_, _)
-            | Piece::Text(_)
-            | Piece::Float(_, _)
-            | Piece::Other,
-            ..
-        ] => Ok(None),
-        [] => Ok(None),
+        _ => Ok(None),
     }
 }
 
@@ -440,17 +370,7 @@ fn elem_after_type<'p>(pieces: &'p [Piece<'_>]) -> Option<Name<'p>>
             Some(_) => Some(Name::Absent),
             None => None,
         },
-        [
-            Piece::Open
-            | Piece::Close
-            | Piece::Id(_)
-            | Piece::Integer(_, _)
-            | Piece::Text(_)
-            | Piece::Float(_, _)
-            | Piece::Other,
-            ..
-        ] => None,
-        [] => None,
+        _ => None,
     }
 }
 
@@ -489,17 +409,7 @@ fn definition_at<'p, 'a>(
                 Ok(None)
             }
         }
-        [
-            Piece::Open
-            | Piece::Close
-            | Piece::Id(_)
-            | Piece::Integer(_, _)
-            | Piece::Text(_)
-            | Piece::Float(_, _)
-            | Piece::Other,
-            ..
-        ] => Ok(None),
-        [] => Ok(None),
+        _ => Ok(None),
     }
 }
 

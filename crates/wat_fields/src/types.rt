@@ -71,20 +71,7 @@ pub(crate) fn limits<'p, 'a>(
             let (min, rest) = small(*sign, *n, pieces, rest)?;
             maximum(min, rest)
         }
-        [
-            Piece::Open
-            | Piece::Close
-            | Piece::Word(_)
-            | Piece::Id(_)
-            | Piece::Text(_)
-            | Piece::Float(_, _)
-            | Piece::Other,
-            ..
-        ] => Err(Fault {
-            kind: FaultKind::Unexpected,
-            left: pieces,
-        }),
-        [] => Err(Fault {
+        _ => Err(Fault {
             kind: FaultKind::Unexpected,
             left: pieces,
         }),
@@ -106,17 +93,7 @@ fn maximum<'p, 'a>(
             let max = Some(max);
             Ok((Limits { min, max }, rest))
         }
-        [
-            Piece::Open
-            | Piece::Close
-            | Piece::Word(_)
-            | Piece::Id(_)
-            | Piece::Text(_)
-            | Piece::Float(_, _)
-            | Piece::Other,
-            ..
-        ] => Ok((Limits { min, max: None }, pieces)),
-        [] => Ok((Limits { min, max: None }, pieces)),
+        _ => Ok((Limits { min, max: None }, pieces)),
     }
 }
 
@@ -151,20 +128,7 @@ fn reference_type<'p, 'a>(
                 left: pieces,
             }),
         },
-        [
-            Piece::Open
-            | Piece::Close
-            | Piece::Id(_)
-            | Piece::Integer(_, _)
-            | Piece::Text(_)
-            | Piece::Float(_, _)
-            | Piece::Other,
-            ..
-        ] => Err(Fault {
-            kind: FaultKind::Unexpected,
-            left: pieces,
-        }),
-        [] => Err(Fault {
+        _ => Err(Fault {
             kind: FaultKind::Unexpected,
             left: pieces,
         }),
@@ -192,19 +156,7 @@ pub(crate) fn global_type<'p, 'a>(
             }),
         },
         [Piece::Open, rest @ ..] => mutable(rest),
-        [
-            Piece::Close
-            | Piece::Id(_)
-            | Piece::Integer(_, _)
-            | Piece::Text(_)
-            | Piece::Float(_, _)
-            | Piece::Other,
-            ..
-        ] => Err(Fault {
-            kind: FaultKind::Unexpected,
-            left: pieces,
-        }),
-        [] => Err(Fault {
+        _ => Err(Fault {
             kind: FaultKind::Unexpected,
             left: pieces,
         }),
@@ -228,20 +180,7 @@ fn mutable<'p, 'a>(pieces: &'p [Piece<'a>]) -> Result<(GlobalType, &'p [Piece<'a
                 })
             }
         }
-        [
-            Piece::Open
-            | Piece::Close
-            | Piece::Id(_)
-            | Piece::Integer(_, _)
-            | Piece::Text(_)
-            | Piece::Float(_, _)
-            | Piece::Other,
-            ..
-        ] => Err(Fault {
-            kind: FaultKind::Unexpected,
-            left: pieces,
-        }),
-        [] => Err(Fault {
+        _ => Err(Fault {
             kind: FaultKind::Unexpected,
             left: pieces,
         }),
@@ -264,20 +203,7 @@ fn mutable_type<'p, 'a>(
                 left: pieces,
             }),
         },
-        [
-            Piece::Open
-            | Piece::Close
-            | Piece::Id(_)
-            | Piece::Integer(_, _)
-            | Piece::Text(_)
-            | Piece::Float(_, _)
-            | Piece::Other,
-            ..
-        ] => Err(Fault {
-            kind: FaultKind::Unexpected,
-            left: pieces,
-        }),
-        [] => Err(Fault {
+        _ => Err(Fault {
             kind: FaultKind::Unexpected,
             left: pieces,
         }),
@@ -314,20 +240,7 @@ pub(crate) fn twice_closed<'p, 'a>(
 {
     match pieces {
         [Piece::Close, rest @ ..] => closed(rest),
-        [
-            Piece::Open
-            | Piece::Word(_)
-            | Piece::Id(_)
-            | Piece::Integer(_, _)
-            | Piece::Text(_)
-            | Piece::Float(_, _)
-            | Piece::Other,
-            ..
-        ] => Err(Fault {
-            kind: FaultKind::Unexpected,
-            left: pieces,
-        }),
-        [] => Err(Fault {
+        _ => Err(Fault {
             kind: FaultKind::Unexpected,
             left: pieces,
         }),

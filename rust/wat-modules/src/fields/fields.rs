@@ -294,20 +294,7 @@ fn ended<'p, 'a>(pieces: &'p [Piece<'a>]) -> Result<(), Fault<'p, 'a>> {
             kind: FaultKind::Unexpected,
             left: left,
         }),
-        [
-            Piece::Open
-            | Piece::Word(_)
-            | Piece::Id(_)
-            | Piece::Integer(_, _)
-            | Piece::Text(_)
-            | Piece::Float(_, _)
-            | Piece::Other,
-            ..,
-        ] => Err(Fault {
-            kind: FaultKind::Unexpected,
-            left: pieces,
-        }),
-        [] => Err(Fault {
+        _ => Err(Fault {
             kind: FaultKind::Unexpected,
             left: pieces,
         }),
@@ -456,17 +443,7 @@ fn next_field<'p, 'a>(
             }
             Err(refusal) => Err(refusal),
         },
-        [
-            Piece::Close
-            | Piece::Word(_)
-            | Piece::Id(_)
-            | Piece::Integer(_, _)
-            | Piece::Text(_)
-            | Piece::Float(_, _)
-            | Piece::Other,
-            ..,
-        ] => Ok(None),
-        [] => Ok(None),
+        _ => Ok(None),
     }
 }
 
@@ -486,20 +463,7 @@ fn field_at<'p, 'a>(
 ) -> Result<(Field<'p>, &'p [Piece<'a>]), Refusal<'p, 'a>> {
     match pieces {
         [Piece::Word(word), rest @ ..] => field_after(alloc, names, *word, pieces, rest),
-        [
-            Piece::Open
-            | Piece::Close
-            | Piece::Id(_)
-            | Piece::Integer(_, _)
-            | Piece::Text(_)
-            | Piece::Float(_, _)
-            | Piece::Other,
-            ..,
-        ] => Err(Refusal::Text(Fault {
-            kind: FaultKind::Unexpected,
-            left: pieces,
-        })),
-        [] => Err(Refusal::Text(Fault {
+        _ => Err(Refusal::Text(Fault {
             kind: FaultKind::Unexpected,
             left: pieces,
         })),
@@ -832,20 +796,7 @@ fn import_open<'p, 'a>(
 ) -> Result<(Field<'p>, &'p [Piece<'a>]), Refusal<'p, 'a>> {
     match pieces {
         [Piece::Open, rest @ ..] => import_word(alloc, names, from, item, rest),
-        [
-            Piece::Close
-            | Piece::Word(_)
-            | Piece::Id(_)
-            | Piece::Integer(_, _)
-            | Piece::Text(_)
-            | Piece::Float(_, _)
-            | Piece::Other,
-            ..,
-        ] => Err(Refusal::Text(Fault {
-            kind: FaultKind::Unexpected,
-            left: pieces,
-        })),
-        [] => Err(Refusal::Text(Fault {
+        _ => Err(Refusal::Text(Fault {
             kind: FaultKind::Unexpected,
             left: pieces,
         })),
@@ -876,20 +827,7 @@ fn import_word<'p, 'a>(
                 left: pieces,
             })),
         },
-        [
-            Piece::Open
-            | Piece::Close
-            | Piece::Id(_)
-            | Piece::Integer(_, _)
-            | Piece::Text(_)
-            | Piece::Float(_, _)
-            | Piece::Other,
-            ..,
-        ] => Err(Refusal::Text(Fault {
-            kind: FaultKind::Unexpected,
-            left: pieces,
-        })),
-        [] => Err(Refusal::Text(Fault {
+        _ => Err(Refusal::Text(Fault {
             kind: FaultKind::Unexpected,
             left: pieces,
         })),
@@ -962,20 +900,7 @@ fn external<'p, 'a>(
 ) -> Result<(Field<'p>, &'p [Piece<'a>]), Fault<'p, 'a>> {
     match pieces {
         [Piece::Open, rest @ ..] => external_word(names, name, rest),
-        [
-            Piece::Close
-            | Piece::Word(_)
-            | Piece::Id(_)
-            | Piece::Integer(_, _)
-            | Piece::Text(_)
-            | Piece::Float(_, _)
-            | Piece::Other,
-            ..,
-        ] => Err(Fault {
-            kind: FaultKind::Unexpected,
-            left: pieces,
-        }),
-        [] => Err(Fault {
+        _ => Err(Fault {
             kind: FaultKind::Unexpected,
             left: pieces,
         }),
@@ -1004,20 +929,7 @@ fn external_word<'p, 'a>(
                 left: pieces,
             }),
         },
-        [
-            Piece::Open
-            | Piece::Close
-            | Piece::Id(_)
-            | Piece::Integer(_, _)
-            | Piece::Text(_)
-            | Piece::Float(_, _)
-            | Piece::Other,
-            ..,
-        ] => Err(Fault {
-            kind: FaultKind::Unexpected,
-            left: pieces,
-        }),
-        [] => Err(Fault {
+        _ => Err(Fault {
             kind: FaultKind::Unexpected,
             left: pieces,
         }),

@@ -221,17 +221,7 @@ fn binding_at<'p>(pieces: &'p [Piece<'_>]) -> Option<Binding<'p>> {
                 binding_named(space_of(word), rest)
             }
         }
-        [
-            Piece::Open
-            | Piece::Close
-            | Piece::Id(_)
-            | Piece::Integer(_, _)
-            | Piece::Text(_)
-            | Piece::Float(_, _)
-            | Piece::Other,
-            ..,
-        ] => None,
-        [] => None,
+        _ => None,
     }
 }
 
@@ -262,17 +252,7 @@ fn binding_named<'p>(space: Option<IndexSpace>, pieces: &'p [Piece<'_>]) -> Opti
 fn import_binding<'p>(pieces: &'p [Piece<'_>]) -> Option<Binding<'p>> {
     match pieces {
         [Piece::Text(_), rest @ ..] => text_binding(rest),
-        [
-            Piece::Open
-            | Piece::Close
-            | Piece::Word(_)
-            | Piece::Id(_)
-            | Piece::Integer(_, _)
-            | Piece::Float(_, _)
-            | Piece::Other,
-            ..,
-        ] => None,
-        [] => None,
+        _ => None,
     }
 }
 
@@ -286,17 +266,7 @@ fn import_binding<'p>(pieces: &'p [Piece<'_>]) -> Option<Binding<'p>> {
 fn text_binding<'p>(pieces: &'p [Piece<'_>]) -> Option<Binding<'p>> {
     match pieces {
         [Piece::Text(_), rest @ ..] => open_binding(rest),
-        [
-            Piece::Open
-            | Piece::Close
-            | Piece::Word(_)
-            | Piece::Id(_)
-            | Piece::Integer(_, _)
-            | Piece::Float(_, _)
-            | Piece::Other,
-            ..,
-        ] => None,
-        [] => None,
+        _ => None,
     }
 }
 
@@ -310,17 +280,7 @@ fn text_binding<'p>(pieces: &'p [Piece<'_>]) -> Option<Binding<'p>> {
 fn open_binding<'p>(pieces: &'p [Piece<'_>]) -> Option<Binding<'p>> {
     match pieces {
         [Piece::Open, rest @ ..] => word_binding(rest),
-        [
-            Piece::Close
-            | Piece::Word(_)
-            | Piece::Id(_)
-            | Piece::Integer(_, _)
-            | Piece::Text(_)
-            | Piece::Float(_, _)
-            | Piece::Other,
-            ..,
-        ] => None,
-        [] => None,
+        _ => None,
     }
 }
 
@@ -334,17 +294,7 @@ fn open_binding<'p>(pieces: &'p [Piece<'_>]) -> Option<Binding<'p>> {
 fn word_binding<'p>(pieces: &'p [Piece<'_>]) -> Option<Binding<'p>> {
     match pieces {
         [Piece::Word(word), rest @ ..] => binding_named(space_of(word), rest),
-        [
-            Piece::Open
-            | Piece::Close
-            | Piece::Id(_)
-            | Piece::Integer(_, _)
-            | Piece::Text(_)
-            | Piece::Float(_, _)
-            | Piece::Other,
-            ..,
-        ] => None,
-        [] => None,
+        _ => None,
     }
 }
 
@@ -387,17 +337,7 @@ fn data_name_at<'p, 'a>(
             }
             Ok(None)
         }
-        [
-            Piece::Open
-            | Piece::Close
-            | Piece::Id(_)
-            | Piece::Integer(_, _)
-            | Piece::Text(_)
-            | Piece::Float(_, _)
-            | Piece::Other,
-            ..,
-        ] => Ok(None),
-        [] => Ok(None),
+        _ => Ok(None),
     }
 }
 
@@ -461,17 +401,7 @@ fn elem_name_at<'p, 'a>(
             }
             Ok(None)
         }
-        [
-            Piece::Open
-            | Piece::Close
-            | Piece::Id(_)
-            | Piece::Integer(_, _)
-            | Piece::Text(_)
-            | Piece::Float(_, _)
-            | Piece::Other,
-            ..,
-        ] => Ok(None),
-        [] => Ok(None),
+        _ => Ok(None),
     }
 }
 
@@ -506,17 +436,7 @@ fn elem_after_type<'p>(pieces: &'p [Piece<'_>]) -> Option<Name<'p>> {
             Some(_) => Some(Name::Absent),
             None => None,
         },
-        [
-            Piece::Open
-            | Piece::Close
-            | Piece::Id(_)
-            | Piece::Integer(_, _)
-            | Piece::Text(_)
-            | Piece::Float(_, _)
-            | Piece::Other,
-            ..,
-        ] => None,
-        [] => None,
+        _ => None,
     }
 }
 
@@ -562,17 +482,7 @@ fn definition_at<'p, 'a>(
                 Ok(None)
             }
         }
-        [
-            Piece::Open
-            | Piece::Close
-            | Piece::Id(_)
-            | Piece::Integer(_, _)
-            | Piece::Text(_)
-            | Piece::Float(_, _)
-            | Piece::Other,
-            ..,
-        ] => Ok(None),
-        [] => Ok(None),
+        _ => Ok(None),
     }
 }
 

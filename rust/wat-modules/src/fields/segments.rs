@@ -64,17 +64,7 @@ fn next_string<'p, 'a>(
             found.push(*text)?;
             Ok(Some(Left { pieces }))
         }
-        [
-            Piece::Open
-            | Piece::Close
-            | Piece::Word(_)
-            | Piece::Id(_)
-            | Piece::Integer(_, _)
-            | Piece::Float(_, _)
-            | Piece::Other,
-            ..,
-        ] => Ok(None),
-        [] => Ok(None),
+        _ => Ok(None),
     }
 }
 
@@ -284,20 +274,7 @@ fn one_instruction<'p, 'a>(
             let scope = scope(names, &locals);
             machine::one_folded(alloc, &scope, rest)
         }
-        [
-            Piece::Close
-            | Piece::Word(_)
-            | Piece::Id(_)
-            | Piece::Integer(_, _)
-            | Piece::Text(_)
-            | Piece::Float(_, _)
-            | Piece::Other,
-            ..,
-        ] => Err(Refusal::Text(Fault {
-            kind: FaultKind::Unexpected,
-            left: pieces,
-        })),
-        [] => Err(Refusal::Text(Fault {
+        _ => Err(Refusal::Text(Fault {
             kind: FaultKind::Unexpected,
             left: pieces,
         })),
@@ -367,17 +344,7 @@ fn data_after<'p, 'a>(
 ) -> Result<(Field<'p>, &'p [Piece<'a>]), Refusal<'p, 'a>> {
     match pieces {
         [Piece::Open, ..] => active_data(alloc, names, name, pieces),
-        [
-            Piece::Close
-            | Piece::Word(_)
-            | Piece::Id(_)
-            | Piece::Integer(_, _)
-            | Piece::Text(_)
-            | Piece::Float(_, _)
-            | Piece::Other,
-            ..,
-        ] => data_strings(alloc, name, None, pieces),
-        [] => data_strings(alloc, name, None, pieces),
+        _ => data_strings(alloc, name, None, pieces),
     }
 }
 

@@ -78,20 +78,7 @@ pub(crate) fn limits<'p, 'a>(
             let (min, rest) = small(*sign, *n, pieces, rest)?;
             maximum(min, rest)
         }
-        [
-            Piece::Open
-            | Piece::Close
-            | Piece::Word(_)
-            | Piece::Id(_)
-            | Piece::Text(_)
-            | Piece::Float(_, _)
-            | Piece::Other,
-            ..,
-        ] => Err(Fault {
-            kind: FaultKind::Unexpected,
-            left: pieces,
-        }),
-        [] => Err(Fault {
+        _ => Err(Fault {
             kind: FaultKind::Unexpected,
             left: pieces,
         }),
@@ -117,17 +104,7 @@ fn maximum<'p, 'a>(
             let max = Some(max);
             Ok((Limits { min, max }, rest))
         }
-        [
-            Piece::Open
-            | Piece::Close
-            | Piece::Word(_)
-            | Piece::Id(_)
-            | Piece::Text(_)
-            | Piece::Float(_, _)
-            | Piece::Other,
-            ..,
-        ] => Ok((Limits { min, max: None }, pieces)),
-        [] => Ok((Limits { min, max: None }, pieces)),
+        _ => Ok((Limits { min, max: None }, pieces)),
     }
 }
 
@@ -168,20 +145,7 @@ fn reference_type<'p, 'a>(
                 left: pieces,
             }),
         },
-        [
-            Piece::Open
-            | Piece::Close
-            | Piece::Id(_)
-            | Piece::Integer(_, _)
-            | Piece::Text(_)
-            | Piece::Float(_, _)
-            | Piece::Other,
-            ..,
-        ] => Err(Fault {
-            kind: FaultKind::Unexpected,
-            left: pieces,
-        }),
-        [] => Err(Fault {
+        _ => Err(Fault {
             kind: FaultKind::Unexpected,
             left: pieces,
         }),
@@ -212,19 +176,7 @@ pub(crate) fn global_type<'p, 'a>(
             }),
         },
         [Piece::Open, rest @ ..] => mutable(rest),
-        [
-            Piece::Close
-            | Piece::Id(_)
-            | Piece::Integer(_, _)
-            | Piece::Text(_)
-            | Piece::Float(_, _)
-            | Piece::Other,
-            ..,
-        ] => Err(Fault {
-            kind: FaultKind::Unexpected,
-            left: pieces,
-        }),
-        [] => Err(Fault {
+        _ => Err(Fault {
             kind: FaultKind::Unexpected,
             left: pieces,
         }),
@@ -254,20 +206,7 @@ fn mutable<'p, 'a>(
                 })
             }
         }
-        [
-            Piece::Open
-            | Piece::Close
-            | Piece::Id(_)
-            | Piece::Integer(_, _)
-            | Piece::Text(_)
-            | Piece::Float(_, _)
-            | Piece::Other,
-            ..,
-        ] => Err(Fault {
-            kind: FaultKind::Unexpected,
-            left: pieces,
-        }),
-        [] => Err(Fault {
+        _ => Err(Fault {
             kind: FaultKind::Unexpected,
             left: pieces,
         }),
@@ -294,20 +233,7 @@ fn mutable_type<'p, 'a>(
                 left: pieces,
             }),
         },
-        [
-            Piece::Open
-            | Piece::Close
-            | Piece::Id(_)
-            | Piece::Integer(_, _)
-            | Piece::Text(_)
-            | Piece::Float(_, _)
-            | Piece::Other,
-            ..,
-        ] => Err(Fault {
-            kind: FaultKind::Unexpected,
-            left: pieces,
-        }),
-        [] => Err(Fault {
+        _ => Err(Fault {
             kind: FaultKind::Unexpected,
             left: pieces,
         }),
@@ -352,20 +278,7 @@ pub(crate) fn twice_closed<'p, 'a>(
 ) -> Result<&'p [Piece<'a>], Fault<'p, 'a>> {
     match pieces {
         [Piece::Close, rest @ ..] => closed(rest),
-        [
-            Piece::Open
-            | Piece::Word(_)
-            | Piece::Id(_)
-            | Piece::Integer(_, _)
-            | Piece::Text(_)
-            | Piece::Float(_, _)
-            | Piece::Other,
-            ..,
-        ] => Err(Fault {
-            kind: FaultKind::Unexpected,
-            left: pieces,
-        }),
-        [] => Err(Fault {
+        _ => Err(Fault {
             kind: FaultKind::Unexpected,
             left: pieces,
         }),
