@@ -536,7 +536,7 @@ pub fn find(word: &str) -> Option<Row>
     }
 }
 
-/// The row at a place, from the first of `LOW` on.
+/// The row at a place among all.
 fn row_at(place: usize) -> Option<Row>
     ensures { found_of result ≡ slice_get mnemonics place }
 {
@@ -549,7 +549,7 @@ fn row_at(place: usize) -> Option<Row>
     }
 }
 
-/// The row at a place, from the first of `PREFIXED` on.
+/// The row at a place among those with a prefix.
 fn prefixed_at(place: usize) -> Option<Row>
     ensures { found_of result ≡ slice_get (prefixed ++ (low_vectors ++ high_vectors)) place }
 {
@@ -562,6 +562,7 @@ fn prefixed_at(place: usize) -> Option<Row>
     }
 }
 
+/// The row at a place among these.
 fn row_in(rows: &[Row], place: usize) -> Option<Row>
     ensures { found_of result ≡ slice_get (map row_of rows.now) place }
 {
