@@ -48,6 +48,12 @@ def types(i):
     return " ".join(VALUES[i >> 2 * k & 3] for k in range(8))
 
 
+def elements(rng):
+    """A table that brings functions by their names."""
+    names = " ".join(f"$f{rng.randrange(2_000)}" for _ in range(400_000))
+    return module(each(2_000, lambda i: f"(func $f{i})") + f"(table funcref (elem {names}))")
+
+
 def functions(count):
     """Functions at random, with names; the others read no underscore in a memory argument."""
     text = big_module(choices(7, FORMS.keys() - LEFT_OUT), count, True)
@@ -62,14 +68,14 @@ def kinds(rng):
         "calls": module(each(80_000, lambda i: f"(func $f{i} call $f{i * 7919 % 80_000})")),
         "comments": function(200_000, lambda i: "nop (; a comment that says what it is ;)"),
         "data": module("(memory 1000)\n" + each(4_000, lambda i: f'(data (i32.const {i * 2_000}) "{escaped(rng, 2_000)}")')),
-        "elements": module(each(2_000, lambda i: f"(func $f{i})") + f"(table funcref (elem {' '.join(f'$f{rng.randrange(2_000)}' for _ in range(400_000))}))"),
+        "elements": elements(rng),
         "exports": module("(func)\n" + each(100_000, lambda i: f'(export "name{i}" (func 0))')),
         "floats": function(200_000, lambda i: f"f64.const {rng.random()!r} drop"),
         "folded": function(100_000, lambda i: "(drop (i32.add (i32.const 1) (i32.mul (local.get 0) (i32.const 2))))"),
         "functions": functions(15_000),
         "globals": module(each(100_000, lambda i: f"(global $g{i} (mut i32) (i32.const {i}))")),
         "imports": module(each(100_000, lambda i: f'(import "env" "f{i}" (func $f{i} (param i32)))')),
-        "indirect": module("(table 1 funcref)\n(func\n" + each(100_000, lambda i: "i32.const 1 i32.const 0 call_indirect (param i32) (result i64) drop") + ")\n"),
+        "indirect": function(100_000, lambda i: "i32.const 1 i32.const 0 call_indirect (param i32) (result i64) drop"),
         "integers": function(300_000, lambda i: f"i32.const {rng.randrange(1 << 31)} drop"),
         "loads": module("(memory 1)\n(func\n" + each(150_000, lambda i: f"i32.const 1 i32.load offset={i * 4} align=4 drop") + ")\n"),
         "locals": module(each(200, lambda i: f"(func (local {'i32 ' * 1_000}))")),
@@ -102,7 +108,8 @@ def run(words, text, out=subprocess.DEVNULL):
 def peak(words, text):
     """The 10^6 bytes of a process that are resident at most."""
     with open(text, "rb") as source:
-        said = subprocess.run(["/usr/bin/time", "--quiet", "-f", "%M", *words], check=True, stdin=source, stdout=subprocess.DEVNULL, stderr=subprocess.PIPE, text=True)
+        words = ["/usr/bin/time", "--quiet", "-f", "%M", *words]
+        said = subprocess.run(words, check=True, stdin=source, stdout=subprocess.DEVNULL, stderr=subprocess.PIPE, text=True)
     return int(said.stderr) * 1024 / 1e6
 
 
@@ -121,6 +128,7 @@ def is_same(text, jobs, folder):
 
 
 def rows(text, jobs, rounds):
+    """Prints the rows of a text: MODULE beside each of the others."""
     runs = {name: [] for name in jobs}
     for number in range(rounds):
         for turn in range(len(jobs)):
@@ -134,6 +142,16 @@ def rows(text, jobs, rounds):
         print(f"memory, modules\t{text.stem}\t{ours}, {other}\t{most[ours]:.1f}\t{most[other]:.1f}\t{most[other] / most[ours]:.2f}", flush=True)
 
 
+def print_head(rounds):
+    """Prints where, when and of what is measured."""
+    known = pathlib.Path("/proc/cpuinfo").read_text(encoding="utf-8").splitlines()
+    model = next(line.split(": ")[1].strip() for line in known if line.startswith("model name"))
+    commit = output("git", "rev-parse", "--short", "HEAD").strip()
+    print(f"# {datetime.date.today()}, commit {commit}, {model}, {os.cpu_count()} processors, load {os.getloadavg()[0]:.1f},")
+    print(f"# wabt {output('wat2wasm', '--version').strip()}, wast 222.0.0; {rounds} rounds in turn; medians; milliseconds, 10^6 bytes")
+    print("# suite\ttext\tcall\tours\tother\tratio")
+
+
 def main():
     reads = argparse.ArgumentParser(description=__doc__, formatter_class=argparse.RawDescriptionHelpFormatter)
     reads.add_argument("module", type=os.path.realpath)
@@ -141,10 +159,7 @@ def main():
     reads.add_argument("encoder", nargs="?", type=os.path.realpath)
     reads.add_argument("--rounds", type=int, default=5)
     given = reads.parse_args()
-    model = next(line.split(": ")[1].strip() for line in open("/proc/cpuinfo", encoding="utf-8") if line.startswith("model name"))
-    commit = output("git", "rev-parse", "--short", "HEAD").strip()
-    print(f"# {datetime.date.today()}, commit {commit}, {model}, {os.cpu_count()} processors, load {os.getloadavg()[0]:.1f},")
-    print(f"# wabt {output('wat2wasm', '--version').strip()}; {given.rounds} rounds in turn; medians; milliseconds, 10^6 bytes\n# suite\ttext\tcall\tours\tother\tratio")
+    print_head(given.rounds)
     for text in texts(given.folder):
         jobs = {"module": [given.module], "wat2wasm --no-check": ["wat2wasm", "--no-check", text, "-o", "/dev/null"]}
         if given.encoder:

@@ -5,7 +5,7 @@ usage: tools/word_slots.py [--check]
 
 The hash of a word is a sum of its bytes, each times a power of 5, below 2^32. The words whose hashes have the same remainder by the number of MOVES
 are moved together, by the least number with which each of them has an empty slot; the largest of these groups come first. With --check nothing is
-written, and the status is 1 where the file differs. What is written is proved whatever it is: the place of each row is in the slot of its word.
+written, and the status is 1 where the file differs. The prover checks what is written: the place of each row is in the slot of its word.
 """
 import pathlib
 import re
@@ -43,8 +43,8 @@ def tables(words):
 
 
 def least_move(slots, group, empty):
-    """The least number with which each word of a group has an empty slot of its own."""
-    for move in range(SLOTS):
+    """The least number of 8 bits with which each word of a group has an empty slot of its own."""
+    for move in range(256):
         wanted = slots_of(group.values(), move)
         if len(set(wanted)) == len(wanted) and all(slots[slot] == empty for slot in wanted):
             return move

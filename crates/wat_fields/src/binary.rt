@@ -1,5 +1,5 @@
 //! The bytes of a module.
-ghost use Rattle.std.specs.Prelude.{◌≡◌, ◌<◌, ◌≤◌, pos, ◌+◌, ◌++◌, ◌^◌, ◌∷◌, [], ℕ, List, OnOk, IfOk, MatchOption, length, map, None, Some};
+ghost use Rattle.std.specs.Prelude.{◌≡◌, ◌<◌, ◌≤◌, pos, ◌+◌, ◌++◌, ◌^◌, ◌∷◌, [], ℕ, List, OnOk, IfErr, IfOk, MatchOption, length, map, None, Some};
 ghost use Rattle.std.specs.List.{flat_map, list_any};
 ghost use Rattle.wat_fields.specs.Binary as binary;
 ghost use Rattle.wat_fields.specs.Fields as grammar;
@@ -717,9 +717,10 @@ fn put_head(
     Ok(())
 }
 
-/// The sum of two sizes. No memory holds what no number of 64 bits counts.
+/// The sum of two sizes; out of memory where it has more than 64 bits.
 fn sum(one: usize, other: usize) -> Result<usize, AllocError>
-    ensures { IfOk result (λ n. n ≡ one + other) }
+    ensures is { IfOk result (λ n. n ≡ one + other) }
+    ensures refused { IfErr result (λ e. 2 ^ 64 ≤ one + other) }
 {
     match one.checked_add(other) {
         Some(sum) => Ok(sum),
@@ -1052,7 +1053,7 @@ fn put_strings(out: &mut Vec<u8>, strings: &[&[u8]]) -> Result<(), AllocError>
     Ok(())
 }
 
-/// Appends what a data segment begins with, before its bytes; and how many bytes these are.
+/// Appends what a data segment begins with, before its bytes, and answers how many bytes follow.
 fn put_segment_head(
     out: &mut Vec<u8>,
     types: &IndexedTypes,
@@ -1157,8 +1158,7 @@ fn function_by(instructions: &[Instruction]) -> Option<usize>
             }
             index_of(&instruction.argument)
         }
-        [] => None,
-        [_, _, ..] => None,
+        _ => None,
     }
 }
 

@@ -204,7 +204,7 @@ pub(crate) struct Left<'p, 'a> {
 /// The bytes of a module.
 ///
 /// It answers bytes exactly where the grammar spells a module, and these are its bytes; any other
-/// refusal is the first fault. Names are searched one by one, and types too.
+/// refusal is the first fault, or out of memory.
 pub fn compile<'p, 'a>(alloc: Global, pieces: &'p [Piece<'a>]) -> Result<Vec<u8>, Refusal<'p, 'a>>
     ensures compiled { IfOk result (λ bytes. (fs : List grammar.Field) × grammar.Module (map terminal pieces.now) fs × (bytes.items ≡ module_bytes fs)) }
     ensures spelled { (fs : List grammar.Field) → grammar.Module (map terminal pieces.now) fs →

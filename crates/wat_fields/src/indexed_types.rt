@@ -37,7 +37,7 @@ impl Model for IndexedTypes {
     ghost invariant = { λ t. AreIndices t.indices (map type_of t.types.items) };
 }
 
-/// So many types are searched one by one, which takes no memory.
+/// Up to so many types are searched one by one, which takes no memory.
 const FEW: usize = 32;
 
 impl IndexedTypes {
@@ -81,7 +81,7 @@ impl IndexedTypes {
         Ok(self.indices.get(&key).copied())
     }
 
-    /// The least index of this type, which is their number where it is not among them.
+    /// The least index of this type; where it is not among them, how many there are.
     pub(crate) fn index(&self, of: &FunctionType) -> Result<usize, AllocError>
         ensures is { IfOk result (λ i. i ≡ binary.type_index (type_of of.now) self.now) }
         ensures small { IfOk result (λ i. i < 2 ^ 63) }
@@ -180,10 +180,10 @@ fn have_types(types: &[ValueType], variables: &[Variable<'_>]) -> bool
     true
 }
 
-/// What no type's byte is.
+/// A byte that no value type has.
 const BETWEEN: u8 = 0x40;
 
-/// What tells a function type from others.
+/// The bytes by which a function type is found.
 fn type_key(alloc: Global, of: &FunctionType) -> Result<Vec<u8>, AllocError>
     ensures { IfOk result (λ key. key.items ≡ type_key (type_of of.now)) }
 {

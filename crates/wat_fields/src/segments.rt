@@ -1,5 +1,5 @@
 //! Data segments, and what segments use.
-ghost use Rattle.std.specs.Prelude.{◌≡◌, ◌<◌, ◌^◌, [], ◌∷◌, Ok, Err, length, map, IfOk, MatchOption, MatchResult};
+ghost use Rattle.std.specs.Prelude.{◌≡◌, ◌<◌, ◌≤◌, ◌^◌, [], ◌∷◌, Ok, Err, length, map, IfErr, IfOk, MatchOption, MatchResult};
 ghost use Rattle.wat_fields.specs.Fields as grammar;
 ghost use Rattle.wat_fields.specs.Reading as reading;
 ghost use Rattle.wat_fields.specs.Views.{IsItem, ItemFaults, NoItem, context_of, field_of, target_of, text_of, together};
@@ -156,11 +156,12 @@ fn memory_of<'p, 'a>(
     ))
 }
 
-/// How many bytes these strings have together. Memory is refused where they are more than a slice
-/// can have.
+/// How many bytes these strings have together. Out of memory where they are more than a `Vec` can
+/// have.
 pub(crate) fn len_of(strings: &[&[u8]]) -> Result<usize, AllocError>
     ensures is { IfOk result (λ len. len ≡ length (together strings.now)) }
     ensures small { IfOk result (λ len. len < 2 ^ 63) }
+    ensures refused { IfErr result (λ e. 2 ^ 63 ≤ length (together strings.now)) }
 {
     let mut len = 0;
     for string in strings {

@@ -881,12 +881,13 @@ fn put_head(
     Ok(())
 }
 
-/// The sum of two sizes. No memory holds what no number of 64 bits counts.
+/// The sum of two sizes; out of memory where it has more than 64 bits.
 ///
 /// # Proved
 ///
 /// ```text
-/// ensures { IfOk result (λ n. n ≡ one + other) }
+/// ensures is { IfOk result (λ n. n ≡ one + other) }
+/// ensures refused { IfErr result (λ e. 2 ^ 64 ≤ one + other) }
 /// ```
 fn sum(one: usize, other: usize) -> Result<usize, AllocError> {
     match one.checked_add(other) {
@@ -1307,7 +1308,7 @@ fn put_strings(out: &mut Vec<u8>, strings: &[&[u8]]) -> Result<(), AllocError> {
     Ok(())
 }
 
-/// Appends what a data segment begins with, before its bytes; and how many bytes these are.
+/// Appends what a data segment begins with, before its bytes, and answers how many bytes follow.
 ///
 /// # Proved
 ///
@@ -1444,8 +1445,7 @@ fn function_by(instructions: &[Instruction]) -> Option<usize> {
             }
             index_of(&instruction.argument)
         }
-        [] => None,
-        [_, _, ..] => None,
+        _ => None,
     }
 }
 

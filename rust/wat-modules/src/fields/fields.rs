@@ -184,7 +184,7 @@ pub(crate) struct Left<'p, 'a> {
 /// The bytes of a module.
 ///
 /// It answers bytes exactly where the grammar spells a module, and these are its bytes; any other
-/// refusal is the first fault. Names are searched one by one, and types too.
+/// refusal is the first fault, or out of memory.
 ///
 /// # Proved
 ///

@@ -18,7 +18,7 @@ pub(crate) struct IndexedTypes {
     indices: BTreeMap<Vec<u8>, usize>,
 }
 
-/// So many types are searched one by one, which takes no memory.
+/// Up to so many types are searched one by one, which takes no memory.
 const FEW: usize = 32;
 
 impl IndexedTypes {
@@ -78,7 +78,7 @@ impl IndexedTypes {
         Ok(self.indices.get(&key).copied())
     }
 
-    /// The least index of this type, which is their number where it is not among them.
+    /// The least index of this type; where it is not among them, how many there are.
     ///
     /// # Proved
     ///
@@ -213,10 +213,10 @@ fn have_types(types: &[ValueType], variables: &[Variable<'_>]) -> bool {
     true
 }
 
-/// What no type's byte is.
+/// A byte that no value type has.
 const BETWEEN: u8 = 0x40;
 
-/// What tells a function type from others.
+/// The bytes by which a function type is found.
 ///
 /// # Proved
 ///

@@ -174,14 +174,15 @@ fn memory_of<'p, 'a>(
     ))
 }
 
-/// How many bytes these strings have together. Memory is refused where they are more than a slice
-/// can have.
+/// How many bytes these strings have together. Out of memory where they are more than a `Vec` can
+/// have.
 ///
 /// # Proved
 ///
 /// ```text
 /// ensures is { IfOk result (λ len. len ≡ length (together strings.now)) }
 /// ensures small { IfOk result (λ len. len < 2 ^ 63) }
+/// ensures refused { IfErr result (λ e. 2 ^ 63 ≤ length (together strings.now)) }
 /// ```
 pub(crate) fn len_of(strings: &[&[u8]]) -> Result<usize, AllocError> {
     let mut len = 0;

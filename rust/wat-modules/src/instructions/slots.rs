@@ -2,7 +2,7 @@
 //! Where the row of a word is: a perfect hash, whose constants `tools/word_slots.py` writes.
 
 use wat_lex::shim::prelude::*;
-/// By how much the slots of words move that have the same remainder of their hash.
+/// For each remainder of a hash by 128, how far the slots of its words are moved.
 const MOVES: [u8; 128] = [
     3, 15, 5, 2, 0, 8, 4, 0, 5, 29, 0, 1, 0, 5, 9, 0, 10, 1, 2, 4, 6, 51, 12, 43, 14, 1, 0, 0, 26,
     26, 0, 0, 44, 85, 144, 27, 20, 0, 16, 2, 5, 38, 4, 0, 25, 2, 2, 4, 44, 41, 40, 26, 83, 62, 0,
@@ -11,7 +11,7 @@ const MOVES: [u8; 128] = [
     8, 33, 0, 129, 28, 173, 22, 26, 15, 25, 14, 24, 49, 10, 4, 40, 67, 3, 109, 16, 213, 6,
 ];
 
-/// The place of a row in each slot, or the number of rows where the slot is empty.
+/// For each slot the place of its row; the number of rows where it is empty.
 const SLOTS: [u16; 512] = [
     431, 431, 431, 431, 387, 431, 431, 213, 431, 365, 105, 215, 238, 149, 43, 237, 431, 195, 239,
     233, 431, 407, 402, 405, 406, 431, 234, 431, 401, 431, 129, 408, 431, 404, 216, 431, 250, 418,

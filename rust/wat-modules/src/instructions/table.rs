@@ -539,7 +539,7 @@ pub fn find(word: &str) -> Option<Row> {
     }
 }
 
-/// The row at a place, from the first of `LOW` on.
+/// The row at a place among all.
 ///
 /// # Proved
 ///
@@ -556,7 +556,7 @@ fn row_at(place: usize) -> Option<Row> {
     }
 }
 
-/// The row at a place, from the first of `PREFIXED` on.
+/// The row at a place among those with a prefix.
 ///
 /// # Proved
 ///
@@ -573,6 +573,8 @@ fn prefixed_at(place: usize) -> Option<Row> {
     }
 }
 
+/// The row at a place among these.
+///
 /// # Proved
 ///
 /// ```text
