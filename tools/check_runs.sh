@@ -143,6 +143,18 @@ find_library() {
     echo "check_runs.sh: the library's own requests: $library, and one for each word"
 }
 
+# functions COUNT: functions of as many types
+functions() {
+    local number digit
+    for ((number = 0; number < $1; number++)); do
+        printf '(func (param'
+        for digit in 0 1 2 3 4 5; do
+            printf ' i%d' $((32 << (number >> digit & 1)))
+        done
+        printf '))'
+    done
+}
+
 [ -z "${BY_CARGO:-}" ] || find_library 2> /dev/null
 printf '%-28s %8s %6s %6s\n' words requests reads writes
 check 0 '(@a "x") b'
@@ -167,6 +179,7 @@ requests 1 'x (@a 1' --json sig
 requests 0 '(@)' play look
 requests 0 '(@"bad' play look
 requests 0 '("bad' play look
+requests 0 "$(functions 34)" module
 requests 1 '(@a 1' sig
 requests 0 '( @a)' sig
 requests 0 'module (@name "m") x' play take look reg=name look unreg=name look unreg=name

@@ -218,6 +218,36 @@ fn no_depth_of_the_text_is_a_depth_of_the_stack() {
     });
 }
 
+/// A type of six parameters, other ones for each number below 64, as text and as bytes.
+fn parameters(number: usize) -> (String, Vec<u8>) {
+    let is_wide = |digit: &usize| number >> digit & 1 == 1;
+    let words = (0..6).map(|digit| if is_wide(&digit) { " i64" } else { " i32" });
+    let bytes = (0..6).map(|digit| if is_wide(&digit) { 0x7E } else { 0x7F });
+    let text = format!("(param{})", words.collect::<String>());
+    (
+        text,
+        [vec![0x60, 0x06], bytes.collect(), vec![0x00]].concat(),
+    )
+}
+
+#[test]
+fn a_type_is_found_among_many() {
+    let (texts, types): (Vec<_>, Vec<_>) = (0..40).map(parameters).unzip();
+    let function = |text: &String| format!("(func {text}) (func {text})");
+    let text = texts.iter().map(function).collect::<String>();
+    let indices = (0..40).flat_map(|index| [index, index]);
+    let expected = [
+        HEADER,
+        b"\x01\xe9\x02\x28",
+        &types.concat(),
+        b"\x03\x51\x50",
+        &indices.collect::<Vec<u8>>(),
+        b"\x0a\xf1\x01\x50",
+        &b"\x02\x00\x0b".repeat(80),
+    ];
+    assert_eq!(parse_str(&text).unwrap(), expected.concat());
+}
+
 #[test]
 fn prefixes_are_answered() {
     let function = "(func $fN (export \"é N\") (param $x i32) (result i64) (local f32 f64)\n \
