@@ -13,3 +13,4 @@ pub mod SameTypes
 pub mod Listed
 pub mod Folding
 pub mod Lanes
+pub mod Alike

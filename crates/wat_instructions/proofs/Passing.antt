@@ -296,8 +296,16 @@ indexed_by_keeps : (i : ℕ) (o : Option FunctionType) (all ts : List Terminal) 
 indexed_by_keeps i None all ts = tt
 indexed_by_keeps i (Some t) all ts = agreed_keeps i t all (grammar.lists_of ts) ts (lists_keeps ts)
 
-closed_index_ends : (types : List FunctionType) (i : ℕ) (all ts : List Terminal) → Closing (grammar.closed_index types i all ts) ts
-closed_index_ends types i all (Close ∷ ts) = shut (grammar.indexed_by i (slice_get types i) all ts) ts (indexed_by_keeps i (slice_get types i) all ts)
+assumed_keeps : (q : Result (FunctionType × List Terminal) Fault) (ts : List Terminal) → Keeps q ts → Keeps (grammar.assumed q) ts
+assumed_keeps (Ok (t, us)) ts h = h
+assumed_keeps (Err f) ts h = tt
+
+known_keeps : (b : Bool) (i : ℕ) (o : Option FunctionType) (all ts : List Terminal) → Keeps (if b then grammar.indexed_by i o all ts else grammar.assumed (grammar.lists_of ts)) ts
+known_keeps true i o all ts = indexed_by_keeps i o all ts
+known_keeps false i o all ts = assumed_keeps (grammar.lists_of ts) ts (lists_keeps ts)
+
+closed_index_ends : (types : Types) (i : ℕ) (all ts : List Terminal) → Closing (grammar.closed_index types i all ts) ts
+closed_index_ends types i all (Close ∷ ts) = shut (if types.are_known then grammar.indexed_by i (slice_get types.types i) all ts else grammar.assumed (grammar.lists_of ts)) ts (known_keeps types.are_known i (slice_get types.types i) all ts)
 closed_index_ends types i all [] = tt
 closed_index_ends types i all (Open ∷ ts) = tt
 closed_index_ends types i all (Word w ∷ ts) = tt
@@ -308,7 +316,7 @@ closed_index_ends types i all (Float narrow wide ∷ ts) = tt
 closed_index_ends types i all (Other ∷ ts) = tt
 
 indexed_ends : (types : Types) (all : List Terminal) (q : Result (ℕ × List Terminal) Fault) (ts : List Terminal) → Keeps q ts → Closing (grammar.indexed_use types all q) ts
-indexed_ends types all (Ok (i, us)) ts h = on_closing (grammar.closed_index types.types i all us) ts us h (closed_index_ends types.types i all us)
+indexed_ends types all (Ok (i, us)) ts h = on_closing (grammar.closed_index types i all us) ts us h (closed_index_ends types i all us)
 indexed_ends types all (Err f) ts h = tt
 
 listed_alone : (types : Types) (ts : List Terminal) → Keeps (grammar.use_by types None ts) ts

@@ -339,13 +339,18 @@ abbrev pub indexed_by : ℕ → Option FunctionType → List Terminal → List T
 indexed_by i None all ts = Err (UnknownName, all)
 indexed_by i (Some t) all ts = agreed i t all (lists_of ts)
 
-abbrev pub closed_index : List FunctionType → ℕ → List Terminal → List Terminal → Result (UnnamedUse × List Terminal) Fault
-closed_index types i all (Close ∷ ts) = indexed_by i (slice_get types i) all ts
+-- the same where the types are not known: an index, which counts for nothing, and the type that is listed
+abbrev pub assumed : Result (FunctionType × List Terminal) Fault → Result (UnnamedUse × List Terminal) Fault
+assumed (Ok (t, ts)) = Ok (unnamed_use (Some 0) t, ts)
+assumed (Err f) = Err f
+
+abbrev pub closed_index : Types → ℕ → List Terminal → List Terminal → Result (UnnamedUse × List Terminal) Fault
+closed_index types i all (Close ∷ ts) = if types.are_known then indexed_by i (slice_get types.types i) all ts else assumed (lists_of ts)
 closed_index types i all ts = Err (Unexpected, ts)
 
 -- after `(` type
 abbrev pub indexed_use : Types → List Terminal → Result (ℕ × List Terminal) Fault → Result (UnnamedUse × List Terminal) Fault
-indexed_use types all (Ok (i, ts)) = closed_index types.types i all ts
+indexed_use types all (Ok (i, ts)) = closed_index types i all ts
 indexed_use types all (Err f) = Err f
 
 -- the tokens after `(` and a word, where these begin so

@@ -9,5 +9,6 @@ pub mod Names
 pub mod Indices
 pub mod Machine
 pub mod Law
+pub mod Uses
 pub mod Views
 pub mod Parts

@@ -33,7 +33,7 @@ stack fs = stack_on fs []
 
 abbrev pub scope_of : Scope → Context
 scope_of s = record {
-  types = record { names = s.type_names.now; types = map type_of s.types.now };
+  types = record { names = s.type_names.now; types = map type_of s.types.now; are_known = s.are_types_known };
   locals = s.locals.now;
   funcs = s.funcs.now;
   tables = s.tables.now;

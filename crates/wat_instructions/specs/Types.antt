@@ -15,10 +15,12 @@ pub record FunctionType : Type 0 where
 abbrev pub from_to : List ValueType → List ValueType → FunctionType
 from_to ps rs = record { params = ps; results = rs }
 
--- 6.1.3: the types of the context, by name and by index
+-- 6.1.3: the types of the context, by name and by index; and whether these are known, as they are in a module. Who seeks the types that type uses bring
+-- (6.6.3) reads without them: any index is then taken, and is of the type that is listed.
 pub record Types : Type 0 where
   pub names : List Label
   pub types : List FunctionType
+  pub are_known : Bool
 
 -- 6.6.3: a type use of an instruction, whose parameters have no names: the index of its type, where it says one, and its type
 pub record UnnamedUse : Type 0 where
@@ -27,6 +29,14 @@ pub record UnnamedUse : Type 0 where
 
 abbrev pub unnamed_use : Option ℕ → FunctionType → UnnamedUse
 unnamed_use i t = record { index = i; type = t }
+
+-- 6.6.3: the type that a type use brings: one without an index brings its own
+abbrev pub brought_by : Option ℕ → FunctionType → List FunctionType
+brought_by None t = t ∷ []
+brought_by (Some i) t = []
+
+abbrev pub brought : UnnamedUse → List FunctionType
+brought u = brought_by u.index u.type
 
 -- an index that is said, or another
 abbrev pub index_or : Option ℕ → ℕ → ℕ

@@ -1,5 +1,6 @@
 //! What holds of the definitions.
 ghost use Rattle.wat_instructions.specs.Law.{FoldedIsGrammar, InstructionsAreBalanced, InstructionsTakeTokens, MachineIsGrammar};
+ghost use Rattle.wat_instructions.specs.Uses.{MoreTypesKeep, UnknownTypesBring};
 
 /// What is read is what is spelled. The function does nothing: its contract is the law.
 pub fn machine_is_grammar()
@@ -15,4 +16,11 @@ pub fn folded_is_grammar()
 pub fn instructions_are_balanced()
     ensures balanced { InstructionsAreBalanced }
     ensures taken { InstructionsTakeTokens }
+{}
+
+/// Instructions are the same by more types. Without the types they bring the same. The function does
+/// nothing.
+pub fn types_are_looked_up()
+    ensures more { MoreTypesKeep }
+    ensures unknown { UnknownTypesBring }
 {}
