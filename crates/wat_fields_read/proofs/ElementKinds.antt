@@ -13,12 +13,12 @@ use Rattle.wat_instructions.specs.declared.pieces.ReferenceType.TheVariants as r
 use Rattle.wat_fields.specs.declared.fields.Limits.{Limits}
 use Rattle.wat_fields.specs.Fields.{Many, by_none, by_more, by_number, by_identifier, LimitsAre, by_min, by_min_max, UseIs, by_use, by_no_use, ExpressionIs, by_word_expression, by_instruction, Elements, ElemMode, Passive, Active, Declarative, target, ItemIs, by_item, FunctionIs, by_function, ElementsAre, by_items, by_functions, ref_func, table_of, Field, Table, Elem, FieldIs, by_passive_elem, by_declarative_elem, by_active_elem, by_function_elem, is_u32}
 use Rattle.wat_instructions.specs.Types.{Types}
-use Rattle.wat_fields.specs.Reading.{Read, and_then, after, all, closed, closing, twice_closed, expression_at, one_element, element_item, one_function, function_item, either_at, table_limits, table_with, table_elements, table_open, table_by, table_at, used_at, elements_by, elements_at, elem_list, functions_list, first_table, said_table, active_elem, elem_word, elem_after, elem_at}
-use Rattle.wat_fields.proofs.Headers.{IsNoInstruction}
-use Rattle.wat_fields.proofs.Items.{word_is, is_word, closing_inv, closed_is, after_is}
-use Rattle.wat_fields.proofs.Manies.{Gives, gives_of, and_then_inv, Brings, Reads, all_sound, all_complete, many_takes, many_past}
-use Rattle.wat_fields.proofs.SegmentKinds.{Laws, Keeps, used_sound, used_complete, expression_sound, expression_complete, ends_expression, expression_keeps, expression_opens, offset_is_none}
-use Rattle.wat_fields.proofs.TypeRules.{index_sound, index_complete, index_pass, twice_closed_is}
+use Rattle.wat_fields_read.specs.Reading.{Read, and_then, after, all, closed, closing, twice_closed, expression_at, one_element, element_item, one_function, function_item, either_at, table_limits, table_with, table_elements, table_open, table_by, table_at, used_at, elements_by, elements_at, elem_list, functions_list, first_table, said_table, active_elem, elem_word, elem_after, elem_at}
+use Rattle.wat_fields_read.proofs.Headers.{IsNoInstruction}
+use Rattle.wat_fields_read.proofs.Items.{word_is, is_word, closing_inv, closed_is, after_is}
+use Rattle.wat_fields_read.proofs.Manies.{Gives, gives_of, and_then_inv, Brings, Reads, all_sound, all_complete, many_takes, many_past}
+use Rattle.wat_fields_read.proofs.SegmentKinds.{Laws, Keeps, used_sound, used_complete, expression_sound, expression_complete, ends_expression, expression_keeps, expression_opens, offset_is_none}
+use Rattle.wat_fields_read.proofs.TypeRules.{index_sound, index_complete, index_pass, twice_closed_is}
 
 pub table_is_none : IsNoInstruction (codes "table")
 unfolding grammar.plain mnemonics low high prefixed low_vectors high_vectors

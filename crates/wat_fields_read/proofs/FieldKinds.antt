@@ -16,15 +16,15 @@ use Rattle.wat_instructions.specs.declared.pieces.ReferenceType.{ReferenceType}
 use Rattle.wat_instructions.specs.declared.pieces.ReferenceType.TheVariants as reference
 use Rattle.wat_fields.specs.Fields.{Many, Group, InlineExport, IndexIs, by_number, by_identifier, LimitsAre, TypeUseIs, by_lists, by_index, by_both, ExternIs, by_type_use, by_table_type, by_memory_type, by_global_type, Variable, TypeUse, type_use, function_type, ExternType, FuncType, OfTable, OfMemory, OfGlobal, extern_space, Definition, definition, Field, TypeField, Import, Func, Table, Memory, Global, Export, Start, FieldIs, by_type, by_import, by_inline_import, by_func, by_table, by_memory, by_global, by_export, by_start, name_of, names_of, unnamed, with_locals, space_of, Data, StringIs, target, Elem, Passive, Active, Declarative, Elements, table_of, is_u32, by_table_items, by_table_functions, by_passive_elem, by_declarative_elem, by_active_elem, by_function_elem, by_memory_data, by_passive_data, by_active_data}
 use Rattle.wat_instructions.specs.Names.{are_distinct}
-use Rattle.wat_fields.specs.Reading.{and_then, after, all, closed, closing, utf8_text, export, export_item, group_item, group, function, func_at, locals, instructions, agreed, lists_after, listed_use, indexed_use, use_by, use_at, limits_at, table_type_at, table_limits, table_open, table_by, table_at, elem_at, memory_type, memory_by, memory_at, segment_at, data_at, global_type_at, global_at, defined, import_names, func_type, extern_at, imported, inline_import, item_by, item_at, import_by, import_word, import_open, import_at, type_by, type_at, type_field, twice_closed, external_by, external_word, external_at, export_at, start_at, field_by, field, field_item}
+use Rattle.wat_fields_read.specs.Reading.{and_then, after, all, closed, closing, utf8_text, export, export_item, group_item, group, function, func_at, locals, instructions, agreed, lists_after, listed_use, indexed_use, use_by, use_at, limits_at, table_type_at, table_limits, table_open, table_by, table_at, elem_at, memory_type, memory_by, memory_at, segment_at, data_at, global_type_at, global_at, defined, import_names, func_type, extern_at, imported, inline_import, item_by, item_at, import_by, import_word, import_open, import_at, type_by, type_at, type_field, twice_closed, external_by, external_word, external_at, export_at, start_at, field_by, field, field_item}
 use Rattle.wat_fields.proofs.FunctionTypes.{type_is, type_same}
-use Rattle.wat_fields.proofs.Headers.{Ends, IsNoInstruction, Listed, NoLists, lists_sound, lists_complete, ends_lists, ends_groups, ends_body, item_ends, other_word, export_is_none, import_is_none, type_is_none, param_is_none, result_is_none, local_is_none}
-use Rattle.wat_fields.proofs.Items.{exports_read, export_past, groups_read, group_past, group_takes, word_is, closing_inv, closed_is, utf8_inv, begins, after_is}
-use Rattle.wat_fields.proofs.Manies.{Gives, gives_of, of_gives, and_then_inv, Brings, Reads, all_sound, all_complete, many_takes, many_past}
+use Rattle.wat_fields_read.proofs.Headers.{Ends, IsNoInstruction, Listed, NoLists, lists_sound, lists_complete, ends_lists, ends_groups, ends_body, item_ends, other_word, export_is_none, import_is_none, type_is_none, param_is_none, result_is_none, local_is_none}
+use Rattle.wat_fields_read.proofs.Items.{exports_read, export_past, groups_read, group_past, group_takes, word_is, closing_inv, closed_is, utf8_inv, begins, after_is}
+use Rattle.wat_fields_read.proofs.Manies.{Gives, gives_of, of_gives, and_then_inv, Brings, Reads, all_sound, all_complete, many_takes, many_past}
 pub use Rattle.wat_fields.proofs.SegmentKinds.{Laws}
-use Rattle.wat_fields.proofs.ElementKinds.{Elems, of_items, of_functions, elem_sound, table_elements_sound, table_word_complete, limits_first, either_items, either_functions, items_keep, functions_keep, elements_keep, passive_elem_complete, declarative_elem_complete, active_elem_complete, function_elem_complete}
-use Rattle.wat_fields.proofs.SegmentKinds.{Keeps, finds_of, data_sound, passive_complete, active_complete, memory_data_sound, memory_data_complete, strings_keep, used_keeps, expression_keeps}
-use Rattle.wat_fields.proofs.TypeRules.{Passes, IsTableType, limits_sound, limits_complete, limits_pass, limits_no_export, limits_no_import, limits_no_data, table_type_sound, table_type_complete, table_type_pass, global_type_sound, global_type_complete, global_type_pass, global_type_no_export, global_type_no_import, index_sound, index_complete, index_pass, twice_closed_is}
+use Rattle.wat_fields_read.proofs.ElementKinds.{Elems, of_items, of_functions, elem_sound, table_elements_sound, table_word_complete, limits_first, either_items, either_functions, items_keep, functions_keep, elements_keep, passive_elem_complete, declarative_elem_complete, active_elem_complete, function_elem_complete}
+use Rattle.wat_fields_read.proofs.SegmentKinds.{Keeps, finds_of, data_sound, passive_complete, active_complete, memory_data_sound, memory_data_complete, strings_keep, used_keeps, expression_keeps}
+use Rattle.wat_fields_read.proofs.TypeRules.{Passes, IsTableType, limits_sound, limits_complete, limits_pass, limits_no_export, limits_no_import, limits_no_data, table_type_sound, table_type_complete, table_type_pass, global_type_sound, global_type_complete, global_type_pass, global_type_no_export, global_type_no_import, index_sound, index_complete, index_pass, twice_closed_is}
 
 -- Type uses.
 

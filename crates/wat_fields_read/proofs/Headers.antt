@@ -8,9 +8,9 @@ use Rattle.wat_instructions.specs.Grammar as grammar
 use Rattle.wat_instructions.specs.Table.{mnemonics, low, high, prefixed, low_vectors, high_vectors}
 use Rattle.wat_instructions.specs.Terminals.{Terminal, Close, Word, Id, Label}
 use Rattle.wat_fields.specs.Fields.{Many, by_none, by_more, Group, by_named, by_listed, Variable}
-use Rattle.wat_fields.specs.Reading.{Read, and_then, after, begun, group, group_item, params, results}
-use Rattle.wat_fields.proofs.Items.{groups_read, word_is}
-use Rattle.wat_fields.proofs.Manies.{Gives, and_then_inv, all_sound, all_complete}
+use Rattle.wat_fields_read.specs.Reading.{Read, and_then, after, begun, group, group_item, params, results}
+use Rattle.wat_fields_read.proofs.Items.{groups_read, word_is}
+use Rattle.wat_fields_read.proofs.Manies.{Gives, and_then_inv, all_sound, all_complete}
 
 -- no group of this word begins here
 abbrev pub Ends : List ℕ → List Terminal → Type 0

@@ -9,8 +9,8 @@ use Rattle.wat_instructions.specs.Grammar.{Fault, value_type}
 use Rattle.wat_instructions.specs.Law.{past}
 use Rattle.wat_instructions.specs.Terminals.{Terminal, Open, Close, Word, Id, Integer, Text, Float, Other}
 use Rattle.wat_fields.specs.Fields.{Many, by_none, by_more, ValueTypeIs, by_word, Group, by_named, by_listed, InlineExport, by_inline_export, Variable, variable, unnamed}
-use Rattle.wat_fields.specs.Reading.{Read, and_then, all, closed, closing, after, after_word, begun, utf8_text, export, export_item, typed, value_item, listed, named_type, named_one, group, group_item}
-use Rattle.wat_fields.proofs.Manies.{Gives, gives_of, and_then_inv, Brings, Reads, all_sound, all_complete, many_takes, many_past}
+use Rattle.wat_fields_read.specs.Reading.{Read, and_then, all, closed, closing, after, after_word, begun, utf8_text, export, export_item, typed, value_item, listed, named_type, named_one, group, group_item}
+use Rattle.wat_fields_read.proofs.Manies.{Gives, gives_of, and_then_inv, Brings, Reads, all_sound, all_complete, many_takes, many_past}
 
 -- the word that is compared
 pub word_is : (v word : List ℕ) → bytes_eq v word ≡ true → v ≡ word

@@ -10,8 +10,8 @@ use Rattle.wat_instructions.specs.Grammar.{Fault}
 use Rattle.wat_instructions.specs.Law.{past}
 use Rattle.wat_instructions.specs.Terminals.{Terminal, terminal}
 use Rattle.wat_fields.specs.Fields.{Many, by_none, by_more}
-use Rattle.wat_fields.specs.Views.{ItemFaults}
-use Rattle.wat_fields.specs.Reading.{Read, Item, and_then, many, many_by, all}
+use Rattle.wat_fields_read.specs.Views.{ItemFaults}
+use Rattle.wat_fields_read.specs.Reading.{Read, Item, and_then, many, many_by, all}
 
 -- what a reading gives
 abbrev pub Gives : {V : Type 0} → Read V → V → List Terminal → Type 0

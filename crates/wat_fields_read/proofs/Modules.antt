@@ -13,14 +13,14 @@ use Rattle.wat_fields.specs.declared.fields.Limits.{Limits}
 use Rattle.wat_fields.specs.declared.fields.IndexSpace.TheVariants as space
 use Rattle.wat_instructions.specs.Types.{Types}
 use Rattle.wat_fields.specs.Fields.{Many, by_none, by_more, Field, FieldIs, by_type, by_import, by_inline_import, by_func, by_table, by_memory, by_global, by_export, by_start, binding, Definition, FieldsAre, Module, by_module, by_fields, all_distinct, context_of, types_in, binding_of, bindings_of, definition_of, definitions_of, imports_first, space_of, starts_of, InlineExport, LimitsAre, by_min, by_min_max, elem_of, elems_of, data_of, datas_of, by_table_items, by_table_functions, by_passive_elem, by_declarative_elem, by_active_elem, by_function_elem, by_memory_data, by_passive_data, by_active_data}
-use Rattle.wat_fields.specs.Law.{ReadingIsGrammar}
-use Rattle.wat_fields.specs.Reading.{Read, after, all, export, export_item, elem_name_at, inline_elem, elem_after_type, data_name_at, inline_data, unnamed_by, field_item, fields_at, fields_of, binding_by, import_binding, binding_at, definition_by, definition_at, type_at, whole, whole_by, ended, at_end, ended_by, ordered, starts, Before, Inside}
-use Rattle.wat_fields.proofs.Headers.{item_ends, other_word}
-use Rattle.wat_fields.proofs.Items.{Finds, word_is, begins, after_is, exports_read}
-use Rattle.wat_fields.proofs.TypeRules.{limits_no_data, limits_no_export}
-use Rattle.wat_fields.proofs.FieldKinds.{Laws, Closes, field_after, fields_read, label_past, extern_space_is, type_complete}
-use Rattle.wat_fields.proofs.Manies.{all_sound, all_complete}
-use Rattle.wat_fields.proofs.Manies as manies
+use Rattle.wat_fields_read.specs.Law.{ReadingIsGrammar}
+use Rattle.wat_fields_read.specs.Reading.{Read, after, all, export, export_item, elem_name_at, inline_elem, elem_after_type, data_name_at, inline_data, unnamed_by, field_item, fields_at, fields_of, binding_by, import_binding, binding_at, definition_by, definition_at, type_at, whole, whole_by, ended, at_end, ended_by, ordered, starts, Before, Inside}
+use Rattle.wat_fields_read.proofs.Headers.{item_ends, other_word}
+use Rattle.wat_fields_read.proofs.Items.{Finds, word_is, begins, after_is, exports_read}
+use Rattle.wat_fields_read.proofs.TypeRules.{limits_no_data, limits_no_export}
+use Rattle.wat_fields_read.proofs.FieldKinds.{Laws, Closes, field_after, fields_read, label_past, extern_space_is, type_complete}
+use Rattle.wat_fields_read.proofs.Manies.{all_sound, all_complete}
+use Rattle.wat_fields_read.proofs.Manies as manies
 
 -- Where fields begin, by the parentheses alone.
 

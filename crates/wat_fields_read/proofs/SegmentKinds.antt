@@ -11,11 +11,11 @@ use Rattle.wat_instructions.specs.Table.{mnemonics, low, high, prefixed, low_vec
 use Rattle.wat_instructions.specs.Terminals.{Terminal, Open, Close, Word, Id, Integer, Text, Float, Other, Label}
 use Rattle.wat_fields.specs.Fields.{Many, by_none, by_more, IndexIs, StringIs, by_string, UseIs, by_use, by_no_use, ExpressionIs, by_word_expression, by_instruction, Target, target, Field, Memory, Data, FieldIs, by_passive_data, by_active_data, is_u32, pages_of}
 use Rattle.wat_instructions.specs.Types.{Types}
-use Rattle.wat_fields.specs.Reading.{and_then, after, all, closed, closing, limits, twice_closed, string_item, memory_of, memory_data, used_by, used_at, one_at, expression_by, expression_at, data_strings, active_data, data_after, data_at}
-use Rattle.wat_fields.proofs.Headers.{Ends, IsNoInstruction, not_found, other_word}
-use Rattle.wat_fields.proofs.Items.{word_is, closing_inv, closed_is, Finds, begins, after_is}
-use Rattle.wat_fields.proofs.Manies.{Gives, gives_of, of_gives, and_then_inv, Brings, Reads, all_sound, all_complete, many_takes, many_past}
-use Rattle.wat_fields.proofs.TypeRules.{index_sound, index_complete, index_pass, twice_closed_is}
+use Rattle.wat_fields_read.specs.Reading.{and_then, after, all, closed, closing, limits, twice_closed, string_item, memory_of, memory_data, used_by, used_at, one_at, expression_by, expression_at, data_strings, active_data, data_after, data_at}
+use Rattle.wat_fields_read.proofs.Headers.{Ends, IsNoInstruction, not_found, other_word}
+use Rattle.wat_fields_read.proofs.Items.{word_is, closing_inv, closed_is, Finds, begins, after_is}
+use Rattle.wat_fields_read.proofs.Manies.{Gives, gives_of, of_gives, and_then_inv, Brings, Reads, all_sound, all_complete, many_takes, many_past}
+use Rattle.wat_fields_read.proofs.TypeRules.{index_sound, index_complete, index_pass, twice_closed_is}
 
 -- what holds of instructions
 pub record Laws : Type 0 where

@@ -13,9 +13,9 @@ use Rattle.wat_fields.specs.declared.fields.Limits.{Limits}
 use Rattle.wat_instructions.specs.declared.pieces.ReferenceType.{ReferenceType}
 use Rattle.wat_fields.specs.declared.fields.TableType.{TableType}
 use Rattle.wat_fields.specs.Fields.{IndexIs, by_number, by_identifier, LimitsAre, by_min, by_min_max, GlobalTypeIs, by_constant, by_mutable, is_u32}
-use Rattle.wat_fields.specs.Reading.{and_then, closed, limits, max_at, limits_at, reference_by, reference_at, table_type, table_type_at, global_type, constant_by, mutable_by, mutable_type, mutable_at, global_type_at, twice_closed, after, export_item}
-use Rattle.wat_fields.proofs.Items.{GivesAll, closing_inv, closed_is, word_is, is_word}
-use Rattle.wat_fields.proofs.Manies.{Gives, gives_of, and_then_inv}
+use Rattle.wat_fields_read.specs.Reading.{and_then, closed, limits, max_at, limits_at, reference_by, reference_at, table_type, table_type_at, global_type, constant_by, mutable_by, mutable_type, mutable_at, global_type_at, twice_closed, after, export_item}
+use Rattle.wat_fields_read.proofs.Items.{GivesAll, closing_inv, closed_is, word_is, is_word}
+use Rattle.wat_fields_read.proofs.Manies.{Gives, gives_of, and_then_inv}
 
 -- Numbers of 32 bits.
 

@@ -1,18 +1,20 @@
 //! Element segments, and tables that bring their elements.
 ghost use Rattle.std.specs.Prelude.{◌≡◌, [], ◌∷◌, Ok, Err, Some, codes, map, MatchOption, MatchResult};
 ghost use Rattle.wat_fields.specs.Fields as grammar;
-ghost use Rattle.wat_fields.specs.Reading as reading;
-ghost use Rattle.wat_fields.specs.Views.{IsItem, ItemFaults, NoItem, context_of, field_of, items_of, mode_of, text_of};
+ghost use Rattle.wat_fields_read.specs.Reading as reading;
+ghost use Rattle.wat_fields.specs.Views.{field_of, items_of, mode_of, text_of};
+ghost use Rattle.wat_fields_read.specs.Views.{IsItem, ItemFaults, NoItem, context_of};
 ghost use Rattle.wat_instructions.specs.Grammar.{label_of, reference_type};
 ghost use Rattle.wat_instructions.specs.Parts.{Faults, fault_of};
 ghost use Rattle.wat_instructions.specs.Terminals.{label, terminal};
 
-use crate::fields::{Elem, ElemMode, Element, Field, Left, Limits, Table, TableType, Target};
 use crate::header::{after, closed};
+use crate::module::Left;
 use crate::names::Names;
 use crate::segments::{expression, used};
 use crate::types::{table_type, twice_closed};
 use std::alloc::Global;
+use wat_fields::fields::{Elem, ElemMode, Element, Field, Limits, Table, TableType, Target};
 use wat_instructions::pieces::{Fault, FaultKind, Name, Piece, ReferenceType, Refusal};
 use wat_instructions::reading;
 

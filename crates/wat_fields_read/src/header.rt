@@ -2,14 +2,16 @@
 ghost use Rattle.std.specs.Prelude.{◌≡◌, [], ◌∷◌, Ok, Err, map, true, false, codes, IfOk, None, Some, MatchOption, MatchResult};
 ghost use Rattle.std.specs.Str.{is_utf8};
 ghost use Rattle.wat_fields.specs.Fields.{unnamed};
-ghost use Rattle.wat_fields.specs.Reading as reading;
-ghost use Rattle.wat_fields.specs.Views.{IsItem, ItemFaults, NoItem, text_of, variable_of};
+ghost use Rattle.wat_fields_read.specs.Reading as reading;
+ghost use Rattle.wat_fields.specs.Views.{text_of, variable_of};
+ghost use Rattle.wat_fields_read.specs.Views.{IsItem, ItemFaults, NoItem};
 ghost use Rattle.wat_instructions.specs.Parts.{Faults, fault_of};
 ghost use Rattle.wat_instructions.specs.Terminals.{terminal};
 
-use crate::fields::{Left, Variable};
+use crate::module::Left;
 use std::alloc::{AllocError, Global};
 use std::str;
+use wat_fields::fields::Variable;
 use wat_instructions::pieces::{Fault, FaultKind, Name, Piece, Refusal, ValueType};
 use wat_instructions::reading::value_type;
 

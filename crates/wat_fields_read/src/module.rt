@@ -1,14 +1,13 @@
-//! The fields of a module.
+//! A module, from tokens to its fields.
 ghost use Rattle.std.specs.Prelude.{◌≡◌, [], ◌∷◌, List, Ok, Err, Some, length, map, IfOk, MatchOption, MatchResult};
-ghost use Rattle.wat_fields.specs.Binary.{module_bytes};
 ghost use Rattle.wat_fields.specs.Fields as grammar;
-ghost use Rattle.wat_fields.specs.Reading as reading;
-ghost use Rattle.wat_fields.specs.Views.{IsItem, ItemFaults, NoItem, context_of, extern_of, field_of, fields_of, text_of, types_of, use_of, variable_of, with_names};
+ghost use Rattle.wat_fields_read.specs.Reading as reading;
+ghost use Rattle.wat_fields.specs.Views.{extern_of, field_of, fields_of, text_of, use_of, variable_of};
+ghost use Rattle.wat_fields_read.specs.Views.{IsItem, ItemFaults, NoItem, context_of, types_of, with_names};
 ghost use Rattle.wat_instructions.specs.Grammar.{label_of};
 ghost use Rattle.wat_instructions.specs.Parts.{Faults, IsMemory, fault_of, scope_of};
 ghost use Rattle.wat_instructions.specs.Terminals.{label, terminal};
 
-use crate::binary::module_bytes;
 use crate::elements::table_at;
 use crate::header::{after, closed, exports, utf8_text, variables};
 use crate::names::{Names, names_in, names_of, variable_names};
@@ -16,184 +15,13 @@ use crate::segments::{memory_at, segment};
 use crate::types::{global_type, limits, space_of, table_type, twice_closed};
 use crate::uses::{type_at, type_use};
 use std::alloc::Global;
+use wat_fields::fields::{
+    Export, ExternType, Field, Function, GlobalVariable, Import, IndexSpace, TypeUse, Variable,
+};
 use wat_instructions::machine;
 use wat_instructions::names::IndexedNames;
-use wat_instructions::pieces::{
-    Fault, FaultKind, Instruction, Name, Piece, ReferenceType, Refusal, ValueType,
-};
+use wat_instructions::pieces::{Fault, FaultKind, Instruction, Name, Piece, Refusal};
 use wat_instructions::reading::{self, Scope};
-use wat_instructions::types::FunctionType;
-
-/// A parameter, a result or a local variable.
-#[derive(Clone, Copy)]
-pub struct Variable<'p> {
-    pub name: Name<'p>,
-    pub of: ValueType,
-}
-
-/// A type that a field defines.
-#[derive(Drop)]
-pub struct Definition<'p> {
-    pub name: Name<'p>,
-    pub of: FunctionType,
-}
-
-/// A type use: the index of its type, where it says one; and its parameters and results.
-#[derive(Drop)]
-pub struct TypeUse<'p> {
-    pub index: Option<usize>,
-    pub params: Vec<Variable<'p>>,
-    pub results: Vec<Variable<'p>>,
-}
-
-/// A function.
-#[derive(Drop)]
-pub struct Function<'p> {
-    pub name: Name<'p>,
-    pub exports: Vec<&'p [u8]>,
-    pub uses: TypeUse<'p>,
-    pub locals: Vec<Variable<'p>>,
-    pub body: Vec<Instruction>,
-}
-
-/// An index space.
-#[derive(Clone, Copy)]
-pub enum IndexSpace {
-    Func,
-    Table,
-    Mem,
-    Global,
-}
-
-/// The least size of a memory or a table, and the largest where there is one.
-#[derive(Clone, Copy)]
-pub struct Limits {
-    pub min: u32,
-    pub max: Option<u32>,
-}
-
-/// The type of a table.
-#[derive(Clone, Copy)]
-pub struct TableType {
-    pub limits: Limits,
-    pub element: ReferenceType,
-}
-
-/// The type of a global variable.
-#[derive(Clone, Copy)]
-pub struct GlobalType {
-    pub is_mutable: bool,
-    pub value: ValueType,
-}
-
-/// An element: a function by its index, which is an expression of `ref.func` alone; or any
-/// expression, by its instructions.
-#[derive(Drop)]
-pub enum Element {
-    Function(usize),
-    Expression(Vec<Instruction>),
-}
-
-/// A table, and the elements that it brings with it, if any.
-#[derive(Drop)]
-pub struct Table<'p> {
-    pub name: Name<'p>,
-    pub exports: Vec<&'p [u8]>,
-    pub of: TableType,
-    pub elements: Option<Vec<Element>>,
-}
-
-/// A memory, and the strings of the bytes that it brings with it, if any.
-#[derive(Drop)]
-pub struct Memory<'p> {
-    pub name: Name<'p>,
-    pub exports: Vec<&'p [u8]>,
-    pub limits: Limits,
-    pub data: Option<Vec<&'p [u8]>>,
-}
-
-/// Where a segment is put: a memory or a table, by its index, and the offset in it, by instructions.
-#[derive(Drop)]
-pub struct Target {
-    pub index: usize,
-    pub offset: Vec<Instruction>,
-}
-
-/// What is done with an element segment.
-#[derive(Drop)]
-pub enum ElemMode {
-    Passive,
-    Active(Target),
-    Declarative,
-}
-
-/// An element segment: its elements are of a type.
-#[derive(Drop)]
-pub struct Elem<'p> {
-    pub name: Name<'p>,
-    pub mode: ElemMode,
-    pub of: ReferenceType,
-    pub elements: Vec<Element>,
-}
-
-/// A data segment: passive, or put where its target says; and the strings of its bytes.
-#[derive(Drop)]
-pub struct Data<'p> {
-    pub name: Name<'p>,
-    pub target: Option<Target>,
-    pub strings: Vec<&'p [u8]>,
-}
-
-/// A global variable, and the instructions of its first value.
-#[derive(Drop)]
-pub struct GlobalVariable<'p> {
-    pub name: Name<'p>,
-    pub exports: Vec<&'p [u8]>,
-    pub of: GlobalType,
-    pub first: Vec<Instruction>,
-}
-
-/// What is imported.
-#[derive(Drop)]
-pub enum ExternType<'p> {
-    Func(TypeUse<'p>),
-    Table(TableType),
-    Memory(Limits),
-    Global(GlobalType),
-}
-
-/// An import of an item from a module.
-#[derive(Drop)]
-pub struct Import<'p> {
-    pub from: &'p [u8],
-    pub item: &'p [u8],
-    pub name: Name<'p>,
-    pub exports: Vec<&'p [u8]>,
-    pub what: ExternType<'p>,
-}
-
-/// An export of the item of an index.
-#[derive(Clone, Copy)]
-pub struct Export<'p> {
-    pub name: &'p [u8],
-    pub space: IndexSpace,
-    pub index: usize,
-}
-
-/// A field of a module.
-#[derive(Drop)]
-pub enum Field<'p> {
-    Type(Definition<'p>),
-    Import(Import<'p>),
-    Func(Function<'p>),
-    Table(Table<'p>),
-    Memory(Memory<'p>),
-    Global(GlobalVariable<'p>),
-    Export(Export<'p>),
-    Start(usize),
-    Data(Data<'p>),
-    Elem(Elem<'p>),
-}
 
 /// What is left to read.
 #[derive(Clone, Copy)]
@@ -201,26 +29,26 @@ pub(crate) struct Left<'p, 'a> {
     pub(crate) pieces: &'p [Piece<'a>],
 }
 
-/// The bytes of a module.
+/// The fields of a module.
 ///
-/// It answers bytes exactly where the grammar spells a module, and these are its bytes; any other
+/// It answers fields exactly where the grammar spells a module, and they are its fields; any other
 /// refusal is the first fault, or out of memory.
-pub fn compile<'p, 'a>(alloc: Global, pieces: &'p [Piece<'a>]) -> Result<Vec<u8>, Refusal<'p, 'a>>
-    ensures compiled { IfOk result (λ bytes. (fs : List grammar.Field) × grammar.Module (map terminal pieces.now) fs × (bytes.items ≡ module_bytes fs)) }
+pub fn module<'p, 'a>(
+    alloc: Global,
+    pieces: &'p [Piece<'a>],
+) -> Result<Vec<Field<'p>>, Refusal<'p, 'a>>
+    ensures read { IfOk result (λ fields. grammar.Module (map terminal pieces.now) (fields_of fields.items)) }
     ensures spelled { (fs : List grammar.Field) → grammar.Module (map terminal pieces.now) fs →
-        MatchResult result (λ bytes. bytes.items ≡ module_bytes fs) IsMemory }
+        MatchResult result (λ fields. fields_of fields.items ≡ fs) IsMemory }
     ensures refused { MatchResult result (λ _. Unit {0}) (λ e. Faults (reading.whole (map terminal pieces.now)) e) }
 {
     crate::laws::reading_is_grammar();
-    match module(alloc, pieces) {
-        Ok(fields) => Ok(module_bytes(alloc, &fields)?),
-        Err(refusal) => Err(refusal),
-    }
+    whole(alloc, pieces)
 }
 
-/// The fields of a module.
+/// The same, by what is read.
 #[tactic(auto, unfolding(crate::specs::Reading::whole))]
-fn module<'p, 'a>(alloc: Global, pieces: &'p [Piece<'a>]) -> Result<Vec<Field<'p>>, Refusal<'p, 'a>>
+fn whole<'p, 'a>(alloc: Global, pieces: &'p [Piece<'a>]) -> Result<Vec<Field<'p>>, Refusal<'p, 'a>>
     ensures { MatchResult result
         (λ fs. reading.whole (map terminal pieces.now) ≡ Ok (fields_of fs.items))
         (λ e. Faults (reading.whole (map terminal pieces.now)) e) }

@@ -3,18 +3,20 @@ ghost use Rattle.std.specs.Prelude.{◌≡◌, ◌++◌, ◌∷◌, [], IfOk, If
 ghost use Rattle.std.specs.List.{flat_map};
 ghost use Rattle.wat_fields.specs.Fields.{all_distinct, definition_name, definition_type, is_space, name_of, names_in, names_of};
 ghost use Rattle.wat_fields.specs.Fields as grammar;
-ghost use Rattle.wat_fields.specs.Reading as reading;
-ghost use Rattle.wat_fields.specs.Views.{binding_of, context_of, definition_of, depth_of, left_of, types_of, variable_of};
+ghost use Rattle.wat_fields_read.specs.Reading as reading;
+ghost use Rattle.wat_fields.specs.Views.{definition_of, variable_of};
+ghost use Rattle.wat_fields_read.specs.Views.{binding_of, context_of, depth_of, left_of, types_of};
 ghost use Rattle.wat_instructions.specs.Grammar.{label_of};
 ghost use Rattle.wat_instructions.specs.Names.{are_distinct};
 ghost use Rattle.wat_instructions.specs.Terminals.{label, terminal};
 ghost use Rattle.wat_instructions.specs.Views.{type_of};
 
-use crate::fields::{Definition, IndexSpace, Left, Variable};
 use crate::header::{after, exports};
+use crate::module::Left;
 use crate::types::space_of;
 use crate::uses::type_at;
 use std::alloc::{AllocError, Global};
+use wat_fields::fields::{Definition, IndexSpace, Variable};
 use wat_instructions::names::IndexedNames;
 use wat_instructions::pieces::{Name, Piece, Refusal};
 use wat_instructions::reading::label;

@@ -1,27 +1,27 @@
 //! Data segments, and what segments use.
 ghost use Rattle.std.specs.Prelude.{◌≡◌, ◌<◌, ◌≤◌, ◌^◌, [], ◌∷◌, Ok, Err, length, map, IfErr, IfOk, MatchOption, MatchResult};
 ghost use Rattle.wat_fields.specs.Fields as grammar;
-ghost use Rattle.wat_fields.specs.Reading as reading;
-ghost use Rattle.wat_fields.specs.Views.{IsItem, ItemFaults, NoItem, context_of, field_of, target_of, text_of, together};
+ghost use Rattle.wat_fields_read.specs.Reading as reading;
+ghost use Rattle.wat_fields.specs.Views.{field_of, target_of, text_of, together};
+ghost use Rattle.wat_fields_read.specs.Views.{IsItem, ItemFaults, NoItem, context_of};
 ghost use Rattle.wat_instructions.specs.Grammar.{label_of};
 ghost use Rattle.wat_instructions.specs.Parts.{Faults, fault_of};
 ghost use Rattle.wat_instructions.specs.Terminals.{label, terminal};
 
 use crate::elements::elem_at;
-use crate::fields::{Data, Field, Left, Limits, Memory, Target, scope};
 use crate::header::{after, closed};
+use crate::module::{Left, scope};
 use crate::names::Names;
 use crate::types::{limits, twice_closed};
 use std::alloc::{AllocError, Global};
+use wat_fields::fields::{Data, Field, Limits, Memory, Target};
+use wat_fields::strings::len_of;
 use wat_instructions::names::IndexedNames;
 use wat_instructions::pieces::{Fault, FaultKind, Instruction, Name, Piece, Refusal};
 use wat_instructions::{machine, reading};
 
 /// The bytes of a page of a memory.
 const PAGE: usize = 0x1_0000;
-
-/// No slice has more bytes.
-const MOST: usize = isize::MAX as usize;
 
 /// Strings.
 fn strings<'p, 'a>(
@@ -154,23 +154,6 @@ fn memory_of<'p, 'a>(
         }),
         rest,
     ))
-}
-
-/// How many bytes these strings have together. Out of memory where they are more than a `Vec` can
-/// have.
-pub(crate) fn len_of(strings: &[&[u8]]) -> Result<usize, AllocError>
-    ensures is { IfOk result (λ len. len ≡ length (together strings.now)) }
-    ensures small { IfOk result (λ len. len < 2 ^ 63) }
-    ensures refused { IfErr result (λ e. 2 ^ 63 ≤ length (together strings.now)) }
-{
-    let mut len = 0;
-    for string in strings {
-        len += string.len();
-        if len > MOST {
-            return Err(AllocError);
-        }
-    }
-    Ok(len)
 }
 
 /// How many pages hold the bytes of these strings.

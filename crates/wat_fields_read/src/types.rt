@@ -1,13 +1,13 @@
 //! Limits, types of tables and globals, and index spaces.
 ghost use Rattle.std.specs.Prelude.{◌≡◌, true, Ok, Err, Some, map, MatchResult};
 ghost use Rattle.wat_fields.specs.Fields.{space_of};
-ghost use Rattle.wat_fields.specs.Reading as reading;
+ghost use Rattle.wat_fields_read.specs.Reading as reading;
 ghost use Rattle.wat_instructions.specs.Grammar.{small};
 ghost use Rattle.wat_instructions.specs.Parts.{fault_of};
 ghost use Rattle.wat_instructions.specs.Terminals.{terminal};
 
-use crate::fields::{GlobalType, IndexSpace, Limits, TableType};
 use crate::header::closed;
+use wat_fields::fields::{GlobalType, IndexSpace, Limits, TableType};
 use wat_instructions::pieces::{Fault, FaultKind, Piece, ReferenceType, Sign, ValueType};
 use wat_instructions::reading::{self, value_type};
 

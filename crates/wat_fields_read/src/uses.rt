@@ -1,45 +1,22 @@
 //! Function types, and their uses.
 ghost use Rattle.std.specs.Prelude.{◌≡◌, Ok, Err, Some, None, slice_get, map, IfOk, MatchOption, MatchResult};
-ghost use Rattle.wat_fields.specs.Binary as binary;
 ghost use Rattle.wat_fields.specs.Fields as grammar;
-ghost use Rattle.wat_fields.specs.Reading as reading;
-ghost use Rattle.wat_fields.specs.Views.{definition_of, types_of, use_of, variable_of};
+ghost use Rattle.wat_fields_read.specs.Reading as reading;
+ghost use Rattle.wat_fields.specs.Views.{definition_of, use_of, variable_of};
+ghost use Rattle.wat_fields_read.specs.Views.{types_of};
 ghost use Rattle.wat_instructions.specs.Parts.{Faults, fault_of};
 ghost use Rattle.wat_instructions.specs.Terminals.{label, terminal};
 ghost use Rattle.wat_instructions.specs.Views.{type_of};
 
-use crate::fields::{Definition, TypeUse, Variable};
 use crate::header::{after, closed, unnamed, variables};
 use crate::names::Names;
 use crate::types::twice_closed;
 use std::alloc::{AllocError, Global};
-use wat_instructions::pieces::{Fault, FaultKind, Name, Piece, Refusal, ValueType};
+use wat_fields::fields::{Definition, TypeUse, Variable};
+use wat_fields::variables::function_type;
+use wat_instructions::pieces::{Fault, FaultKind, Name, Piece, Refusal};
 use wat_instructions::reading;
 use wat_instructions::types::{FunctionType, same_type};
-
-/// The types of variables.
-fn value_types(alloc: Global, variables: &[Variable<'_>]) -> Result<Vec<ValueType>, AllocError>
-    ensures { IfOk result (λ types. types.items ≡ map grammar.type_of (map variable_of variables.now)) }
-{
-    let mut types = Vec::new(alloc);
-    for variable in variables {
-        types.push(variable.of)?;
-    }
-    Ok(types)
-}
-
-/// The type of parameters and results.
-pub(crate) fn function_type(
-    alloc: Global,
-    params: &[Variable<'_>],
-    results: &[Variable<'_>],
-) -> Result<FunctionType, AllocError>
-    ensures { IfOk result (λ of. type_of of ≡ grammar.function_type (map variable_of params.now) (map variable_of results.now)) }
-{
-    let params = value_types(alloc, params)?;
-    let results = value_types(alloc, results)?;
-    Ok(FunctionType { params, results })
-}
 
 /// A type use.
 #[tactic(auto, unfolding(crate::specs::Reading::use_at))]

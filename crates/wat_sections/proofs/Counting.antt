@@ -6,11 +6,12 @@ use Rattle.std.proofs.lemmas.List.{drop_all}
 use Rattle.wat_instructions.specs.Terminals.{Label}
 use Rattle.wat_fields.specs.declared.fields.IndexSpace.{IndexSpace}
 use Rattle.wat_fields.specs.declared.fields.IndexSpace.TheVariants as space
-use Rattle.wat_fields.specs.Binary.{ElementSegment, before_some, elements_after, elements_of, field_elements, DataSegment, data_after, data_of, field_data, Export, export, exports_after, exports_of, field_exports, next_index}
+use Rattle.wat_sections.specs.Binary.{ElementSegment, before_some, elements_after, elements_of, field_elements, DataSegment, data_after, data_of, field_data, Export, export, exports_after, exports_of, field_exports, next_index}
 use Rattle.wat_fields.specs.Fields.{Field, Func, Table, Memory, Global, Start, Binding, binding_of, bindings_of, is_space, names_in}
 use Rattle.wat_fields.specs.Fields as field
 use Rattle.wat_fields.specs.declared.fields.Field as declared
-use Rattle.wat_fields.specs.Views.{Counts, count, counted, more, counts_after, data_by, data_from, elements_by, elements_from, put_before, exports_by, exports_from, field_of}
+use Rattle.wat_fields.specs.Views.{field_of}
+use Rattle.wat_sections.specs.Views.{Counts, count, counted, more, counts_after, data_by, data_from, elements_by, elements_from, put_before, exports_by, exports_from}
 
 abbrev pub none : Counts
 none = record { funcs = 0; tables = 0; memories = 0; globals = 0 }

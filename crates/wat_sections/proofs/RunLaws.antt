@@ -2,9 +2,9 @@
 use Rattle.std.proofs.Common.{◌≡◌, ◌≤◌, ◌∙◌, ◌+◌, ◌++◌, length, map, drop, ℕ, suc, Bool, true, false, List, [], ◌∷◌, refl, sym, ap, arith}
 use Rattle.std.specs.Prelude.{◌==◌, if◌then◌else◌}
 use Rattle.std.proofs.lemmas.Bool.Decides.{Decides-eqb}
-use Rattle.wat_fields.specs.Binary.{Run, run, before_run, runs_of}
-use Rattle.wat_fields.specs.declared.binary.Run as declared
-use Rattle.wat_fields.specs.Views.{run_of, runs_after}
+use Rattle.wat_sections.specs.Binary.{Run, run, before_run, runs_of}
+use Rattle.wat_sections.specs.declared.encode.Run as declared
+use Rattle.wat_sections.specs.Views.{run_of, runs_after}
 use Rattle.std.proofs.lemmas.List.{drop_all, map-append}
 
 -- so many variables before runs

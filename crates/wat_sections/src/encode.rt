@@ -1,24 +1,27 @@
 //! The bytes of a module.
 ghost use Rattle.std.specs.Prelude.{◌≡◌, ◌<◌, ◌≤◌, pos, ◌+◌, ◌++◌, ◌^◌, ◌∷◌, [], ℕ, List, OnOk, IfErr, IfOk, MatchOption, length, map, None, Some};
 ghost use Rattle.std.specs.List.{flat_map, list_any};
-ghost use Rattle.wat_fields.specs.Binary as binary;
+ghost use Rattle.wat_fields.specs.ImplicitTypes as implicit;
+ghost use Rattle.wat_sections.specs.Binary as binary;
 ghost use Rattle.wat_fields.specs.Fields as grammar;
-ghost use Rattle.wat_fields.specs.Views.{AreBelow, count, counted, counted_section, counts_of, export_of, exports_by, extern_of, field_of, fields_of, function_of, import_of, more, run_of, text_of, use_of, variable_of, data_by, elem_place_of, element_segment_of, elements_by, items_of, mode_of, place_of, section_head, segment_head, segment_of, together};
+ghost use Rattle.wat_fields.specs.Views.{extern_of, field_of, fields_of, function_of, text_of, use_of, variable_of, items_of, mode_of, together};
+ghost use Rattle.wat_sections.specs.Views.{AreBelow, count, counted, counted_section, counts_of, export_of, exports_by, import_of, more, run_of, data_by, elem_place_of, element_segment_of, elements_by, place_of, section_head, segment_head, segment_of};
 ghost use Rattle.wat_lex.specs.binary.Encoding.{list_encoding, text_encoding};
 ghost use Rattle.wat_lex.specs.binary.Leb128.{signed_leb128, unsigned_leb128};
 ghost use Rattle.wat_instructions.specs.Types.{index_or, type_byte};
 ghost use Rattle.wat_instructions.specs.Views.{type_of};
 ghost use Rattle.wat_instructions.specs.Views as unnamed;
 
-use crate::fields::{
+use std::alloc::{AllocError, Global};
+use wat_fields::fields::{
     ElemMode, Element, Export, ExternType, Field, Function, GlobalType, Import, IndexSpace, Limits,
     TableType, Target, TypeUse, Variable,
 };
-use crate::indexed_types::IndexedTypes;
-use crate::segments::len_of;
-use std::alloc::{AllocError, Global};
+use wat_fields::implicit_types::types_of;
+use wat_fields::indexed_types::IndexedTypes;
+use wat_fields::strings::len_of;
 use wat_instructions::pieces::{Argument, Instruction, Opcode, ReferenceType, ValueType};
-use wat_instructions::types::{FunctionType, UnnamedUse, copied, reference_byte, type_byte};
+use wat_instructions::types::{FunctionType, UnnamedUse, reference_byte, type_byte};
 use wat_lex::encode::{Encode, EncodeError};
 
 /// The magic number and the version.
@@ -209,115 +212,6 @@ fn variable_bytes(alloc: Global, variables: &[Variable<'_>]) -> Result<Vec<u8>, 
     Ok(bytes)
 }
 
-/// The types that fields define.
-fn defined_types(alloc: Global, fields: &[Field<'_>]) -> Result<IndexedTypes, AllocError>
-    ensures { IfOk result (λ types. types ≡ map grammar.definition_type (grammar.definitions_of (fields_of fields.now))) }
-{
-    let mut types = IndexedTypes::none(alloc);
-    for field in fields {
-        if let Field::Type(definition) = field {
-            types.push(copied(alloc, &definition.of)?)?;
-        }
-    }
-    Ok(types)
-}
-
-/// The type use of an instruction, where it has one.
-fn instruction_use(instruction: &Instruction) -> Option<&UnnamedUse>
-    ensures { MatchOption result (binary.instruction_types instruction.now ≡ []) (λ u. binary.instruction_types instruction.now ≡ type_of u.now.of ∷ []) }
-{
-    match &instruction.argument {
-        Argument::Indirect(call) => Some(call.uses()),
-        Argument::BlockUse(uses) => Some(uses.uses()),
-        _ => None,
-    }
-}
-
-/// Appends the types that instructions use.
-fn add_instructions(types: &mut IndexedTypes, all: &[Instruction]) -> Result<(), AllocError>
-    ensures { OnOk result (types.new ≡ binary.types_after types.old (flat_map binary.instruction_types all.now)) }
-{
-    for instruction in all {
-        if let Some(uses) = instruction_use(instruction) {
-            types.add(&uses.of)?;
-        }
-    }
-    Ok(())
-}
-
-/// Appends the types that elements use.
-fn add_elements(types: &mut IndexedTypes, elements: &[Element]) -> Result<(), AllocError>
-    ensures { OnOk result (types.new ≡ binary.types_after types.old (flat_map binary.expression_types (map items_of elements.now))) }
-{
-    for element in elements {
-        add_element(types, element)?;
-    }
-    Ok(())
-}
-
-/// Appends the types that an element uses.
-fn add_element(types: &mut IndexedTypes, element: &Element) -> Result<(), AllocError>
-    ensures { OnOk result (types.new ≡ binary.types_after types.old (binary.expression_types (items_of element.now))) }
-{
-    match element {
-        Element::Function(_) => Ok(()),
-        Element::Expression(instructions) => add_instructions(types, instructions),
-    }
-}
-
-/// Appends the types that the offset of an active element segment uses.
-fn add_mode(types: &mut IndexedTypes, mode: &ElemMode) -> Result<(), AllocError>
-    ensures { OnOk result (types.new ≡ binary.types_after types.old (binary.mode_types (mode_of mode.now))) }
-{
-    match mode {
-        ElemMode::Active(target) => add_instructions(types, &target.offset),
-        ElemMode::Passive | ElemMode::Declarative => Ok(()),
-    }
-}
-
-/// Appends the types that a field uses.
-fn add_field(types: &mut IndexedTypes, field: &Field<'_>) -> Result<(), AllocError>
-    ensures { OnOk result (types.new ≡ binary.types_after types.old (binary.used_by (field_of field.now))) }
-{
-    match field {
-        Field::Func(function) => {
-            types.add_used(&function.uses)?;
-            add_instructions(types, &function.body)
-        }
-        Field::Import(import) => match &import.what {
-            ExternType::Func(uses) => types.add_used(uses),
-            ExternType::Table(_) | ExternType::Memory(_) | ExternType::Global(_) => Ok(()),
-        },
-        Field::Table(table) => match &table.elements {
-            Some(elements) => add_elements(types, elements),
-            None => Ok(()),
-        },
-        Field::Global(global) => add_instructions(types, &global.first),
-        Field::Elem(elem) => {
-            add_mode(types, &elem.mode)?;
-            add_elements(types, &elem.elements)?;
-            Ok(())
-        }
-        Field::Data(data) => match &data.target {
-            Some(target) => add_instructions(types, &target.offset),
-            None => Ok(()),
-        },
-        Field::Type(_) | Field::Memory(_) | Field::Export(_) | Field::Start(_) => Ok(()),
-    }
-}
-
-/// The types that fields define, and after them those that type uses bring, each once.
-#[tactic(auto, unfolding(crate::specs::Binary::types_of))]
-fn types_of(alloc: Global, fields: &[Field<'_>]) -> Result<IndexedTypes, AllocError>
-    ensures { IfOk result (λ types. types ≡ binary.types_of (fields_of fields.now)) }
-{
-    let mut types = defined_types(alloc, fields)?;
-    for field in fields {
-        add_field(&mut types, field)?;
-    }
-    Ok(types)
-}
-
 /// The index of the type that an instruction uses.
 fn unnamed_index(types: &IndexedTypes, uses: &UnnamedUse) -> Result<usize, AllocError>
     ensures is { IfOk result (λ n. n ≡ binary.unnamed_index types.now (unnamed.use_of uses.now)) }
@@ -331,7 +225,7 @@ fn unnamed_index(types: &IndexedTypes, uses: &UnnamedUse) -> Result<usize, Alloc
 
 /// The index of the type that is used.
 fn use_index(types: &IndexedTypes, uses: &TypeUse<'_>) -> Result<usize, AllocError>
-    ensures { IfOk result (λ n. n ≡ index_or (use_of uses.now).index (binary.type_index (binary.used_type (use_of uses.now)) types.now)) }
+    ensures { IfOk result (λ n. n ≡ index_or (use_of uses.now).index (implicit.type_index (implicit.used_type (use_of uses.now)) types.now)) }
 {
     if let Some(index) = uses.index {
         return Ok(index);
@@ -1467,7 +1361,7 @@ fn put_data_count(
 
 /// The bytes of a module of these fields.
 #[tactic(auto, unfolding(crate::specs::Binary::module_bytes))]
-pub(crate) fn module_bytes(alloc: Global, fields: &[Field<'_>]) -> Result<Vec<u8>, AllocError>
+pub fn module_bytes(alloc: Global, fields: &[Field<'_>]) -> Result<Vec<u8>, AllocError>
     ensures { IfOk result (λ bytes. bytes.items ≡ binary.module_bytes (fields_of fields.now)) }
 {
     let mut bytes = Vec::new(alloc);

@@ -1,5 +1,5 @@
 use Rattle.wat_fields.proofs.FunctionTypes.{element_used}
-use Rattle.wat_fields.proofs.binary.add_elements.Goals as goal
+use Rattle.wat_fields.proofs.implicit_types.add_elements.Goals as goal
 
 pub loop-element-preserved : goal.loop-element-preserved
 loop-element-preserved c =

@@ -1,9 +1,9 @@
 use Rattle.std.proofs.Common.{map, ◌∙◌, ap, sym}
 use Rattle.std.specs.List.{flat_map}
-use Rattle.wat_fields.specs.Binary.{expression_types, mode_types, types_after, used_by}
+use Rattle.wat_fields.specs.ImplicitTypes.{expression_types, mode_types, types_after, used_by}
 use Rattle.wat_fields.specs.Views.{field_of, items_of, mode_of}
 use Rattle.wat_fields.proofs.FunctionTypes.{after_more}
-use Rattle.wat_fields.proofs.binary.add_field.Goals as goal
+use Rattle.wat_fields.proofs.implicit_types.add_field.Goals as goal
 
 pub returns-in_ok-add_elements-in-Elem : goal.returns-in_ok-add_elements-in-Elem
 returns-in_ok-add_elements-in-Elem c =

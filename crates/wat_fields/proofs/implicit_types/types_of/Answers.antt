@@ -1,5 +1,5 @@
 use Rattle.wat_fields.proofs.FunctionTypes.{field_used}
-use Rattle.wat_fields.proofs.binary.types_of.Goals as goal
+use Rattle.wat_fields.proofs.implicit_types.types_of.Goals as goal
 
 pub loop-field-preserved : goal.loop-field-preserved
 loop-field-preserved c =

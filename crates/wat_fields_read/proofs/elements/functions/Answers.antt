@@ -1,11 +1,12 @@
 use Rattle.std.proofs.Common.{ap, map, Ok}
-use Rattle.wat_fields.specs.Views.{context_of, items_of}
-use Rattle.wat_fields.proofs.ElementKinds.{functions_read}
+use Rattle.wat_fields.specs.Views.{items_of}
+use Rattle.wat_fields_read.specs.Views.{context_of}
+use Rattle.wat_fields_read.proofs.ElementKinds.{functions_read}
 use Rattle.wat_instructions.specs.Terminals.{terminal}
 use Rattle.wat_fields.specs.Fields as fields
-use Rattle.wat_fields.specs.Reading as reading
-use Rattle.wat_fields.proofs.Manies.{leads_on, leads_out, leads_from, faulted, smaller, smaller_terminals}
-use Rattle.wat_fields.proofs.elements.functions.Goals as goal
+use Rattle.wat_fields_read.specs.Reading as reading
+use Rattle.wat_fields_read.proofs.Manies.{leads_on, leads_out, leads_from, faulted, smaller, smaller_terminals}
+use Rattle.wat_fields_read.proofs.elements.functions.Goals as goal
 
 pub functions-smaller : goal.functions-smaller
 functions-smaller c = let item = rw (c.in-Ok-Some.field-0-is) at c.in-Ok-Some.ensures in smaller (reading.function_item (context_of c.args.names.now)) (fields.FunctionIs (context_of c.args.names.now)) (functions_read (context_of c.args.names.now)) c.functions.left.pieces.now c.in-Ok-Some.next.pieces.now item.values item.is

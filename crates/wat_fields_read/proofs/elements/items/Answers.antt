@@ -1,11 +1,12 @@
 use Rattle.std.proofs.Common.{ap, map, Ok}
-use Rattle.wat_fields.specs.Views.{context_of, items_of}
-use Rattle.wat_fields.proofs.ElementKinds.{items_read}
+use Rattle.wat_fields.specs.Views.{items_of}
+use Rattle.wat_fields_read.specs.Views.{context_of}
+use Rattle.wat_fields_read.proofs.ElementKinds.{items_read}
 use Rattle.wat_instructions.specs.Terminals.{terminal}
 use Rattle.wat_fields.specs.Fields as fields
-use Rattle.wat_fields.specs.Reading as reading
-use Rattle.wat_fields.proofs.Manies.{leads_on, leads_out, leads_from, faulted, smaller, smaller_terminals}
-use Rattle.wat_fields.proofs.elements.items.Goals as goal
+use Rattle.wat_fields_read.specs.Reading as reading
+use Rattle.wat_fields_read.proofs.Manies.{leads_on, leads_out, leads_from, faulted, smaller, smaller_terminals}
+use Rattle.wat_fields_read.proofs.elements.items.Goals as goal
 
 pub items-smaller : goal.items-smaller
 items-smaller c = let item = rw (c.in-Ok-Some.field-0-is) at c.in-Ok-Some.ensures in smaller (reading.element_item (context_of c.args.names.now)) (fields.ItemIs (context_of c.args.names.now)) (items_read (record { same = c.machine_is_grammar.ensures; folded = c.folded_is_grammar.ensures; balanced = c.instructions_are_balanced.ensures.balanced; taken = c.instructions_are_balanced.ensures.taken }) (context_of c.args.names.now)) c.items.left.pieces.now c.in-Ok-Some.next.pieces.now item.values item.is

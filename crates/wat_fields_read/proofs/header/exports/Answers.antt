@@ -1,11 +1,11 @@
 use Rattle.std.proofs.Common.{ap, map, Ok}
 use Rattle.wat_fields.specs.Views.{text_of}
-use Rattle.wat_fields.proofs.Items.{exports_read}
+use Rattle.wat_fields_read.proofs.Items.{exports_read}
 use Rattle.wat_instructions.specs.Terminals.{terminal}
 use Rattle.wat_fields.specs.Fields as fields
-use Rattle.wat_fields.specs.Reading as reading
-use Rattle.wat_fields.proofs.Manies.{leads_on, leads_out, leads_from, faulted, smaller, smaller_terminals}
-use Rattle.wat_fields.proofs.header.exports.Goals as goal
+use Rattle.wat_fields_read.specs.Reading as reading
+use Rattle.wat_fields_read.proofs.Manies.{leads_on, leads_out, leads_from, faulted, smaller, smaller_terminals}
+use Rattle.wat_fields_read.proofs.header.exports.Goals as goal
 
 pub exports-smaller : goal.exports-smaller
 exports-smaller c = let item = rw (c.in-Ok-Some.field-0-is) at c.in-Ok-Some.ensures in smaller (reading.export_item) fields.InlineExport exports_read c.exports.left.pieces.now c.in-Ok-Some.next.pieces.now item.values item.is

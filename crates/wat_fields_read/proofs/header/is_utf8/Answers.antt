@@ -1,5 +1,5 @@
-use Rattle.wat_fields.proofs.Bytes.{utf8_yes, utf8_no}
-use Rattle.wat_fields.proofs.header.is_utf8.Goals as goal
+use Rattle.wat_fields_read.proofs.Utf8.{utf8_yes, utf8_no}
+use Rattle.wat_fields_read.proofs.header.is_utf8.Goals as goal
 
 pub returns-in-Ok : goal.returns-in-Ok
 returns-in-Ok c = utf8_yes c.args.bytes.now c.in-Ok.ensures.cases.1

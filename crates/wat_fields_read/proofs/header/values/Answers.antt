@@ -1,10 +1,10 @@
 use Rattle.std.proofs.Common.{map, Ok}
-use Rattle.wat_fields.proofs.Items.{values_read}
+use Rattle.wat_fields_read.proofs.Items.{values_read}
 use Rattle.wat_instructions.specs.Terminals.{terminal}
 use Rattle.wat_fields.specs.Fields as fields
-use Rattle.wat_fields.specs.Reading as reading
-use Rattle.wat_fields.proofs.Manies.{leads_on, leads_out, leads_from, faulted, smaller, smaller_terminals}
-use Rattle.wat_fields.proofs.header.values.Goals as goal
+use Rattle.wat_fields_read.specs.Reading as reading
+use Rattle.wat_fields_read.proofs.Manies.{leads_on, leads_out, leads_from, faulted, smaller, smaller_terminals}
+use Rattle.wat_fields_read.proofs.header.values.Goals as goal
 
 pub values-smaller : goal.values-smaller
 values-smaller c = let item = rw (c.in-Ok-Some.field-0-is) at c.in-Ok-Some.ensures in smaller (reading.value_item) fields.ValueTypeIs values_read c.values.left.pieces.now c.in-Ok-Some.next.pieces.now item.values item.is

@@ -1,11 +1,11 @@
 use Rattle.std.proofs.Common.{ap, map, Ok}
 use Rattle.wat_fields.specs.Views.{variable_of}
-use Rattle.wat_fields.proofs.Items.{groups_read}
+use Rattle.wat_fields_read.proofs.Items.{groups_read}
 use Rattle.wat_instructions.specs.Terminals.{terminal}
 use Rattle.wat_fields.specs.Fields as fields
-use Rattle.wat_fields.specs.Reading as reading
-use Rattle.wat_fields.proofs.Manies.{leads_on, leads_out, leads_from, faulted, smaller, smaller_terminals}
-use Rattle.wat_fields.proofs.header.variables.Goals as goal
+use Rattle.wat_fields_read.specs.Reading as reading
+use Rattle.wat_fields_read.proofs.Manies.{leads_on, leads_out, leads_from, faulted, smaller, smaller_terminals}
+use Rattle.wat_fields_read.proofs.header.variables.Goals as goal
 
 pub groups-smaller : goal.groups-smaller
 groups-smaller c = let item = rw (c.in-Ok-Some.field-0-is) at c.in-Ok-Some.ensures in smaller (reading.group_item c.args.word.now c.args.may_have_name) (fields.Group c.args.word.now c.args.may_have_name) (groups_read c.args.word.now c.args.may_have_name) c.groups.left.pieces.now c.in-Ok-Some.next.pieces.now item.values item.is

@@ -1,11 +1,12 @@
 use Rattle.std.proofs.Common.{ap, map, Ok}
-use Rattle.wat_fields.specs.Views.{context_of, field_of, types_of}
-use Rattle.wat_fields.proofs.FieldKinds.{fields_read}
+use Rattle.wat_fields.specs.Views.{field_of}
+use Rattle.wat_fields_read.specs.Views.{context_of, types_of}
+use Rattle.wat_fields_read.proofs.FieldKinds.{fields_read}
 use Rattle.wat_instructions.specs.Terminals.{terminal}
 use Rattle.wat_fields.specs.Fields as fields
-use Rattle.wat_fields.specs.Reading as reading
-use Rattle.wat_fields.proofs.Manies.{leads_on, leads_out, leads_from, faulted, smaller, smaller_terminals}
-use Rattle.wat_fields.proofs.fields.fields.Goals as goal
+use Rattle.wat_fields_read.specs.Reading as reading
+use Rattle.wat_fields_read.proofs.Manies.{leads_on, leads_out, leads_from, faulted, smaller, smaller_terminals}
+use Rattle.wat_fields_read.proofs.module.fields.Goals as goal
 
 pub fields-smaller : goal.fields-smaller
 fields-smaller c = let item = rw (c.in-Ok-Some.field-0-is) at c.in-Ok-Some.ensures in smaller (reading.field_item (types_of c.args.names.now) (context_of c.args.names.now)) (fields.FieldIs (types_of c.args.names.now) (context_of c.args.names.now)) (fields_read (record { same = c.machine_is_grammar.ensures; folded = c.folded_is_grammar.ensures; balanced = c.instructions_are_balanced.ensures.balanced; taken = c.instructions_are_balanced.ensures.taken }) (types_of c.args.names.now) (context_of c.args.names.now)) c.fields.left.pieces.now c.in-Ok-Some.next.pieces.now item.values item.is

@@ -2,10 +2,10 @@ use Rattle.std.proofs.Common.{◌≡◌, ◌++◌, map, drop}
 use Rattle.std.specs.List.{flat_map}
 use Rattle.wat_instructions.specs.Terminals.{label}
 use Rattle.wat_fields.specs.Fields.{definition_name, definition_type}
-use Rattle.wat_fields.specs.Reading.{definition_at}
-use Rattle.wat_fields.specs.Views.{left_of}
+use Rattle.wat_fields_read.specs.Reading.{definition_at}
+use Rattle.wat_fields_read.specs.Views.{left_of}
 use Rattle.wat_instructions.specs.Views.{type_of}
-use Rattle.wat_fields.proofs.names.definitions.Given as goal
+use Rattle.wat_fields_read.proofs.names.definitions.Given as goal
 
 abbrev pub invariant-loop-start : goal.invariant-loop-start
 invariant-loop-start l =

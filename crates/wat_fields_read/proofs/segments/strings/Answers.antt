@@ -1,11 +1,11 @@
 use Rattle.std.proofs.Common.{map, Ok, ap}
-use Rattle.wat_fields.proofs.SegmentKinds.{strings_read}
+use Rattle.wat_fields_read.proofs.SegmentKinds.{strings_read}
 use Rattle.wat_instructions.specs.Terminals.{terminal}
 use Rattle.wat_fields.specs.Fields as fields
-use Rattle.wat_fields.specs.Reading as reading
+use Rattle.wat_fields_read.specs.Reading as reading
 use Rattle.wat_fields.specs.Views.{together}
-use Rattle.wat_fields.proofs.Manies.{leads_on, leads_out, leads_from, faulted, smaller, smaller_terminals}
-use Rattle.wat_fields.proofs.segments.strings.Goals as goal
+use Rattle.wat_fields_read.proofs.Manies.{leads_on, leads_out, leads_from, faulted, smaller, smaller_terminals}
+use Rattle.wat_fields_read.proofs.segments.strings.Goals as goal
 
 pub strings-smaller : goal.strings-smaller
 strings-smaller c = let item = rw (c.in-Ok-Some.field-0-is) at c.in-Ok-Some.ensures in smaller (reading.string_item) fields.StringIs strings_read c.strings.left.pieces.now c.in-Ok-Some.next.pieces.now item.values item.is

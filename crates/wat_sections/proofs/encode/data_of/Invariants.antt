@@ -1,7 +1,8 @@
 use Rattle.std.proofs.Common.{◌≡◌, ◌++◌, suc, map, drop}
-use Rattle.wat_fields.specs.Views.{AreBelow, counts_of, data_from, segment_of, field_of}
-use Rattle.wat_fields.proofs.Counting.{none}
-use Rattle.wat_fields.proofs.binary.data_of.Given as goal
+use Rattle.wat_fields.specs.Views.{field_of}
+use Rattle.wat_sections.specs.Views.{AreBelow, counts_of, data_from, segment_of}
+use Rattle.wat_sections.proofs.Counting.{none}
+use Rattle.wat_sections.proofs.encode.data_of.Given as goal
 
 abbrev pub invariant-loop-field : goal.invariant-loop-field
 invariant-loop-field l =

@@ -1,8 +1,8 @@
 use Rattle.std.proofs.Common.{◌≡◌, ◌+◌, ◌≤◌, ◌++◌, length, map, drop}
 use Rattle.std.specs.List.{flat_map}
-use Rattle.wat_fields.specs.Binary.{global_bytes, global_of}
+use Rattle.wat_sections.specs.Binary.{global_bytes, global_of}
 use Rattle.wat_fields.specs.Views.{field_of}
-use Rattle.wat_fields.proofs.binary.put_globals.Given as goal
+use Rattle.wat_sections.proofs.encode.put_globals.Given as goal
 
 abbrev pub invariant-loop-field : goal.invariant-loop-field
 invariant-loop-field l =
