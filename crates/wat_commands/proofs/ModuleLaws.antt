@@ -2,7 +2,7 @@
 use Rattle.std.proofs.Common.{◌≡◌, ◌∙◌, ◌^◌, ℕ, true, false, List, [], length, refl, sym, ap}
 use Rattle.std.specs.Prelude.{Option, Some, None, Ok, Err, IsNone, IsSome, if◌then◌else◌}
 use Rattle.std.proofs.lemmas.Bool.Decides.{Decides-ltb}
-use Rattle.wat_fields.specs.Binary.{module_bytes}
+use Rattle.wat_sections.specs.Binary.{module_bytes}
 use Rattle.wat_fields.specs.Fields.{Field}
 use Rattle.wat_lex.specs.errors.Errors.{Report}
 use Rattle.wat_lex.specs.declared.lexer.kinds.Token.{Token}

@@ -2,7 +2,7 @@
 -- nothing is written of another text is no part of the standard.
 use Rattle.std.specs.Prelude.{◌≡◌, ◌<◌, ◌^◌, ℕ, List, [], length, Option, Some, Err, MatchOption}
 use Rattle.std.specs.Str.{IsUtf8}
-use Rattle.wat_fields.specs.Binary.{module_bytes}
+use Rattle.wat_sections.specs.Binary.{module_bytes}
 use Rattle.wat_fields.specs.Fields.{Field}
 use Rattle.wat_lex.specs.errors.Errors.{Report}
 use Rattle.wat_lex.specs.declared.lexer.kinds.Token.{Token}

@@ -1,13 +1,3 @@
-pub mod Manies
-pub mod Items
-pub mod TypeRules
-pub mod SegmentKinds
-pub mod ElementKinds
-pub mod FieldKinds
-pub mod Counting
 pub mod FunctionTypes
 pub mod TypeKeys
-pub mod Headers
-pub mod Modules
-pub mod Bytes
-pub mod RunLaws
+pub mod Strings

@@ -17,7 +17,7 @@ use Rattle.wat_instructions.specs.declared.pieces.ValueType.TheVariants as value
 use Rattle.wat_instructions.specs.declared.types.FunctionType as declared
 use Rattle.wat_instructions.specs.Views.{type_of}
 use Rattle.wat_instructions.specs.Types.{FunctionType, same_type, same_values, type_byte}
-use Rattle.wat_fields.specs.Binary.{has_type, type_index}
+use Rattle.wat_fields.specs.ImplicitTypes.{has_type, type_index}
 use Rattle.wat_fields.specs.Indices.{AreIndices, found_type, type_key}
 use Rattle.wat_fields.proofs.FunctionTypes.{type_is}
 

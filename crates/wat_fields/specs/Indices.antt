@@ -4,7 +4,7 @@ use Rattle.std.specs.BTreeMap.{BTreeMap, get_by}
 use Rattle.std.specs.Cmp.Lexicographic.{slice_cmp}
 use Rattle.std.specs.Ordering.{nat_cmp}
 use Rattle.wat_instructions.specs.Types.{FunctionType, type_byte}
-use Rattle.wat_fields.specs.Binary.{has_type, type_index}
+use Rattle.wat_fields.specs.ImplicitTypes.{has_type, type_index}
 
 -- the bytes of the parameters, and those of the results after 0x40, which is no type's
 abbrev pub type_key : FunctionType → List ℕ

@@ -1,6 +1,5 @@
 pub mod Fields
-pub mod Binary
-pub mod Reading
+pub mod ImplicitTypes
+pub mod Indices
 pub mod Law
 pub mod Views
-pub mod Indices

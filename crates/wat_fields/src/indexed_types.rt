@@ -1,6 +1,6 @@
 //! Function types and their indices.
 ghost use Rattle.std.specs.Prelude.{◌≡◌, ◌<◌, ◌^◌, ◌++◌, ◌∷◌, [], IfOk, OnOk, map};
-ghost use Rattle.wat_fields.specs.Binary as binary;
+ghost use Rattle.wat_fields.specs.ImplicitTypes as implicit;
 ghost use Rattle.wat_fields.specs.Fields as grammar;
 ghost use Rattle.wat_fields.specs.Indices.{AreIndices, found_type, type_key};
 ghost use Rattle.wat_fields.specs.Views.{use_of, variable_of};
@@ -8,7 +8,7 @@ ghost use Rattle.wat_instructions.specs.Types.{same_type, same_values, type_byte
 ghost use Rattle.wat_instructions.specs.Views.{type_of};
 
 use crate::fields::{TypeUse, Variable};
-use crate::uses::function_type;
+use crate::variables::function_type;
 use std::alloc::{AllocError, Global};
 use std::collections::BTreeMap;
 use std::marker::Model;
@@ -17,7 +17,7 @@ use wat_instructions::types::{FunctionType, copied, same_type, type_byte};
 
 /// Function types, in the order of their indices.
 #[derive(Drop)]
-pub(crate) struct IndexedTypes {
+pub struct IndexedTypes {
     alloc: Global,
     types: Vec<FunctionType>,
     /// The least index of each, by its key.
@@ -53,7 +53,7 @@ impl IndexedTypes {
     }
 
     /// The types.
-    pub(crate) fn as_slice(&self) -> &[FunctionType]
+    pub fn as_slice(&self) -> &[FunctionType]
         ensures { map type_of result.now ≡ self.now }
     {
         &self.types
@@ -72,7 +72,7 @@ impl IndexedTypes {
 
     /// The least index of the type of a type use.
     fn used_position(&self, uses: &TypeUse<'_>) -> Result<Option<usize>, AllocError>
-        ensures { IfOk result (λ i. i ≡ found_type (binary.used_type (use_of uses.now)) self.now) }
+        ensures { IfOk result (λ i. i ≡ found_type (implicit.used_type (use_of uses.now)) self.now) }
     {
         if self.types.len() <= FEW {
             return Ok(first_used(&self.types, uses));
@@ -82,8 +82,8 @@ impl IndexedTypes {
     }
 
     /// The least index of this type; where it is not among them, how many there are.
-    pub(crate) fn index(&self, of: &FunctionType) -> Result<usize, AllocError>
-        ensures is { IfOk result (λ i. i ≡ binary.type_index (type_of of.now) self.now) }
+    pub fn index(&self, of: &FunctionType) -> Result<usize, AllocError>
+        ensures is { IfOk result (λ i. i ≡ implicit.type_index (type_of of.now) self.now) }
         ensures small { IfOk result (λ i. i < 2 ^ 63) }
     {
         let position = self.position(of)?;
@@ -91,8 +91,8 @@ impl IndexedTypes {
     }
 
     /// The same of the type of a type use.
-    pub(crate) fn used_index(&self, uses: &TypeUse<'_>) -> Result<usize, AllocError>
-        ensures { IfOk result (λ i. i ≡ binary.type_index (binary.used_type (use_of uses.now)) self.now) }
+    pub fn used_index(&self, uses: &TypeUse<'_>) -> Result<usize, AllocError>
+        ensures { IfOk result (λ i. i ≡ implicit.type_index (implicit.used_type (use_of uses.now)) self.now) }
     {
         let position = self.used_position(uses)?;
         Ok(position.unwrap_or(self.types.len()))
@@ -115,7 +115,7 @@ impl IndexedTypes {
 
     /// Appends a type where it is not among them.
     pub(crate) fn add(&mut self, of: &FunctionType) -> Result<(), AllocError>
-        ensures { OnOk result (self.new ≡ binary.with_type self.old (type_of of.now)) }
+        ensures { OnOk result (self.new ≡ implicit.with_type self.old (type_of of.now)) }
     {
         if self.position(of)?.is_none() {
             self.push(copied(self.alloc, of)?)?;
@@ -125,7 +125,7 @@ impl IndexedTypes {
 
     /// The same of the type of a type use.
     pub(crate) fn add_used(&mut self, uses: &TypeUse<'_>) -> Result<(), AllocError>
-        ensures { OnOk result (self.new ≡ binary.with_type self.old (binary.used_type (use_of uses.now))) }
+        ensures { OnOk result (self.new ≡ implicit.with_type self.old (implicit.used_type (use_of uses.now))) }
     {
         if self.used_position(uses)?.is_none() {
             self.push(function_type(self.alloc, &uses.params, &uses.results)?)?;
@@ -148,7 +148,7 @@ fn first(types: &[FunctionType], of: &FunctionType) -> Option<usize>
 
 /// The first of these types that is that of a type use.
 fn first_used(types: &[FunctionType], uses: &TypeUse<'_>) -> Option<usize>
-    ensures { result ≡ found_type (binary.used_type (use_of uses.now)) (map type_of types.now) }
+    ensures { result ≡ found_type (implicit.used_type (use_of uses.now)) (map type_of types.now) }
 {
     for (i, known) in types.iter().enumerate() {
         if is_used(known, uses) {
@@ -160,7 +160,7 @@ fn first_used(types: &[FunctionType], uses: &TypeUse<'_>) -> Option<usize>
 
 /// Whether it is the type of a type use.
 fn is_used(of: &FunctionType, uses: &TypeUse<'_>) -> bool
-    ensures { result ≡ same_type (type_of of.now) (binary.used_type (use_of uses.now)) }
+    ensures { result ≡ same_type (type_of of.now) (implicit.used_type (use_of uses.now)) }
 {
     have_types(&of.params, &uses.params) && have_types(&of.results, &uses.results)
 }
@@ -196,7 +196,7 @@ fn type_key(alloc: Global, of: &FunctionType) -> Result<Vec<u8>, AllocError>
 
 /// The same of the type of a type use.
 fn use_key(alloc: Global, uses: &TypeUse<'_>) -> Result<Vec<u8>, AllocError>
-    ensures { IfOk result (λ key. key.items ≡ type_key (binary.used_type (use_of uses.now))) }
+    ensures { IfOk result (λ key. key.items ≡ type_key (implicit.used_type (use_of uses.now))) }
 {
     let mut key = Vec::new(alloc);
     push_variables(&mut key, &uses.params)?;

@@ -22,10 +22,10 @@ use Rattle.wat_lexer_parser.specs.parser.State.{Answers, report_of}
 use Rattle.wat_instructions.specs.declared.pieces.FaultKind.{FaultKind}
 use Rattle.wat_instructions.specs.Grammar as grammar
 use Rattle.wat_instructions.specs.Terminals.{Terminal}
-use Rattle.wat_fields.specs.Binary.{module_bytes}
+use Rattle.wat_sections.specs.Binary.{module_bytes}
 use Rattle.wat_fields.specs.Fields.{Field, Module}
-use Rattle.wat_fields.specs.Law.{ReadingIsGrammar}
-use Rattle.wat_fields.specs.Reading as reading
+use Rattle.wat_fields_read.specs.Law.{ReadingIsGrammar}
+use Rattle.wat_fields_read.specs.Reading as reading
 use Rattle.wat_pieces.specs.Pieces.{plain, terminal_of}
 use Rattle.wat_pieces.specs.Shown.{PiecesShown, TextShown}
 use Rattle.wat_modules.specs.Compiling.{Fits, Spells, compiled, compiled_by, compiled_tokens, fitted, message, place, too_long}

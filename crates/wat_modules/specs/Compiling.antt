@@ -9,9 +9,9 @@ use Rattle.wat_instructions.specs.declared.pieces.FaultKind.TheVariants.{Unexpec
 use Rattle.wat_instructions.specs.Grammar as grammar
 use Rattle.wat_instructions.specs.Terminals.{Terminal}
 use Rattle.wat_pieces.specs.Pieces.{Shows, terminal_of}
-use Rattle.wat_fields.specs.Binary.{module_bytes}
+use Rattle.wat_sections.specs.Binary.{module_bytes}
 use Rattle.wat_fields.specs.Fields.{Field, Module}
-use Rattle.wat_fields.specs.Reading as reading
+use Rattle.wat_fields_read.specs.Reading as reading
 
 -- the tokens that count of the text are a module of these fields, and then it ends
 pub record Spells (text : List ℕ) (fs : List Field) : Type 0 where

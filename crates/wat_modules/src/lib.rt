@@ -3,7 +3,6 @@
 #![tactic(auto)]
 
 ghost use Rattle.std.specs.Prelude.{◌≡◌, ◌<◌, ◌^◌, true, length, map, IfOk, List, None, Option, string_bytes};
-ghost use Rattle.wat_fields.specs.Binary.{module_bytes};
 ghost use Rattle.wat_fields.specs.Fields.{Field};
 ghost use Rattle.wat_instructions.specs.Terminals.{terminal};
 ghost use Rattle.wat_lex.specs.declared.lexer.kinds.Token.{Token};
@@ -16,18 +15,20 @@ ghost use Rattle.wat_modules.specs.Compiling.{Fits, Spells, compiled, compiled_t
 ghost use Rattle.wat_modules.specs.Compiling as compiling;
 ghost use Rattle.wat_pieces.specs.Pieces.{plain, terminal_of};
 ghost use Rattle.wat_pieces.specs.Values.{AreWithin, draft_terminals};
+ghost use Rattle.wat_sections.specs.Binary.{module_bytes};
 
 pub mod laws;
 #[cfg(test)]
 mod tests;
 
 use std::alloc::Global;
-use wat_fields::fields;
+use wat_fields_read::module;
 use wat_instructions::pieces::{FaultKind, Piece, Refusal};
 use wat_lexer_parser::Error;
 use wat_lexer_parser::lexer::Token;
 use wat_lexer_parser::token::Span;
 use wat_pieces::{Draft, ShownPieces, completed, shown_pieces, shown_tokens};
+use wat_sections::encode;
 
 /// The bytes of the module that a text spells.
 ///
@@ -57,7 +58,7 @@ pub fn compile(alloc: Global, text: &str) -> Result<Vec<u8>, Error>
 {
     wat_lex::laws::one_tiling();
     wat_lexer_parser::laws::all_shown();
-    wat_fields::laws::reading_is_grammar();
+    wat_fields_read::laws::reading_is_grammar();
     has_tokens(text);
     let ShownPieces { draft, error } = shown_pieces(alloc, text)?;
     match error {
@@ -86,9 +87,9 @@ fn of_pieces(alloc: Global, text: &str, pieces: &[Piece<'_>]) -> Result<Vec<u8>,
         map terminal pieces.now ≡ map (terminal_of text.now) tokens →
         Answers true (λ bytes. bytes.items) (compiled_tokens text.now tokens) result }
 {
-    wat_fields::laws::reading_is_grammar();
-    match fields::compile(alloc, pieces) {
-        Ok(bytes) => fitting(alloc, text, bytes),
+    wat_fields_read::laws::reading_is_grammar();
+    match module::module(alloc, pieces) {
+        Ok(fields) => fitting(alloc, text, encode::module_bytes(alloc, &fields)?),
         Err(Refusal::Memory(refused)) => Err(Error::from(refused)),
         Err(Refusal::Text(fault)) => Err(fault_at(alloc, text, fault.kind, fault.left.len())),
     }

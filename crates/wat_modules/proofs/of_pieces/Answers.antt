@@ -1,6 +1,6 @@
 use Rattle.std.proofs.Common.{length, map, sym}
 use Rattle.std.proofs.lemmas.List.{length-map}
-use Rattle.wat_fields.specs.Reading.{whole}
+use Rattle.wat_fields_read.specs.Reading.{whole}
 use Rattle.wat_instructions.specs.declared.pieces.Refusal.TheVariants.{Text}
 use Rattle.wat_instructions.specs.Parts.{Faults}
 use Rattle.wat_instructions.specs.Terminals.{terminal}

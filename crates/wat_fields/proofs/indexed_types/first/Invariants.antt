@@ -1,5 +1,5 @@
 use Rattle.std.proofs.Common.{◌≡◌, ◌+◌, map, drop}
-use Rattle.wat_fields.specs.Binary.{has_type, type_index}
+use Rattle.wat_fields.specs.ImplicitTypes.{has_type, type_index}
 use Rattle.wat_instructions.specs.Views.{type_of}
 use Rattle.wat_fields.proofs.indexed_types.first.Given as goal
 

@@ -1,5 +1,5 @@
 use Rattle.std.proofs.Common.{◌∙◌}
-use Rattle.wat_fields.specs.Binary.{used_type}
+use Rattle.wat_fields.specs.ImplicitTypes.{used_type}
 use Rattle.wat_fields.specs.Views.{use_of}
 use Rattle.wat_fields.proofs.TypeKeys.{index_by}
 use Rattle.wat_fields.proofs.indexed_types.IndexedTypes.used_index.Goals as goal

@@ -1,6 +1,6 @@
 use Rattle.std.proofs.Common.{◌∙◌, ap, map}
 use Rattle.wat_instructions.specs.Views.{type_of}
-use Rattle.wat_fields.specs.Binary.{used_type}
+use Rattle.wat_fields.specs.ImplicitTypes.{used_type}
 use Rattle.wat_fields.specs.Views.{use_of}
 use Rattle.wat_fields.specs.Indices.{found_type}
 use Rattle.wat_fields.proofs.TypeKeys.{found_by}

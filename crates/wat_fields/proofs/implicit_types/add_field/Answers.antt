@@ -1,0 +1,15 @@
+use Rattle.std.proofs.Common.{map, ◌∙◌, ap, sym}
+use Rattle.std.specs.List.{flat_map}
+use Rattle.wat_fields.specs.ImplicitTypes.{expression_types, mode_types, types_after, used_by}
+use Rattle.wat_fields.specs.Views.{field_of, items_of, mode_of}
+use Rattle.wat_fields.proofs.FunctionTypes.{after_more}
+use Rattle.wat_fields.proofs.implicit_types.add_field.Goals as goal
+
+pub returns-in_ok-add_elements-in-Elem : goal.returns-in_ok-add_elements-in-Elem
+returns-in_ok-add_elements-in-Elem c =
+    let elem = c.in-Elem.elem in
+    let uses = mode_types (mode_of elem.mode) in
+    c.in_ok-add_elements-in-Elem.ensures
+    ∙ ap (λ x. types_after c.add_mode.new.types (flat_map expression_types (map items_of x))) c.deref-in-Elem.ensures.value
+    ∙ ap (λ x. types_after x (flat_map expression_types (map items_of elem.elements.items))) c.in_ok-add_mode-in-Elem.ensures
+    ∙ sym (after_more c.args.types.now uses (flat_map expression_types (map items_of elem.elements.items))) ∙ ap (λ f. types_after c.args.types.now (used_by (field_of f))) (sym c.in-Elem.is)

@@ -1,8 +1,0 @@
-use Rattle.std.proofs.Common.{◌≡◌, [], map, drop}
-use Rattle.wat_fields.specs.Reading.{starts, Before}
-use Rattle.wat_instructions.specs.Terminals.{terminal}
-use Rattle.wat_fields.specs.Views.{depth_of, left_of, IsBelow}
-use Rattle.wat_fields.proofs.names.starts.Given as goal
-
-abbrev pub invariant-loop-i : goal.invariant-loop-i
-invariant-loop-i l = (starts Before [] (map terminal l.pieces) ≡ starts (depth_of l.depth) (map left_of l.starts.items) (map terminal (drop l.i l.pieces))) × IsBelow (depth_of l.depth) l.i

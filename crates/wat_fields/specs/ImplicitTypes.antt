@@ -1,0 +1,80 @@
+-- WebAssembly 2.0 specification, 6.6.3 (text format, type uses): the types of a module, which are those that its fields define, and those that type uses
+-- without an index bring.
+use Rattle.std.specs.Prelude.{ℕ, suc, Bool, true, false, List, [], ◌∷◌, ◌++◌, map, Option, Some, None, if◌then◌else◌}
+use Rattle.std.specs.List.{flat_map}
+use Rattle.wat_instructions.specs.declared.pieces.Argument.{Argument}
+use Rattle.wat_instructions.specs.declared.pieces.Argument.TheVariants as argument
+use Rattle.wat_instructions.specs.declared.pieces.Instruction.{Instruction}
+use Rattle.wat_instructions.specs.Types.{FunctionType, same_type}
+use Rattle.wat_fields.specs.Fields.{ExternType, FuncType, OfTable, OfMemory, OfGlobal, Field, Func, Table, Memory, Global, Start, TypeUse, definition_type, definitions_of, function_type, ElemMode, Passive, Active, Declarative, Elements, Target}
+use Rattle.wat_fields.specs.Fields as field
+
+-- 6.6.3: the index of a type among these, which is the least
+abbrev pub type_index : FunctionType → List FunctionType → ℕ
+type_index t [] = 0
+type_index t (u ∷ us) = if same_type u t then 0 else suc (type_index t us)
+
+abbrev pub has_type : FunctionType → List FunctionType → Bool
+has_type t [] = false
+has_type t (u ∷ us) = if same_type u t then true else has_type t us
+
+-- a type use brings its type, after the others, where that is not among them
+abbrev pub with_type : List FunctionType → FunctionType → List FunctionType
+with_type ts t = if has_type t ts then ts else ts ++ t ∷ []
+
+abbrev pub used_type : TypeUse → FunctionType
+used_type u = function_type u.params u.results
+
+-- the types after those that are used, from those before
+abbrev pub types_after : List FunctionType → List FunctionType → List FunctionType
+types_after ts [] = ts
+types_after ts (u ∷ us) = types_after (with_type ts u) us
+
+-- the type that an instruction uses
+abbrev pub argument_types : Argument → List FunctionType
+argument_types (argument.Indirect c) = c.uses.type ∷ []
+argument_types (argument.BlockUse u) = u.type ∷ []
+argument_types a = []
+
+abbrev pub instruction_types : Instruction → List FunctionType
+instruction_types i = argument_types i.argument
+
+-- the types that instructions use, in their order, which is that of the binary format: a folded instruction comes after its operands, which 6.5.10 puts first
+abbrev pub expression_types : List Instruction → List FunctionType
+expression_types is = flat_map instruction_types is
+
+abbrev pub target_types : Option Target → List FunctionType
+target_types None = []
+target_types (Some t) = expression_types t.offset
+
+abbrev pub elements_types : Option Elements → List FunctionType
+elements_types None = []
+elements_types (Some es) = flat_map expression_types es
+
+abbrev pub mode_types : ElemMode → List FunctionType
+mode_types (Active t) = expression_types t.offset
+mode_types Passive = []
+mode_types Declarative = []
+
+abbrev pub extern_types : ExternType → List FunctionType
+extern_types (FuncType u) = used_type u ∷ []
+extern_types (OfTable t) = []
+extern_types (OfMemory l) = []
+extern_types (OfGlobal t) = []
+
+-- 6.6.3: the types that a field uses, as they appear: a function's own first, and then those of its instructions; and those of each other expression
+abbrev pub used_by : Field → List FunctionType
+used_by (field.TypeField l t) = []
+used_by (field.Import m n l ns t) = extern_types t
+used_by (Func f) = used_type f.uses ∷ expression_types f.body
+used_by (Table l ns t es) = elements_types es
+used_by (Memory l ns t bytes) = []
+used_by (Global l ns t is) = expression_types is
+used_by (field.Export n s i) = []
+used_by (Start i) = []
+used_by (field.Elem l m t es) = mode_types m ++ flat_map expression_types es
+used_by (field.Data l t bytes) = target_types t
+
+-- those that fields define, and after them those that type uses bring
+unfoldable pub types_of : List Field → List FunctionType
+types_of fs = types_after (map definition_type (definitions_of fs)) (flat_map used_by fs)

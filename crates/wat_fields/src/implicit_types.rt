@@ -1,0 +1,122 @@
+//! The types of a module: those that its fields define, and those that type uses bring.
+ghost use Rattle.std.specs.Prelude.{◌≡◌, ◌∷◌, [], IfOk, OnOk, MatchOption, map};
+ghost use Rattle.std.specs.List.{flat_map};
+ghost use Rattle.wat_fields.specs.Fields as grammar;
+ghost use Rattle.wat_fields.specs.ImplicitTypes as implicit;
+ghost use Rattle.wat_fields.specs.Views.{field_of, fields_of, items_of, mode_of};
+ghost use Rattle.wat_instructions.specs.Views.{type_of};
+
+use crate::fields::{ElemMode, Element, ExternType, Field};
+use crate::indexed_types::IndexedTypes;
+use std::alloc::{AllocError, Global};
+use wat_instructions::pieces::{Argument, Instruction};
+use wat_instructions::types::{UnnamedUse, copied};
+
+/// The types that fields define.
+fn defined_types(alloc: Global, fields: &[Field<'_>]) -> Result<IndexedTypes, AllocError>
+    ensures { IfOk result (λ types. types ≡ map grammar.definition_type (grammar.definitions_of (fields_of fields.now))) }
+{
+    let mut types = IndexedTypes::none(alloc);
+    for field in fields {
+        if let Field::Type(definition) = field {
+            types.push(copied(alloc, &definition.of)?)?;
+        }
+    }
+    Ok(types)
+}
+
+/// The type use of an instruction, where it has one.
+fn instruction_use(instruction: &Instruction) -> Option<&UnnamedUse>
+    ensures { MatchOption result (implicit.instruction_types instruction.now ≡ []) (λ u. implicit.instruction_types instruction.now ≡ type_of u.now.of ∷ []) }
+{
+    match &instruction.argument {
+        Argument::Indirect(call) => Some(call.uses()),
+        Argument::BlockUse(uses) => Some(uses.uses()),
+        _ => None,
+    }
+}
+
+/// Appends the types that instructions use.
+fn add_instructions(types: &mut IndexedTypes, all: &[Instruction]) -> Result<(), AllocError>
+    ensures { OnOk result (types.new ≡ implicit.types_after types.old (flat_map implicit.instruction_types all.now)) }
+{
+    for instruction in all {
+        if let Some(uses) = instruction_use(instruction) {
+            types.add(&uses.of)?;
+        }
+    }
+    Ok(())
+}
+
+/// Appends the types that elements use.
+fn add_elements(types: &mut IndexedTypes, elements: &[Element]) -> Result<(), AllocError>
+    ensures { OnOk result (types.new ≡ implicit.types_after types.old (flat_map implicit.expression_types (map items_of elements.now))) }
+{
+    for element in elements {
+        add_element(types, element)?;
+    }
+    Ok(())
+}
+
+/// Appends the types that an element uses.
+fn add_element(types: &mut IndexedTypes, element: &Element) -> Result<(), AllocError>
+    ensures { OnOk result (types.new ≡ implicit.types_after types.old (implicit.expression_types (items_of element.now))) }
+{
+    match element {
+        Element::Function(_) => Ok(()),
+        Element::Expression(instructions) => add_instructions(types, instructions),
+    }
+}
+
+/// Appends the types that the offset of an active element segment uses.
+fn add_mode(types: &mut IndexedTypes, mode: &ElemMode) -> Result<(), AllocError>
+    ensures { OnOk result (types.new ≡ implicit.types_after types.old (implicit.mode_types (mode_of mode.now))) }
+{
+    match mode {
+        ElemMode::Active(target) => add_instructions(types, &target.offset),
+        ElemMode::Passive | ElemMode::Declarative => Ok(()),
+    }
+}
+
+/// Appends the types that a field uses.
+fn add_field(types: &mut IndexedTypes, field: &Field<'_>) -> Result<(), AllocError>
+    ensures { OnOk result (types.new ≡ implicit.types_after types.old (implicit.used_by (field_of field.now))) }
+{
+    match field {
+        Field::Func(function) => {
+            types.add_used(&function.uses)?;
+            add_instructions(types, &function.body)
+        }
+        Field::Import(import) => match &import.what {
+            ExternType::Func(uses) => types.add_used(uses),
+            ExternType::Table(_) | ExternType::Memory(_) | ExternType::Global(_) => Ok(()),
+        },
+        Field::Table(table) => match &table.elements {
+            Some(elements) => add_elements(types, elements),
+            None => Ok(()),
+        },
+        Field::Global(global) => add_instructions(types, &global.first),
+        Field::Elem(elem) => {
+            add_mode(types, &elem.mode)?;
+            add_elements(types, &elem.elements)?;
+            Ok(())
+        }
+        Field::Data(data) => match &data.target {
+            Some(target) => add_instructions(types, &target.offset),
+            None => Ok(()),
+        },
+        Field::Type(_) | Field::Memory(_) | Field::Export(_) | Field::Start(_) => Ok(()),
+    }
+}
+
+/// The types that fields define, and after them those that type uses bring, each once.
+#[tactic(auto, unfolding(crate::specs::ImplicitTypes::types_of))]
+pub fn types_of(alloc: Global, fields: &[Field<'_>]) -> Result<IndexedTypes, AllocError>
+    ensures { IfOk result (λ types. types ≡ implicit.types_of (fields_of fields.now)) }
+{
+    let mut types = defined_types(alloc, fields)?;
+    for field in fields {
+        add_field(&mut types, field)?;
+    }
+    Ok(types)
+}

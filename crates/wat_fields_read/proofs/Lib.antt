@@ -1,0 +1,9 @@
+pub mod Manies
+pub mod Items
+pub mod TypeRules
+pub mod SegmentKinds
+pub mod ElementKinds
+pub mod FieldKinds
+pub mod Headers
+pub mod Modules
+pub mod Utf8

@@ -1,0 +1,13 @@
+use Rattle.std.proofs.Common.{List, map, length}
+use Rattle.wat_fields.specs.Fields.{Variable}
+use Rattle.wat_instructions.specs.Terminals.{terminal}
+use Rattle.wat_fields_read.specs.Reading.{Read, group_item}
+use Rattle.wat_fields_read.proofs.Manies.{Leads}
+use Rattle.wat_fields.specs.Views.{variable_of}
+use Rattle.wat_fields_read.proofs.header.variables.Given as goal
+
+abbrev pub invariant-groups : goal.invariant-groups
+invariant-groups l = (q : Read (List Variable)) → Leads (group_item l.word l.may_have_name) (map variable_of l.found.items) (map terminal l.left.pieces.now) q → Leads (group_item l.word l.may_have_name) (map variable_of l.initial.found.items) (map terminal l.initial.left.pieces.now) q
+
+abbrev pub decreases-groups : goal.decreases-groups
+decreases-groups l = length l.left.pieces.now

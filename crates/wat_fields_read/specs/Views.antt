@@ -1,0 +1,64 @@
+-- What the code's variables are in the definitions, and what a call that reads promises.
+use Rattle.std.specs.Prelude.{◌≡◌, ◌≤◌, ◌+◌, ◌++◌, ℕ, List, [], map, Some, None, Ok, Err}
+use Rattle.wat_instructions.specs.declared.pieces.Refusal.{Refusal}
+use Rattle.wat_instructions.specs.declared.pieces.Refusal.TheVariants as refusal
+use Rattle.wat_instructions.specs.Parts.{fault_of}
+use Rattle.wat_instructions.specs.Grammar.{Context}
+use Rattle.wat_instructions.specs.Terminals.{Terminal, Label, label, terminal}
+use Rattle.wat_instructions.specs.Types.{Types}
+use Rattle.wat_instructions.specs.Views.{type_of}
+use Rattle.wat_fields_read.specs.declared.module.Left as declared_left
+use Rattle.wat_fields_read.specs.declared.names.Binding as declared_binding
+use Rattle.wat_fields_read.specs.declared.names.Names as declared_names
+use Rattle.wat_fields_read.specs.declared.names.Depth as declared_depth
+use Rattle.wat_fields_read.specs.declared.names.Depth.TheVariants as depths
+use Rattle.wat_fields.specs.Fields.{Binding, binding}
+use Rattle.wat_fields_read.specs.Reading.{Item, Depth, Before, Inside}
+
+-- the tokens at a place
+abbrev pub left_of : declared_left.Left → List Terminal
+left_of l = map terminal l.pieces.now
+
+abbrev pub binding_of : declared_binding.Binding → Binding
+binding_of h = binding h.space (label h.name)
+
+abbrev pub types_of : declared_names.Names → Types
+types_of n = record { names = n.type_names; types = map type_of n.types.items }
+
+abbrev pub context_of : declared_names.Names → Context
+context_of n = record {
+  types = types_of n;
+  locals = [];
+  funcs = n.funcs;
+  tables = n.tables;
+  memories = n.memories;
+  globals = n.globals;
+  elems = n.elems;
+  datas = n.datas;
+}
+
+-- the same with names of local variables
+abbrev pub with_names : List Label → Context → Context
+with_names ls c = record { types = c.types; locals = ls; funcs = c.funcs; tables = c.tables; memories = c.memories; globals = c.globals; elems = c.elems; datas = c.datas }
+
+-- what a call that reads one item promises: none, and nothing else; or these after the others; or the fault; or memory was wanting
+abbrev pub NoItem : {V : Type 0} → Item V → List V → List V → Type 0
+NoItem item before after = (item ≡ None) × (after ≡ before)
+
+pub record IsItem {V : Type 0} (item : Item V) (before after : List V) (left : List Terminal) : Type 0 where
+  pub values : List V
+  pub is : item ≡ Some (Ok (values, left))
+  pub follow : after ≡ before ++ values
+
+abbrev pub ItemFaults : {V : Type 0} → Item V → Refusal → Type 0
+ItemFaults item (refusal.Text f) = item ≡ Some (Err (fault_of f))
+ItemFaults item (refusal.Memory e) = Unit {0}
+
+abbrev pub depth_of : declared_depth.Depth → Depth
+depth_of depths.Before = Before
+depth_of (depths.Inside n) = Inside n
+
+-- as many groups are open as there are tokens at most
+abbrev pub IsBelow : Depth → ℕ → Type 0
+IsBelow Before n = Unit {0}
+IsBelow (Inside d) n = d ≤ n

@@ -1,0 +1,492 @@
+//! Element segments, and tables that bring their elements.
+ghost use Rattle.std.specs.Prelude.{◌≡◌, [], ◌∷◌, Ok, Err, Some, codes, map, MatchOption, MatchResult};
+ghost use Rattle.wat_fields.specs.Fields as grammar;
+ghost use Rattle.wat_fields_read.specs.Reading as reading;
+ghost use Rattle.wat_fields.specs.Views.{field_of, items_of, mode_of, text_of};
+ghost use Rattle.wat_fields_read.specs.Views.{IsItem, ItemFaults, NoItem, context_of};
+ghost use Rattle.wat_instructions.specs.Grammar.{label_of, reference_type};
+ghost use Rattle.wat_instructions.specs.Parts.{Faults, fault_of};
+ghost use Rattle.wat_instructions.specs.Terminals.{label, terminal};
+
+use crate::header::{after, closed};
+use crate::module::Left;
+use crate::names::Names;
+use crate::segments::{expression, used};
+use crate::types::{table_type, twice_closed};
+use std::alloc::Global;
+use wat_fields::fields::{Elem, ElemMode, Element, Field, Limits, Table, TableType, Target};
+use wat_instructions::pieces::{Fault, FaultKind, Name, Piece, ReferenceType, Refusal};
+use wat_instructions::reading;
+
+/// Elements by their instructions.
+fn items<'p, 'a>(
+    alloc: Global,
+    names: &Names<'p>,
+    pieces: &'p [Piece<'a>],
+) -> Result<(Vec<Element>, &'p [Piece<'a>]), Refusal<'p, 'a>>
+    ensures { MatchResult result
+        (λ r. reading.all (reading.element_item (context_of names.now)) (map terminal pieces.now) ≡ Ok (map items_of r.0.items, map terminal r.1.now))
+        (λ e. Faults (reading.all (reading.element_item (context_of names.now)) (map terminal pieces.now)) e) }
+{
+    wat_instructions::laws::machine_is_grammar();
+    wat_instructions::laws::folded_is_grammar();
+    wat_instructions::laws::instructions_are_balanced();
+    let mut found = Vec::new(alloc);
+    let mut left = Left { pieces };
+    'items: loop {
+        match next_item(alloc, names, &mut found, left) {
+            Ok(Some(next)) => {
+                left = next;
+            }
+            Ok(None) => return Ok((found, left.pieces)),
+            Err(refusal) => return Err(refusal),
+        }
+    }
+}
+
+/// One of them, where there is one.
+#[tactic(auto, unfolding(crate::specs::Reading::element_item))]
+fn next_item<'p, 'a>(
+    alloc: Global,
+    names: &Names<'p>,
+    found: &mut Vec<Element>,
+    left: Left<'p, 'a>,
+) -> Result<Option<Left<'p, 'a>>, Refusal<'p, 'a>>
+    ensures { MatchResult result
+        (λ o. MatchOption o
+        (NoItem (reading.element_item (context_of names.now) (map terminal left.entry.pieces.now)) (map items_of found.old.items) (map items_of found.new.items))
+        (λ l. IsItem (reading.element_item (context_of names.now) (map terminal left.entry.pieces.now)) (map items_of found.old.items) (map items_of found.new.items) (map terminal l.pieces.now)))
+        (λ e. ItemFaults (reading.element_item (context_of names.now) (map terminal left.entry.pieces.now)) e) }
+{
+    match left.pieces {
+        [Piece::Open, ..] => match expression(alloc, names, "item", left.pieces) {
+            Ok((element, pieces)) => {
+                found.push(Element::Expression(element))?;
+                Ok(Some(Left { pieces }))
+            }
+            Err(refusal) => Err(refusal),
+        },
+        _ => Ok(None),
+    }
+}
+
+/// Elements by their functions.
+fn functions<'p, 'a>(
+    alloc: Global,
+    names: &Names<'p>,
+    pieces: &'p [Piece<'a>],
+) -> Result<(Vec<Element>, &'p [Piece<'a>]), Refusal<'p, 'a>>
+    ensures { MatchResult result
+        (λ r. reading.all (reading.function_item (context_of names.now)) (map terminal pieces.now) ≡ Ok (map items_of r.0.items, map terminal r.1.now))
+        (λ e. Faults (reading.all (reading.function_item (context_of names.now)) (map terminal pieces.now)) e) }
+{
+    wat_instructions::laws::machine_is_grammar();
+    wat_instructions::laws::folded_is_grammar();
+    wat_instructions::laws::instructions_are_balanced();
+    let mut found = Vec::new(alloc);
+    let mut left = Left { pieces };
+    'functions: loop {
+        match next_function(names, &mut found, left) {
+            Ok(Some(next)) => {
+                left = next;
+            }
+            Ok(None) => return Ok((found, left.pieces)),
+            Err(refusal) => return Err(refusal),
+        }
+    }
+}
+
+/// One of them, where there is one.
+#[tactic(auto, unfolding(crate::specs::Reading::function_item))]
+fn next_function<'p, 'a>(
+    names: &Names<'p>,
+    found: &mut Vec<Element>,
+    left: Left<'p, 'a>,
+) -> Result<Option<Left<'p, 'a>>, Refusal<'p, 'a>>
+    ensures { MatchResult result
+        (λ o. MatchOption o
+        (NoItem (reading.function_item (context_of names.now) (map terminal left.entry.pieces.now)) (map items_of found.old.items) (map items_of found.new.items))
+        (λ l. IsItem (reading.function_item (context_of names.now) (map terminal left.entry.pieces.now)) (map items_of found.old.items) (map items_of found.new.items) (map terminal l.pieces.now)))
+        (λ e. ItemFaults (reading.function_item (context_of names.now) (map terminal left.entry.pieces.now)) e) }
+{
+    match left.pieces {
+        [Piece::Integer(_, _) | Piece::Id(_), ..] => {
+            let (index, pieces) = reading::index(&names.funcs, left.pieces)?;
+            found.push(Element::Function(index))?;
+            Ok(Some(Left { pieces }))
+        }
+        _ => Ok(None),
+    }
+}
+
+/// Elements, by their instructions or by their functions.
+#[tactic(auto, unfolding(crate::specs::Reading::either_at))]
+fn either<'p, 'a>(
+    alloc: Global,
+    names: &Names<'p>,
+    pieces: &'p [Piece<'a>],
+) -> Result<(Vec<Element>, &'p [Piece<'a>]), Refusal<'p, 'a>>
+    ensures { MatchResult result
+        (λ r. reading.either_at (context_of names.now) (map terminal pieces.now) ≡ Ok (map items_of r.0.items, map terminal r.1.now))
+        (λ e. Faults (reading.either_at (context_of names.now) (map terminal pieces.now)) e) }
+{
+    match pieces {
+        [Piece::Open, ..] => items(alloc, names, pieces),
+        _ => functions(alloc, names, pieces),
+    }
+}
+
+/// A table, after its name and its exports.
+#[tactic(auto, unfolding(crate::specs::Reading::table_at))]
+pub(crate) fn table_at<'p, 'a>(
+    alloc: Global,
+    names: &Names<'p>,
+    name: Name<'p>,
+    exports: Vec<&'p [u8]>,
+    pieces: &'p [Piece<'a>],
+) -> Result<(Field<'p>, &'p [Piece<'a>]), Refusal<'p, 'a>>
+    ensures { MatchResult result
+        (λ r. reading.table_at (context_of names.now) (label name.entry) (map text_of exports.entry.items) (map terminal pieces.now) ≡ Ok (field_of r.0 ∷ [], map terminal r.1.now))
+        (λ e. Faults (reading.table_at (context_of names.now) (label name.entry) (map text_of exports.entry.items) (map terminal pieces.now)) e) }
+{
+    match pieces {
+        [Piece::Word(word), rest @ ..] => match reading::reference_type(word) {
+            Some(of) => table_open(alloc, names, name, exports, of, rest),
+            None => Err(Refusal::Text(Fault {
+                kind: FaultKind::UnknownWord,
+                left: pieces,
+            })),
+        },
+        [
+            Piece::Open
+            | Piece::Close
+            | Piece::Id(_)
+            | Piece::Integer(_, _)
+            | Piece::Text(_)
+            | Piece::Float(_, _)
+            | Piece::Other,
+            ..
+        ] => Ok(table_limits(name, exports, pieces)?),
+        [] => Ok(table_limits(name, exports, pieces)?),
+    }
+}
+
+/// A table that brings no elements.
+fn table_limits<'p, 'a>(
+    name: Name<'p>,
+    exports: Vec<&'p [u8]>,
+    pieces: &'p [Piece<'a>],
+) -> Result<(Field<'p>, &'p [Piece<'a>]), Fault<'p, 'a>>
+    ensures { MatchResult result
+        (λ r. reading.table_limits (label name.entry) (map text_of exports.entry.items) (map terminal pieces.now) ≡ Ok (field_of r.0 ∷ [], map terminal r.1.now))
+        (λ f. reading.table_limits (label name.entry) (map text_of exports.entry.items) (map terminal pieces.now) ≡ Err (fault_of f)) }
+{
+    let (of, rest) = table_type(pieces)?;
+    let rest = closed(rest)?;
+    Ok((
+        Field::Table(Table {
+            name,
+            exports,
+            of,
+            elements: None,
+        }),
+        rest,
+    ))
+}
+
+/// A table after the type of its elements.
+fn table_open<'p, 'a>(
+    alloc: Global,
+    names: &Names<'p>,
+    name: Name<'p>,
+    exports: Vec<&'p [u8]>,
+    of: ReferenceType,
+    pieces: &'p [Piece<'a>],
+) -> Result<(Field<'p>, &'p [Piece<'a>]), Refusal<'p, 'a>>
+    ensures { MatchResult result
+        (λ r. reading.table_by (context_of names.now) (label name.entry) (map text_of exports.entry.items) (Some of) (map terminal pieces.now) (map terminal pieces.now) ≡ Ok (field_of r.0 ∷ [], map terminal r.1.now))
+        (λ e. Faults (reading.table_by (context_of names.now) (label name.entry) (map text_of exports.entry.items) (Some of) (map terminal pieces.now) (map terminal pieces.now)) e) }
+{
+    match after("elem", pieces) {
+        Some(rest) => table_elements(alloc, names, name, exports, of, rest),
+        None => Err(Refusal::Text(Fault {
+            kind: FaultKind::Unexpected,
+            left: pieces,
+        })),
+    }
+}
+
+/// The same after `(elem`.
+fn table_elements<'p, 'a>(
+    alloc: Global,
+    names: &Names<'p>,
+    name: Name<'p>,
+    exports: Vec<&'p [u8]>,
+    of: ReferenceType,
+    pieces: &'p [Piece<'a>],
+) -> Result<(Field<'p>, &'p [Piece<'a>]), Refusal<'p, 'a>>
+    ensures { MatchResult result
+        (λ r. reading.table_elements (context_of names.now) (label name.entry) (map text_of exports.entry.items) of (map terminal pieces.now) ≡ Ok (field_of r.0 ∷ [], map terminal r.1.now))
+        (λ e. Faults (reading.table_elements (context_of names.now) (label name.entry) (map text_of exports.entry.items) of (map terminal pieces.now)) e) }
+{
+    let (elements, rest) = either(alloc, names, pieces)?;
+    let rest = twice_closed(rest)?;
+    Ok(table_with(name, exports, of, pieces, elements, rest)?)
+}
+
+/// A table of as many elements as these, which it brings.
+fn table_with<'p, 'a>(
+    name: Name<'p>,
+    exports: Vec<&'p [u8]>,
+    of: ReferenceType,
+    all: &'p [Piece<'a>],
+    elements: Vec<Element>,
+    rest: &'p [Piece<'a>],
+) -> Result<(Field<'p>, &'p [Piece<'a>]), Fault<'p, 'a>>
+    ensures { MatchResult result
+        (λ r. reading.table_with (label name.entry) (map text_of exports.entry.items) of (map terminal all.now) (map items_of elements.items) (map terminal rest.now) ≡ Ok (field_of r.0 ∷ [], map terminal r.1.now))
+        (λ f. reading.table_with (label name.entry) (map text_of exports.entry.items) of (map terminal all.now) (map items_of elements.items) (map terminal rest.now) ≡ Err (fault_of f)) }
+{
+    if elements.len() >= 0x1_0000_0000 {
+        return Err(Fault {
+            kind: FaultKind::OutOfRange,
+            left: all,
+        });
+    }
+    let size = elements.len() as u32;
+    Ok((
+        Field::Table(Table {
+            name,
+            exports,
+            of: TableType {
+                limits: Limits {
+                    min: size,
+                    max: Some(size),
+                },
+                element: of,
+            },
+            elements: Some(elements),
+        }),
+        rest,
+    ))
+}
+
+/// A list of elements.
+#[tactic(auto, unfolding(crate::specs::Reading::elements_at))]
+fn elements<'p, 'a>(
+    alloc: Global,
+    names: &Names<'p>,
+    pieces: &'p [Piece<'a>],
+) -> Result<((ReferenceType, Vec<Element>), &'p [Piece<'a>]), Refusal<'p, 'a>>
+    ensures { MatchResult result
+        (λ r. reading.elements_at (context_of names.now) (map terminal pieces.now) ≡ Ok ((r.0.0, map items_of r.0.1.items), map terminal r.1.now))
+        (λ e. Faults (reading.elements_at (context_of names.now) (map terminal pieces.now)) e) }
+{
+    match pieces {
+        [Piece::Word(word), rest @ ..] => elements_after(alloc, names, *word, pieces, rest),
+        _ => Err(Refusal::Text(Fault {
+            kind: FaultKind::Unexpected,
+            left: pieces,
+        })),
+    }
+}
+
+/// The same after its word, with which all these tokens begin.
+fn elements_after<'p, 'a>(
+    alloc: Global,
+    names: &Names<'p>,
+    word: &str,
+    all: &'p [Piece<'a>],
+    pieces: &'p [Piece<'a>],
+) -> Result<((ReferenceType, Vec<Element>), &'p [Piece<'a>]), Refusal<'p, 'a>>
+    ensures { MatchResult result
+        (λ r. reading.elements_by (context_of names.now) word.now (reference_type word.now) (map terminal all.now) (map terminal pieces.now) ≡ Ok ((r.0.0, map items_of r.0.1.items), map terminal r.1.now))
+        (λ e. Faults (reading.elements_by (context_of names.now) word.now (reference_type word.now) (map terminal all.now) (map terminal pieces.now)) e) }
+{
+    match reading::reference_type(word) {
+        Some(of) => {
+            let (elements, rest) = items(alloc, names, pieces)?;
+            Ok(((of, elements), rest))
+        }
+        None => {
+            if word == "func" {
+                let (elements, rest) = functions(alloc, names, pieces)?;
+                Ok(((ReferenceType::Func, elements), rest))
+            } else {
+                Err(Refusal::Text(Fault {
+                    kind: FaultKind::UnknownWord,
+                    left: all,
+                }))
+            }
+        }
+    }
+}
+
+/// A list of elements, and `)`.
+fn elem_list<'p, 'a>(
+    alloc: Global,
+    names: &Names<'p>,
+    name: Name<'p>,
+    mode: ElemMode,
+    pieces: &'p [Piece<'a>],
+) -> Result<(Field<'p>, &'p [Piece<'a>]), Refusal<'p, 'a>>
+    ensures { MatchResult result
+        (λ r. reading.elem_list (context_of names.now) (label name.entry) (mode_of mode) (map terminal pieces.now) ≡ Ok (field_of r.0 ∷ [], map terminal r.1.now))
+        (λ e. Faults (reading.elem_list (context_of names.now) (label name.entry) (mode_of mode) (map terminal pieces.now)) e) }
+{
+    let ((of, elements), rest) = elements(alloc, names, pieces)?;
+    let rest = closed(rest)?;
+    Ok((
+        Field::Elem(Elem {
+            name,
+            mode,
+            of,
+            elements,
+        }),
+        rest,
+    ))
+}
+
+/// Functions that are elements, and `)`.
+fn functions_list<'p, 'a>(
+    alloc: Global,
+    names: &Names<'p>,
+    name: Name<'p>,
+    mode: ElemMode,
+    pieces: &'p [Piece<'a>],
+) -> Result<(Field<'p>, &'p [Piece<'a>]), Refusal<'p, 'a>>
+    ensures { MatchResult result
+        (λ r. reading.functions_list (context_of names.now) (label name.entry) (mode_of mode) (map terminal pieces.now) ≡ Ok (field_of r.0 ∷ [], map terminal r.1.now))
+        (λ e. Faults (reading.functions_list (context_of names.now) (label name.entry) (mode_of mode) (map terminal pieces.now)) e) }
+{
+    let (elements, rest) = functions(alloc, names, pieces)?;
+    let rest = closed(rest)?;
+    Ok((
+        Field::Elem(Elem {
+            name,
+            mode,
+            of: ReferenceType::Func,
+            elements,
+        }),
+        rest,
+    ))
+}
+
+/// Elements of the first table, which is not said, after their offset.
+#[tactic(auto, unfolding(crate::specs::Reading::first_table))]
+fn first_table<'p, 'a>(
+    alloc: Global,
+    names: &Names<'p>,
+    name: Name<'p>,
+    mode: ElemMode,
+    pieces: &'p [Piece<'a>],
+) -> Result<(Field<'p>, &'p [Piece<'a>]), Refusal<'p, 'a>>
+    ensures { MatchResult result
+        (λ r. reading.first_table (context_of names.now) (label name.entry) (mode_of mode) (map terminal pieces.now) ≡ Ok (field_of r.0 ∷ [], map terminal r.1.now))
+        (λ e. Faults (reading.first_table (context_of names.now) (label name.entry) (mode_of mode) (map terminal pieces.now)) e) }
+{
+    match pieces {
+        [Piece::Word(_), ..] => elem_list(alloc, names, name, mode, pieces),
+        _ => functions_list(alloc, names, name, mode, pieces),
+    }
+}
+
+/// Elements of the table that is said.
+fn said_table<'p, 'a>(
+    alloc: Global,
+    names: &Names<'p>,
+    name: Name<'p>,
+    pieces: &'p [Piece<'a>],
+) -> Result<(Field<'p>, &'p [Piece<'a>]), Refusal<'p, 'a>>
+    ensures { MatchResult result
+        (λ r. reading.said_table (context_of names.now) (label name.entry) (map terminal pieces.now) ≡ Ok (field_of r.0 ∷ [], map terminal r.1.now))
+        (λ e. Faults (reading.said_table (context_of names.now) (label name.entry) (map terminal pieces.now)) e) }
+{
+    let (index, rest) = used("table", &names.tables, pieces)?;
+    let (offset, rest) = expression(alloc, names, "offset", rest)?;
+    let mode = ElemMode::Active(Target { index, offset });
+    elem_list(alloc, names, name, mode, rest)
+}
+
+/// Elements of a table.
+fn active_elem<'p, 'a>(
+    alloc: Global,
+    names: &Names<'p>,
+    name: Name<'p>,
+    pieces: &'p [Piece<'a>],
+) -> Result<(Field<'p>, &'p [Piece<'a>]), Refusal<'p, 'a>>
+    ensures { MatchResult result
+        (λ r. reading.active_elem (context_of names.now) (label name.entry) (reading.after (codes "table") (map terminal pieces.now)) (map terminal pieces.now) ≡ Ok (field_of r.0 ∷ [], map terminal r.1.now))
+        (λ e. Faults (reading.active_elem (context_of names.now) (label name.entry) (reading.after (codes "table") (map terminal pieces.now)) (map terminal pieces.now)) e) }
+{
+    match after("table", pieces) {
+        Some(_) => said_table(alloc, names, name, pieces),
+        None => {
+            let index = 0;
+            let (offset, rest) = expression(alloc, names, "offset", pieces)?;
+            first_table(
+                alloc,
+                names,
+                name,
+                ElemMode::Active(Target { index, offset }),
+                rest,
+            )
+        }
+    }
+}
+
+/// An element segment, after its word.
+pub(crate) fn elem_at<'p, 'a>(
+    alloc: Global,
+    names: &Names<'p>,
+    pieces: &'p [Piece<'a>],
+) -> Result<(Field<'p>, &'p [Piece<'a>]), Refusal<'p, 'a>>
+    ensures { MatchResult result
+        (λ r. reading.elem_at (context_of names.now) (label_of (map terminal pieces.now)) ≡ Ok (field_of r.0 ∷ [], map terminal r.1.now))
+        (λ e. Faults (reading.elem_at (context_of names.now) (label_of (map terminal pieces.now))) e) }
+{
+    let (name, rest) = reading::label(pieces);
+    elem_after(alloc, names, name, rest)
+}
+
+/// An element segment, after its name.
+#[tactic(auto, unfolding(crate::specs::Reading::elem_after))]
+fn elem_after<'p, 'a>(
+    alloc: Global,
+    names: &Names<'p>,
+    name: Name<'p>,
+    pieces: &'p [Piece<'a>],
+) -> Result<(Field<'p>, &'p [Piece<'a>]), Refusal<'p, 'a>>
+    ensures { MatchResult result
+        (λ r. reading.elem_after (context_of names.now) (label name.entry) (map terminal pieces.now) ≡ Ok (field_of r.0 ∷ [], map terminal r.1.now))
+        (λ e. Faults (reading.elem_after (context_of names.now) (label name.entry) (map terminal pieces.now)) e) }
+{
+    match pieces {
+        [Piece::Open, ..] => active_elem(alloc, names, name, pieces),
+        [Piece::Word(word), rest @ ..] => elem_word(alloc, names, name, *word, pieces, rest),
+        _ => Err(Refusal::Text(Fault {
+            kind: FaultKind::Unexpected,
+            left: pieces,
+        })),
+    }
+}
+
+/// A declarative or passive element segment, after its first word, with which all these tokens
+/// begin.
+fn elem_word<'p, 'a>(
+    alloc: Global,
+    names: &Names<'p>,
+    name: Name<'p>,
+    word: &str,
+    all: &'p [Piece<'a>],
+    pieces: &'p [Piece<'a>],
+) -> Result<(Field<'p>, &'p [Piece<'a>]), Refusal<'p, 'a>>
+    ensures { MatchResult result
+        (λ r. reading.elem_word (context_of names.now) (label name.entry) word.now (map terminal all.now) (map terminal pieces.now) ≡ Ok (field_of r.0 ∷ [], map terminal r.1.now))
+        (λ e. Faults (reading.elem_word (context_of names.now) (label name.entry) word.now (map terminal all.now) (map terminal pieces.now)) e) }
+{
+    if word == "declare" {
+        return elem_list(alloc, names, name, ElemMode::Declarative, pieces);
+    }
+    elem_list(alloc, names, name, ElemMode::Passive, all)
+}

@@ -1,0 +1,343 @@
+//! Inline exports, and groups of parameters, results and local variables.
+ghost use Rattle.std.specs.Prelude.{◌≡◌, [], ◌∷◌, Ok, Err, map, true, false, codes, IfOk, None, Some, MatchOption, MatchResult};
+ghost use Rattle.std.specs.Str.{is_utf8};
+ghost use Rattle.wat_fields.specs.Fields.{unnamed};
+ghost use Rattle.wat_fields_read.specs.Reading as reading;
+ghost use Rattle.wat_fields.specs.Views.{text_of, variable_of};
+ghost use Rattle.wat_fields_read.specs.Views.{IsItem, ItemFaults, NoItem};
+ghost use Rattle.wat_instructions.specs.Parts.{Faults, fault_of};
+ghost use Rattle.wat_instructions.specs.Terminals.{terminal};
+
+use crate::module::Left;
+use std::alloc::{AllocError, Global};
+use std::str;
+use wat_fields::fields::Variable;
+use wat_instructions::pieces::{Fault, FaultKind, Name, Piece, Refusal, ValueType};
+use wat_instructions::reading::value_type;
+
+/// The names under which an item is exported.
+pub(crate) fn exports<'p, 'a>(
+    alloc: Global,
+    pieces: &'p [Piece<'a>],
+) -> Result<(Vec<&'p [u8]>, &'p [Piece<'a>]), Refusal<'p, 'a>>
+    ensures { MatchResult result
+        (λ r. reading.all reading.export_item (map terminal pieces.now) ≡ Ok (map text_of r.0.items, map terminal r.1.now))
+        (λ e. Faults (reading.all reading.export_item (map terminal pieces.now)) e) }
+{
+    let mut found = Vec::new(alloc);
+    let mut left = Left { pieces };
+    'exports: loop {
+        match next_export(&mut found, left) {
+            Ok(Some(next)) => {
+                left = next;
+            }
+            Ok(None) => return Ok((found, left.pieces)),
+            Err(refusal) => return Err(refusal),
+        }
+    }
+}
+
+/// All variables in groups that begin with a word.
+pub(crate) fn variables<'p, 'a>(
+    alloc: Global,
+    word: &str,
+    may_have_name: bool,
+    pieces: &'p [Piece<'a>],
+) -> Result<(Vec<Variable<'p>>, &'p [Piece<'a>]), Refusal<'p, 'a>>
+    ensures { MatchResult result
+        (λ r. reading.all (reading.group_item word.now may_have_name) (map terminal pieces.now) ≡ Ok (map variable_of r.0.items, map terminal r.1.now))
+        (λ e. Faults (reading.all (reading.group_item word.now may_have_name) (map terminal pieces.now)) e) }
+{
+    let mut found = Vec::new(alloc);
+    let mut left = Left { pieces };
+    'groups: loop {
+        match next_group(alloc, word, may_have_name, &mut found, left) {
+            Ok(Some(next)) => {
+                left = next;
+            }
+            Ok(None) => return Ok((found, left.pieces)),
+            Err(refusal) => return Err(refusal),
+        }
+    }
+}
+
+/// Value types.
+fn values<'p, 'a>(
+    alloc: Global,
+    pieces: &'p [Piece<'a>],
+) -> Result<(Vec<ValueType>, &'p [Piece<'a>]), Refusal<'p, 'a>>
+    ensures { MatchResult result
+        (λ r. reading.all reading.value_item (map terminal pieces.now) ≡ Ok (r.0.items, map terminal r.1.now))
+        (λ e. Faults (reading.all reading.value_item (map terminal pieces.now)) e) }
+{
+    let mut found = Vec::new(alloc);
+    let mut left = Left { pieces };
+    'values: loop {
+        match next_value(&mut found, left) {
+            Ok(Some(next)) => {
+                left = next;
+            }
+            Ok(None) => return Ok((found, left.pieces)),
+            Err(refusal) => return Err(refusal),
+        }
+    }
+}
+
+/// What comes after `(` and a word, where the tokens begin so.
+pub(crate) fn after<'p, 'a>(word: &str, pieces: &'p [Piece<'a>]) -> Option<&'p [Piece<'a>]>
+    ensures { MatchOption result (reading.after word.now (map terminal pieces.now) ≡ None) (λ r. reading.after word.now (map terminal pieces.now) ≡ Some (map terminal r.now)) }
+{
+    match pieces {
+        [Piece::Open, rest @ ..] => after_word(word, rest),
+        _ => None,
+    }
+}
+
+/// What comes after a word, where the tokens begin with it.
+fn after_word<'p, 'a>(word: &str, pieces: &'p [Piece<'a>]) -> Option<&'p [Piece<'a>]>
+    ensures { MatchOption result (reading.after_word word.now (map terminal pieces.now) ≡ None) (λ r. reading.after_word word.now (map terminal pieces.now) ≡ Some (map terminal r.now)) }
+{
+    match pieces {
+        [Piece::Word(of), rest @ ..] => { if *of == word { Some(rest) } else { None } }
+        _ => None,
+    }
+}
+
+/// What comes after `)`.
+pub(crate) fn closed<'p, 'a>(pieces: &'p [Piece<'a>]) -> Result<&'p [Piece<'a>], Fault<'p, 'a>>
+    ensures { MatchResult result
+        (λ r. reading.closed (map terminal pieces.now) ≡ Ok (map terminal r.now))
+        (λ f. reading.closed (map terminal pieces.now) ≡ Err (fault_of f)) }
+{
+    match pieces {
+        [Piece::Close, rest @ ..] => Ok(rest),
+        _ => Err(Fault {
+            kind: FaultKind::Unexpected,
+            left: pieces,
+        }),
+    }
+}
+
+/// Whether bytes are UTF-8.
+fn is_utf8(bytes: &[u8]) -> bool
+    ensures { result ≡ is_utf8 bytes.now }
+{
+    match str::from_utf8(bytes) {
+        Ok(_) => true,
+        Err(_) => false,
+    }
+}
+
+/// A string that is UTF-8.
+pub(crate) fn utf8_text<'p, 'a>(
+    pieces: &'p [Piece<'a>],
+) -> Result<(&'p [u8], &'p [Piece<'a>]), Fault<'p, 'a>>
+    ensures { MatchResult result
+        (λ r. reading.utf8_text (map terminal pieces.now) ≡ Ok (r.0.now, map terminal r.1.now))
+        (λ f. reading.utf8_text (map terminal pieces.now) ≡ Err (fault_of f)) }
+{
+    match pieces {
+        [Piece::Text(text), rest @ ..] => {
+            if is_utf8(text) {
+                Ok((*text, rest))
+            } else {
+                Err(Fault {
+                    kind: FaultKind::NotUtf8,
+                    left: pieces,
+                })
+            }
+        }
+        _ => Err(Fault {
+            kind: FaultKind::Unexpected,
+            left: pieces,
+        }),
+    }
+}
+
+/// The name of an export, and `)`.
+#[tactic(auto, unfolding(crate::specs::Reading::export))]
+fn export<'p, 'a>(pieces: &'p [Piece<'a>]) -> Result<(&'p [u8], &'p [Piece<'a>]), Fault<'p, 'a>>
+    ensures { MatchResult result
+        (λ r. reading.export (map terminal pieces.now) ≡ Ok (r.0.now ∷ [], map terminal r.1.now))
+        (λ f. reading.export (map terminal pieces.now) ≡ Err (fault_of f)) }
+{
+    let (name, rest) = utf8_text(pieces)?;
+    let rest = closed(rest)?;
+    Ok((name, rest))
+}
+
+/// One export, where there is one.
+#[tactic(auto, unfolding(crate::specs::Reading::export_item))]
+fn next_export<'p, 'a>(
+    found: &mut Vec<&'p [u8]>,
+    left: Left<'p, 'a>,
+) -> Result<Option<Left<'p, 'a>>, Refusal<'p, 'a>>
+    ensures { MatchResult result
+        (λ o. MatchOption o
+        (NoItem (reading.export_item (map terminal left.entry.pieces.now)) (map text_of found.old.items) (map text_of found.new.items))
+        (λ l. IsItem (reading.export_item (map terminal left.entry.pieces.now)) (map text_of found.old.items) (map text_of found.new.items) (map terminal l.pieces.now)))
+        (λ e. ItemFaults (reading.export_item (map terminal left.entry.pieces.now)) e) }
+{
+    match after("export", left.pieces) {
+        Some(rest) => {
+            let (name, pieces) = export(rest)?;
+            found.push(name)?;
+            Ok(Some(Left { pieces }))
+        }
+        None => Ok(None),
+    }
+}
+
+/// The variables of one group that begins with the word, where there is one.
+#[tactic(auto, unfolding(crate::specs::Reading::group_item))]
+fn next_group<'p, 'a>(
+    alloc: Global,
+    word: &str,
+    may_have_name: bool,
+    found: &mut Vec<Variable<'p>>,
+    left: Left<'p, 'a>,
+) -> Result<Option<Left<'p, 'a>>, Refusal<'p, 'a>>
+    ensures { MatchResult result
+        (λ o. MatchOption o
+        (NoItem (reading.group_item word.now may_have_name (map terminal left.entry.pieces.now)) (map variable_of found.old.items) (map variable_of found.new.items))
+        (λ l. IsItem (reading.group_item word.now may_have_name (map terminal left.entry.pieces.now)) (map variable_of found.old.items) (map variable_of found.new.items) (map terminal l.pieces.now)))
+        (λ e. ItemFaults (reading.group_item word.now may_have_name (map terminal left.entry.pieces.now)) e) }
+{
+    match after(word, left.pieces) {
+        Some(rest) => match group(alloc, may_have_name, rest) {
+            Ok((variables, pieces)) => {
+                found.extend_from_slice(&variables)?;
+                Ok(Some(Left { pieces }))
+            }
+            Err(refusal) => Err(refusal),
+        },
+        None => Ok(None),
+    }
+}
+
+/// One value type, where there is a word.
+#[tactic(auto, unfolding(crate::specs::Reading::value_item))]
+fn next_value<'p, 'a>(
+    found: &mut Vec<ValueType>,
+    left: Left<'p, 'a>,
+) -> Result<Option<Left<'p, 'a>>, Refusal<'p, 'a>>
+    ensures { MatchResult result
+        (λ o. MatchOption o
+        (NoItem (reading.value_item (map terminal left.entry.pieces.now)) (found.old.items) (found.new.items))
+        (λ l. IsItem (reading.value_item (map terminal left.entry.pieces.now)) (found.old.items) (found.new.items) (map terminal l.pieces.now)))
+        (λ e. ItemFaults (reading.value_item (map terminal left.entry.pieces.now)) e) }
+{
+    match left.pieces {
+        [Piece::Word(word), pieces @ ..] => match value_type(word) {
+            Some(of) => {
+                found.push(of)?;
+                Ok(Some(Left { pieces }))
+            }
+            None => Err(Refusal::Text(Fault {
+                kind: FaultKind::UnknownWord,
+                left: left.pieces,
+            })),
+        },
+        _ => Ok(None),
+    }
+}
+
+/// A group after its word.
+#[tactic(auto, unfolding(crate::specs::Reading::group))]
+fn group<'p, 'a>(
+    alloc: Global,
+    may_have_name: bool,
+    pieces: &'p [Piece<'a>],
+) -> Result<(Vec<Variable<'p>>, &'p [Piece<'a>]), Refusal<'p, 'a>>
+    ensures { MatchResult result
+        (λ r. reading.group may_have_name (map terminal pieces.now) ≡ Ok (map variable_of r.0.items, map terminal r.1.now))
+        (λ e. Faults (reading.group may_have_name (map terminal pieces.now)) e) }
+{
+    match pieces {
+        [Piece::Id(name), rest @ ..] => {
+            if may_have_name {
+                named_one(alloc, name, rest)
+            } else {
+                Err(Refusal::Text(Fault {
+                    kind: FaultKind::Unexpected,
+                    left: pieces,
+                }))
+            }
+        }
+        _ => listed(alloc, pieces),
+    }
+}
+
+/// After a name: its type, and `)`.
+fn named_one<'p, 'a>(
+    alloc: Global,
+    name: &'p str,
+    pieces: &'p [Piece<'a>],
+) -> Result<(Vec<Variable<'p>>, &'p [Piece<'a>]), Refusal<'p, 'a>>
+    ensures { MatchResult result
+        (λ r. reading.named_one name.now (map terminal pieces.now) ≡ Ok (map variable_of r.0.items, map terminal r.1.now))
+        (λ e. Faults (reading.named_one name.now (map terminal pieces.now)) e) }
+{
+    match pieces {
+        [Piece::Word(word), rest @ ..] => match value_type(word) {
+            Some(of) => named_type(alloc, name, of, rest),
+            None => Err(Refusal::Text(Fault {
+                kind: FaultKind::UnknownWord,
+                left: pieces,
+            })),
+        },
+        _ => Err(Refusal::Text(Fault {
+            kind: FaultKind::Unexpected,
+            left: pieces,
+        })),
+    }
+}
+
+/// After a name and its type: `)`.
+fn named_type<'p, 'a>(
+    alloc: Global,
+    name: &'p str,
+    of: ValueType,
+    pieces: &'p [Piece<'a>],
+) -> Result<(Vec<Variable<'p>>, &'p [Piece<'a>]), Refusal<'p, 'a>>
+    ensures { MatchResult result
+        (λ r. reading.named_type name.now (Some of) (map terminal pieces.now) (map terminal pieces.now) ≡ Ok (map variable_of r.0.items, map terminal r.1.now))
+        (λ e. Faults (reading.named_type name.now (Some of) (map terminal pieces.now) (map terminal pieces.now)) e) }
+{
+    let rest = closed(pieces)?;
+    let name = Name::Given(name);
+    let mut variables = Vec::new(alloc);
+    variables.push(Variable { name, of })?;
+    Ok((variables, rest))
+}
+
+/// Value types and `)`.
+#[tactic(auto, unfolding(crate::specs::Reading::listed))]
+fn listed<'p, 'a>(
+    alloc: Global,
+    pieces: &'p [Piece<'a>],
+) -> Result<(Vec<Variable<'p>>, &'p [Piece<'a>]), Refusal<'p, 'a>>
+    ensures { MatchResult result
+        (λ r. reading.listed (map terminal pieces.now) ≡ Ok (map variable_of r.0.items, map terminal r.1.now))
+        (λ e. Faults (reading.listed (map terminal pieces.now)) e) }
+{
+    let (types, rest) = values(alloc, pieces)?;
+    let rest = closed(rest)?;
+    let variables = unnamed(alloc, &types)?;
+    Ok((variables, rest))
+}
+
+/// Variables without names.
+pub(crate) fn unnamed<'p>(
+    alloc: Global,
+    types: &[ValueType],
+) -> Result<Vec<Variable<'p>>, AllocError>
+    ensures { IfOk result (λ variables. map variable_of variables.items ≡ map unnamed types.now) }
+{
+    let mut variables = Vec::new(alloc);
+    let name = Name::Absent;
+    for of in types {
+        variables.push(Variable { name, of: *of })?;
+    }
+    Ok(variables)
+}

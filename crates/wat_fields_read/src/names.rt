@@ -1,0 +1,460 @@
+//! The items that fields define, before the fields are read; and whether names are distinct.
+ghost use Rattle.std.specs.Prelude.{◌≡◌, ◌++◌, ◌∷◌, [], IfOk, IfSome, MatchOption, is_some, map};
+ghost use Rattle.std.specs.List.{flat_map};
+ghost use Rattle.wat_fields.specs.Fields.{all_distinct, definition_name, definition_type, is_space, name_of, names_in, names_of};
+ghost use Rattle.wat_fields.specs.Fields as grammar;
+ghost use Rattle.wat_fields_read.specs.Reading as reading;
+ghost use Rattle.wat_fields.specs.Views.{definition_of, variable_of};
+ghost use Rattle.wat_fields_read.specs.Views.{binding_of, context_of, depth_of, left_of, types_of};
+ghost use Rattle.wat_instructions.specs.Grammar.{label_of};
+ghost use Rattle.wat_instructions.specs.Names.{are_distinct};
+ghost use Rattle.wat_instructions.specs.Terminals.{label, terminal};
+ghost use Rattle.wat_instructions.specs.Views.{type_of};
+
+use crate::header::{after, exports};
+use crate::module::Left;
+use crate::types::space_of;
+use crate::uses::type_at;
+use std::alloc::{AllocError, Global};
+use wat_fields::fields::{Definition, IndexSpace, Variable};
+use wat_instructions::names::IndexedNames;
+use wat_instructions::pieces::{Name, Piece, Refusal};
+use wat_instructions::reading::label;
+use wat_instructions::types::FunctionType;
+
+/// Where a token is: before a `(` of a field, and in a field, in so many groups more.
+#[derive(Clone, Copy)]
+enum Depth {
+    Before,
+    Inside(usize),
+}
+
+/// An item of an index space.
+#[derive(Clone, Copy)]
+struct Binding<'p> {
+    space: IndexSpace,
+    name: Name<'p>,
+}
+
+/// The names of each index space, in the order of their indices; and the types.
+#[derive(Drop)]
+pub(crate) struct Names<'p> {
+    pub(crate) funcs: IndexedNames<'p>,
+    pub(crate) tables: IndexedNames<'p>,
+    pub(crate) memories: IndexedNames<'p>,
+    pub(crate) globals: IndexedNames<'p>,
+    pub(crate) elems: IndexedNames<'p>,
+    pub(crate) datas: IndexedNames<'p>,
+    pub(crate) type_names: IndexedNames<'p>,
+    pub(crate) types: Vec<FunctionType>,
+}
+
+/// What the fields bring into the context, by the parentheses alone; None where two names in an
+/// index space are the same.
+pub(crate) fn names_of<'p, 'a>(
+    alloc: Global,
+    pieces: &'p [Piece<'a>],
+) -> Result<Option<Names<'p>>, AllocError>
+    ensures context { IfOk result (λ found. IfSome found (λ names. context_of names ≡ grammar.context_of (grammar.types_in (flat_map reading.definition_at (reading.starts reading.Before [] (map terminal pieces.now)))) (flat_map reading.binding_at (reading.starts reading.Before [] (map terminal pieces.now))) (flat_map reading.elem_name_at (reading.starts reading.Before [] (map terminal pieces.now))) (flat_map reading.data_name_at (reading.starts reading.Before [] (map terminal pieces.now))))) }
+    ensures types { IfOk result (λ found. IfSome found (λ names. types_of names ≡ grammar.types_in (flat_map reading.definition_at (reading.starts reading.Before [] (map terminal pieces.now))))) }
+    ensures distinct { IfOk result (λ found. is_some found ≡ all_distinct (grammar.types_in (flat_map reading.definition_at (reading.starts reading.Before [] (map terminal pieces.now)))) (grammar.context_of (grammar.types_in (flat_map reading.definition_at (reading.starts reading.Before [] (map terminal pieces.now)))) (flat_map reading.binding_at (reading.starts reading.Before [] (map terminal pieces.now))) (flat_map reading.elem_name_at (reading.starts reading.Before [] (map terminal pieces.now))) (flat_map reading.data_name_at (reading.starts reading.Before [] (map terminal pieces.now))))) }
+{
+    let starts = starts(alloc, pieces)?;
+    let bindings = bindings(alloc, &starts)?;
+    let (type_names, types) = definitions(alloc, &starts)?;
+    let Some(type_names) = IndexedNames::new(alloc, type_names)? else {
+        return Ok(None);
+    };
+    let Some(funcs) = names_among(alloc, &bindings, IndexSpace::Func)? else {
+        return Ok(None);
+    };
+    let Some(tables) = names_among(alloc, &bindings, IndexSpace::Table)? else {
+        return Ok(None);
+    };
+    let Some(memories) = names_among(alloc, &bindings, IndexSpace::Mem)? else {
+        return Ok(None);
+    };
+    let Some(globals) = names_among(alloc, &bindings, IndexSpace::Global)? else {
+        return Ok(None);
+    };
+    let Some(elems) = IndexedNames::new(alloc, elem_names(alloc, &starts)?)? else {
+        return Ok(None);
+    };
+    let Some(datas) = IndexedNames::new(alloc, data_names(alloc, &starts)?)? else {
+        return Ok(None);
+    };
+    Ok(Some(Names {
+        funcs,
+        tables,
+        memories,
+        globals,
+        elems,
+        datas,
+        type_names,
+        types,
+    }))
+}
+
+/// Whether two index spaces are the same.
+fn is_space(a: IndexSpace, b: IndexSpace) -> bool
+    ensures { result ≡ is_space a b }
+{
+    match (a, b) {
+        (IndexSpace::Func, IndexSpace::Func)
+        | (IndexSpace::Table, IndexSpace::Table)
+        | (IndexSpace::Mem, IndexSpace::Mem)
+        | (IndexSpace::Global, IndexSpace::Global) => true,
+        _ => false,
+    }
+}
+
+/// The names of an index space; None where two are the same.
+fn names_among<'p>(
+    alloc: Global,
+    bindings: &[Binding<'p>],
+    space: IndexSpace,
+) -> Result<Option<IndexedNames<'p>>, AllocError>
+    ensures these { IfOk result (λ found. IfSome found (λ names. names ≡ names_in space (map binding_of bindings.now))) }
+    ensures distinct { IfOk result (λ found. is_some found ≡ are_distinct (names_in space (map binding_of bindings.now))) }
+{
+    let mut names = Vec::new(alloc);
+    for binding in bindings {
+        if is_space(space, binding.space) {
+            names.push(binding.name)?;
+        }
+    }
+    IndexedNames::new(alloc, names)
+}
+
+/// The same of these.
+pub(crate) fn names_in<'s, 'p>(names: &'s Names<'p>, space: IndexSpace) -> &'s IndexedNames<'p>
+    ensures { result.now ≡ names_of (context_of names.now) space }
+{
+    match space {
+        IndexSpace::Func => &names.funcs,
+        IndexSpace::Table => &names.tables,
+        IndexSpace::Mem => &names.memories,
+        IndexSpace::Global => &names.globals,
+    }
+}
+
+/// Where fields begin, each after its `(`.
+#[tactic(auto, unfolding(crate::specs::Reading::starts))]
+fn starts<'p, 'a>(alloc: Global, pieces: &'p [Piece<'a>]) -> Result<Vec<Left<'p, 'a>>, AllocError>
+    ensures { IfOk result (λ starts. map left_of starts.items ≡ reading.starts reading.Before [] (map terminal pieces.now)) }
+{
+    let mut starts = Vec::new(alloc);
+    let mut depth = Depth::Before;
+    for (i, piece) in pieces.iter().enumerate() {
+        match depth {
+            Depth::Before => match *piece {
+                Piece::Open => {
+                    starts.push(Left {
+                        pieces: &pieces[i + 1..],
+                    })?;
+                    depth = Depth::Inside(0);
+                }
+                Piece::Close
+                | Piece::Word(_)
+                | Piece::Id(_)
+                | Piece::Integer(_, _)
+                | Piece::Text(_)
+                | Piece::Float(_, _)
+                | Piece::Other => return Ok(starts),
+            },
+            Depth::Inside(open) => match *piece {
+                Piece::Open => depth = Depth::Inside(open + 1),
+                Piece::Close => depth = closed(open),
+                Piece::Word(_)
+                | Piece::Id(_)
+                | Piece::Integer(_, _)
+                | Piece::Text(_)
+                | Piece::Float(_, _)
+                | Piece::Other => {}
+            },
+        }
+    }
+    Ok(starts)
+}
+
+/// The items that fields bring.
+fn bindings<'p, 'a>(alloc: Global, starts: &[Left<'p, 'a>]) -> Result<Vec<Binding<'p>>, AllocError>
+    ensures { IfOk result (λ bindings. map binding_of bindings.items ≡ flat_map reading.binding_at (map left_of starts.now)) }
+{
+    let mut bindings = Vec::new(alloc);
+    for start in starts {
+        if let Some(binding) = binding_at(start.pieces) {
+            bindings.push(binding)?;
+        }
+    }
+    Ok(bindings)
+}
+
+/// The item that a field brings.
+#[tactic(auto, unfolding(crate::specs::Reading::binding_at))]
+fn binding_at<'p>(pieces: &'p [Piece<'_>]) -> Option<Binding<'p>>
+    ensures { MatchOption result (reading.binding_at (map terminal pieces.now) ≡ []) (λ b. reading.binding_at (map terminal pieces.now) ≡ binding_of b ∷ []) }
+{
+    match pieces {
+        [Piece::Word(word), rest @ ..] => {
+            if *word == "import" {
+                import_binding(rest)
+            } else {
+                binding_named(space_of(word), rest)
+            }
+        }
+        _ => None,
+    }
+}
+
+/// The item of an index space that has this name, or none.
+fn binding_named<'p>(space: Option<IndexSpace>, pieces: &'p [Piece<'_>]) -> Option<Binding<'p>>
+    ensures { MatchOption result (reading.binding_by space (label_of (map terminal pieces.now)).0 ≡ []) (λ b. reading.binding_by space (label_of (map terminal pieces.now)).0 ≡ binding_of b ∷ []) }
+{
+    match space {
+        Some(space) => {
+            let (name, _) = label(pieces);
+            Some(Binding { space, name })
+        }
+        None => None,
+    }
+}
+
+/// The item that an import brings, after its word.
+fn import_binding<'p>(pieces: &'p [Piece<'_>]) -> Option<Binding<'p>>
+    ensures { MatchOption result (reading.import_binding (map terminal pieces.now) ≡ []) (λ b. reading.import_binding (map terminal pieces.now) ≡ binding_of b ∷ []) }
+{
+    match pieces {
+        [Piece::Text(_), rest @ ..] => text_binding(rest),
+        _ => None,
+    }
+}
+
+/// The same after its first name.
+fn text_binding<'p>(pieces: &'p [Piece<'_>]) -> Option<Binding<'p>>
+    ensures { MatchOption result (reading.text_binding (map terminal pieces.now) ≡ []) (λ b. reading.text_binding (map terminal pieces.now) ≡ binding_of b ∷ []) }
+{
+    match pieces {
+        [Piece::Text(_), rest @ ..] => open_binding(rest),
+        _ => None,
+    }
+}
+
+/// The same after both names.
+fn open_binding<'p>(pieces: &'p [Piece<'_>]) -> Option<Binding<'p>>
+    ensures { MatchOption result (reading.open_binding (map terminal pieces.now) ≡ []) (λ b. reading.open_binding (map terminal pieces.now) ≡ binding_of b ∷ []) }
+{
+    match pieces {
+        [Piece::Open, rest @ ..] => word_binding(rest),
+        _ => None,
+    }
+}
+
+/// The same after its second `(`.
+fn word_binding<'p>(pieces: &'p [Piece<'_>]) -> Option<Binding<'p>>
+    ensures { MatchOption result (reading.word_binding (map terminal pieces.now) ≡ []) (λ b. reading.word_binding (map terminal pieces.now) ≡ binding_of b ∷ []) }
+{
+    match pieces {
+        [Piece::Word(word), rest @ ..] => binding_named(space_of(word), rest),
+        _ => None,
+    }
+}
+
+/// The data segments that fields bring.
+fn data_names<'p, 'a>(alloc: Global, starts: &[Left<'p, 'a>]) -> Result<Vec<Name<'p>>, AllocError>
+    ensures { IfOk result (λ names. map label names.items ≡ flat_map reading.data_name_at (map left_of starts.now)) }
+{
+    let mut names = Vec::new(alloc);
+    for start in starts {
+        if let Some(name) = data_name_at(alloc, start.pieces)? {
+            names.push(name)?;
+        }
+    }
+    Ok(names)
+}
+
+/// The data segment that a field brings.
+#[tactic(auto, unfolding(crate::specs::Reading::data_name_at))]
+fn data_name_at<'p, 'a>(
+    alloc: Global,
+    pieces: &'p [Piece<'a>],
+) -> Result<Option<Name<'p>>, AllocError>
+    ensures { IfOk result (λ o. MatchOption o (reading.data_name_at (map terminal pieces.now) ≡ []) (λ n. reading.data_name_at (map terminal pieces.now) ≡ label n ∷ [])) }
+{
+    match pieces {
+        [Piece::Word(word), rest @ ..] => {
+            let (name, rest) = label(rest);
+            if *word == "data" {
+                return Ok(Some(name));
+            }
+            if *word == "memory" {
+                return inline_data(alloc, rest);
+            }
+            Ok(None)
+        }
+        _ => Ok(None),
+    }
+}
+
+/// The data segment that a memory brings, after its name.
+fn inline_data<'p, 'a>(
+    alloc: Global,
+    pieces: &'p [Piece<'a>],
+) -> Result<Option<Name<'p>>, AllocError>
+    ensures { IfOk result (λ o. MatchOption o (reading.inline_data (reading.all reading.export_item (map terminal pieces.now)) ≡ []) (λ n. reading.inline_data (reading.all reading.export_item (map terminal pieces.now)) ≡ label n ∷ [])) }
+{
+    match exports(alloc, pieces) {
+        Ok((_, rest)) => match after("data", rest) {
+            Some(_) => Ok(Some(Name::Absent)),
+            None => Ok(None),
+        },
+        Err(Refusal::Text(_)) => Ok(None),
+        Err(Refusal::Memory(refused)) => Err(refused),
+    }
+}
+
+/// The element segments that fields bring.
+fn elem_names<'p, 'a>(alloc: Global, starts: &[Left<'p, 'a>]) -> Result<Vec<Name<'p>>, AllocError>
+    ensures { IfOk result (λ names. map label names.items ≡ flat_map reading.elem_name_at (map left_of starts.now)) }
+{
+    let mut names = Vec::new(alloc);
+    for start in starts {
+        if let Some(name) = elem_name_at(alloc, start.pieces)? {
+            names.push(name)?;
+        }
+    }
+    Ok(names)
+}
+
+/// The element segment that a field brings.
+#[tactic(auto, unfolding(crate::specs::Reading::elem_name_at))]
+fn elem_name_at<'p, 'a>(
+    alloc: Global,
+    pieces: &'p [Piece<'a>],
+) -> Result<Option<Name<'p>>, AllocError>
+    ensures { IfOk result (λ o. MatchOption o (reading.elem_name_at (map terminal pieces.now) ≡ []) (λ n. reading.elem_name_at (map terminal pieces.now) ≡ label n ∷ [])) }
+{
+    match pieces {
+        [Piece::Word(word), rest @ ..] => {
+            let (name, rest) = label(rest);
+            if *word == "elem" {
+                return Ok(Some(name));
+            }
+            if *word == "table" {
+                return inline_elem(alloc, rest);
+            }
+            Ok(None)
+        }
+        _ => Ok(None),
+    }
+}
+
+/// The element segment that a table brings, after its name.
+fn inline_elem<'p, 'a>(
+    alloc: Global,
+    pieces: &'p [Piece<'a>],
+) -> Result<Option<Name<'p>>, AllocError>
+    ensures { IfOk result (λ o. MatchOption o (reading.inline_elem (reading.all reading.export_item (map terminal pieces.now)) ≡ []) (λ n. reading.inline_elem (reading.all reading.export_item (map terminal pieces.now)) ≡ label n ∷ [])) }
+{
+    match exports(alloc, pieces) {
+        Ok((_, rest)) => Ok(elem_after_type(rest)),
+        Err(Refusal::Text(_)) => Ok(None),
+        Err(Refusal::Memory(refused)) => Err(refused),
+    }
+}
+
+/// The same, after its exports.
+fn elem_after_type<'p>(pieces: &'p [Piece<'_>]) -> Option<Name<'p>>
+    ensures { MatchOption result (reading.elem_after_type (map terminal pieces.now) ≡ []) (λ n. reading.elem_after_type (map terminal pieces.now) ≡ label n ∷ []) }
+{
+    match pieces {
+        [Piece::Word(_), rest @ ..] => match after("elem", rest) {
+            Some(_) => Some(Name::Absent),
+            None => None,
+        },
+        _ => None,
+    }
+}
+
+/// The types that fields define, and their names.
+fn definitions<'p, 'a>(
+    alloc: Global,
+    starts: &[Left<'p, 'a>],
+) -> Result<(Vec<Name<'p>>, Vec<FunctionType>), AllocError>
+    ensures names { IfOk result (λ r. map label r.0.items ≡ map definition_name (flat_map reading.definition_at (map left_of starts.now))) }
+    ensures types { IfOk result (λ r. map type_of r.1.items ≡ map definition_type (flat_map reading.definition_at (map left_of starts.now))) }
+{
+    let mut names = Vec::new(alloc);
+    let mut types = Vec::new(alloc);
+    for start in starts {
+        if let Some(Definition { name, of }) = definition_at(alloc, start.pieces)? {
+            names.push(name)?;
+            types.push(of)?;
+        }
+    }
+    Ok((names, types))
+}
+
+/// The type that a field defines.
+#[tactic(auto, unfolding(crate::specs::Reading::definition_at))]
+fn definition_at<'p, 'a>(
+    alloc: Global,
+    pieces: &'p [Piece<'a>],
+) -> Result<Option<Definition<'p>>, AllocError>
+    ensures { IfOk result (λ o. MatchOption o (reading.definition_at (map terminal pieces.now) ≡ []) (λ d. reading.definition_at (map terminal pieces.now) ≡ definition_of d ∷ [])) }
+{
+    match pieces {
+        [Piece::Word(word), rest @ ..] => {
+            if *word == "type" {
+                definition_after(alloc, rest)
+            } else {
+                Ok(None)
+            }
+        }
+        _ => Ok(None),
+    }
+}
+
+/// The same after its word.
+fn definition_after<'p, 'a>(
+    alloc: Global,
+    pieces: &'p [Piece<'a>],
+) -> Result<Option<Definition<'p>>, AllocError>
+    ensures { IfOk result (λ o. MatchOption o (reading.definition_by (reading.type_at (map terminal pieces.now)) ≡ []) (λ d. reading.definition_by (reading.type_at (map terminal pieces.now)) ≡ definition_of d ∷ [])) }
+{
+    match type_at(alloc, pieces) {
+        Ok((definition, _)) => Ok(Some(definition)),
+        Err(Refusal::Text(_)) => Ok(None),
+        Err(Refusal::Memory(refused)) => Err(refused),
+    }
+}
+
+/// Where a field is after `)`.
+fn closed(groups: usize) -> Depth
+    ensures { depth_of result ≡ reading.after_close groups }
+{
+    if groups == 0 {
+        Depth::Before
+    } else {
+        Depth::Inside(groups - 1)
+    }
+}
+
+/// The names of parameters and local variables; None where two are the same.
+pub(crate) fn variable_names<'p>(
+    alloc: Global,
+    params: &[Variable<'p>],
+    locals: &[Variable<'p>],
+) -> Result<Option<IndexedNames<'p>>, AllocError>
+    ensures these { IfOk result (λ found. IfSome found (λ names. names ≡ map name_of (map variable_of params.now ++ map variable_of locals.now))) }
+    ensures distinct { IfOk result (λ found. is_some found ≡ are_distinct (map name_of (map variable_of params.now ++ map variable_of locals.now))) }
+{
+    let mut names = Vec::new(alloc);
+    for param in params {
+        names.push(param.name)?;
+    }
+    for local in locals {
+        names.push(local.name)?;
+    }
+    IndexedNames::new(alloc, names)
+}

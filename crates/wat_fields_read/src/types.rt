@@ -1,0 +1,248 @@
+//! Limits, types of tables and globals, and index spaces.
+ghost use Rattle.std.specs.Prelude.{◌≡◌, true, Ok, Err, Some, map, MatchResult};
+ghost use Rattle.wat_fields.specs.Fields.{space_of};
+ghost use Rattle.wat_fields_read.specs.Reading as reading;
+ghost use Rattle.wat_instructions.specs.Grammar.{small};
+ghost use Rattle.wat_instructions.specs.Parts.{fault_of};
+ghost use Rattle.wat_instructions.specs.Terminals.{terminal};
+
+use crate::header::closed;
+use wat_fields::fields::{GlobalType, IndexSpace, Limits, TableType};
+use wat_instructions::pieces::{Fault, FaultKind, Piece, ReferenceType, Sign, ValueType};
+use wat_instructions::reading::{self, value_type};
+
+/// The index space of a word.
+pub(crate) fn space_of(word: &str) -> Option<IndexSpace>
+    ensures { result ≡ space_of word.now }
+{
+    if word == "func" {
+        Some(IndexSpace::Func)
+    } else if word == "table" {
+        Some(IndexSpace::Table)
+    } else if word == "memory" {
+        Some(IndexSpace::Mem)
+    } else if word == "global" {
+        Some(IndexSpace::Global)
+    } else {
+        None
+    }
+}
+
+/// A number of 32 bits without a sign, with which these tokens begin, and the tokens after it.
+fn small<'p, 'a>(
+    sign: Sign,
+    n: u64,
+    all: &'p [Piece<'a>],
+    rest: &'p [Piece<'a>],
+) -> Result<(u32, &'p [Piece<'a>]), Fault<'p, 'a>>
+    ensures { MatchResult result
+        (λ r. small sign n (map terminal all.now) (map terminal rest.now) ≡ Ok (r.0, map terminal r.1.now))
+        (λ f. small sign n (map terminal all.now) (map terminal rest.now) ≡ Err (fault_of f)) }
+{
+    match sign {
+        Sign::Absent => {
+            if n < 0x1_0000_0000 {
+                Ok((n as u32, rest))
+            } else {
+                Err(Fault {
+                    kind: FaultKind::OutOfRange,
+                    left: all,
+                })
+            }
+        }
+        Sign::Plus | Sign::Minus => Err(Fault {
+            kind: FaultKind::Unexpected,
+            left: all,
+        }),
+    }
+}
+
+/// Limits.
+#[tactic(auto, unfolding(crate::specs::Reading::limits_at))]
+pub(crate) fn limits<'p, 'a>(
+    pieces: &'p [Piece<'a>],
+) -> Result<(Limits, &'p [Piece<'a>]), Fault<'p, 'a>>
+    ensures { MatchResult result
+        (λ r. reading.limits_at (map terminal pieces.now) ≡ Ok (r.0, map terminal r.1.now))
+        (λ f. reading.limits_at (map terminal pieces.now) ≡ Err (fault_of f)) }
+{
+    match pieces {
+        [Piece::Integer(sign, n), rest @ ..] => {
+            let (min, rest) = small(*sign, *n, pieces, rest)?;
+            maximum(min, rest)
+        }
+        _ => Err(Fault {
+            kind: FaultKind::Unexpected,
+            left: pieces,
+        }),
+    }
+}
+
+/// Limits after their minimum.
+fn maximum<'p, 'a>(
+    min: u32,
+    pieces: &'p [Piece<'a>],
+) -> Result<(Limits, &'p [Piece<'a>]), Fault<'p, 'a>>
+    ensures { MatchResult result
+        (λ r. reading.max_at min (map terminal pieces.now) ≡ Ok (r.0, map terminal r.1.now))
+        (λ f. reading.max_at min (map terminal pieces.now) ≡ Err (fault_of f)) }
+{
+    match pieces {
+        [Piece::Integer(sign, n), rest @ ..] => {
+            let (max, rest) = small(*sign, *n, pieces, rest)?;
+            let max = Some(max);
+            Ok((Limits { min, max }, rest))
+        }
+        _ => Ok((Limits { min, max: None }, pieces)),
+    }
+}
+
+/// The type of a table.
+#[tactic(auto, unfolding(crate::specs::Reading::table_type_at))]
+pub(crate) fn table_type<'p, 'a>(
+    pieces: &'p [Piece<'a>],
+) -> Result<(TableType, &'p [Piece<'a>]), Fault<'p, 'a>>
+    ensures { MatchResult result
+        (λ r. reading.table_type_at (map terminal pieces.now) ≡ Ok (r.0, map terminal r.1.now))
+        (λ f. reading.table_type_at (map terminal pieces.now) ≡ Err (fault_of f)) }
+{
+    let (limits, rest) = limits(pieces)?;
+    let (element, rest) = reference_type(rest)?;
+    Ok((TableType { limits, element }, rest))
+}
+
+/// A reference type.
+#[tactic(auto, unfolding(crate::specs::Reading::reference_at))]
+fn reference_type<'p, 'a>(
+    pieces: &'p [Piece<'a>],
+) -> Result<(ReferenceType, &'p [Piece<'a>]), Fault<'p, 'a>>
+    ensures { MatchResult result
+        (λ r. reading.reference_at (map terminal pieces.now) ≡ Ok (r.0, map terminal r.1.now))
+        (λ f. reading.reference_at (map terminal pieces.now) ≡ Err (fault_of f)) }
+{
+    match pieces {
+        [Piece::Word(word), rest @ ..] => match reading::reference_type(word) {
+            Some(of) => Ok((of, rest)),
+            None => Err(Fault {
+                kind: FaultKind::UnknownWord,
+                left: pieces,
+            }),
+        },
+        _ => Err(Fault {
+            kind: FaultKind::Unexpected,
+            left: pieces,
+        }),
+    }
+}
+
+/// The type of a global variable.
+#[tactic(auto, unfolding(crate::specs::Reading::global_type_at))]
+pub(crate) fn global_type<'p, 'a>(
+    pieces: &'p [Piece<'a>],
+) -> Result<(GlobalType, &'p [Piece<'a>]), Fault<'p, 'a>>
+    ensures { MatchResult result
+        (λ r. reading.global_type_at (map terminal pieces.now) ≡ Ok (r.0, map terminal r.1.now))
+        (λ f. reading.global_type_at (map terminal pieces.now) ≡ Err (fault_of f)) }
+{
+    match pieces {
+        [Piece::Word(word), rest @ ..] => match value_type(word) {
+            Some(value) => {
+                let is_mutable = false;
+                Ok((GlobalType { is_mutable, value }, rest))
+            }
+            None => Err(Fault {
+                kind: FaultKind::UnknownWord,
+                left: pieces,
+            }),
+        },
+        [Piece::Open, rest @ ..] => mutable(rest),
+        _ => Err(Fault {
+            kind: FaultKind::Unexpected,
+            left: pieces,
+        }),
+    }
+}
+
+/// The same after `(`.
+fn mutable<'p, 'a>(pieces: &'p [Piece<'a>]) -> Result<(GlobalType, &'p [Piece<'a>]), Fault<'p, 'a>>
+    ensures { MatchResult result
+        (λ r. reading.mutable_at (map terminal pieces.now) ≡ Ok (r.0, map terminal r.1.now))
+        (λ f. reading.mutable_at (map terminal pieces.now) ≡ Err (fault_of f)) }
+{
+    match pieces {
+        [Piece::Word(word), rest @ ..] => {
+            if *word == "mut" {
+                mutable_type(rest)
+            } else {
+                Err(Fault {
+                    kind: FaultKind::UnknownWord,
+                    left: pieces,
+                })
+            }
+        }
+        _ => Err(Fault {
+            kind: FaultKind::Unexpected,
+            left: pieces,
+        }),
+    }
+}
+
+/// A value type and `)`, after `(mut`.
+fn mutable_type<'p, 'a>(
+    pieces: &'p [Piece<'a>],
+) -> Result<(GlobalType, &'p [Piece<'a>]), Fault<'p, 'a>>
+    ensures { MatchResult result
+        (λ r. reading.mutable_type (map terminal pieces.now) ≡ Ok (r.0, map terminal r.1.now))
+        (λ f. reading.mutable_type (map terminal pieces.now) ≡ Err (fault_of f)) }
+{
+    match pieces {
+        [Piece::Word(word), rest @ ..] => match value_type(word) {
+            Some(of) => closing_mutable(of, rest),
+            None => Err(Fault {
+                kind: FaultKind::UnknownWord,
+                left: pieces,
+            }),
+        },
+        _ => Err(Fault {
+            kind: FaultKind::Unexpected,
+            left: pieces,
+        }),
+    }
+}
+
+/// `)` after the type of a mutable global variable.
+fn closing_mutable<'p, 'a>(
+    of: ValueType,
+    pieces: &'p [Piece<'a>],
+) -> Result<(GlobalType, &'p [Piece<'a>]), Fault<'p, 'a>>
+    ensures { MatchResult result
+        (λ r. reading.mutable_by (Some of) (map terminal pieces.now) (map terminal pieces.now) ≡ Ok (r.0, map terminal r.1.now))
+        (λ f. reading.mutable_by (Some of) (map terminal pieces.now) (map terminal pieces.now) ≡ Err (fault_of f)) }
+{
+    let rest = closed(pieces)?;
+    let is_mutable = true;
+    Ok((
+        GlobalType {
+            is_mutable,
+            value: of,
+        },
+        rest,
+    ))
+}
+
+/// `)` and `)`.
+pub(crate) fn twice_closed<'p, 'a>(
+    pieces: &'p [Piece<'a>],
+) -> Result<&'p [Piece<'a>], Fault<'p, 'a>>
+    ensures { MatchResult result
+        (λ r. reading.twice_closed (map terminal pieces.now) ≡ Ok (map terminal r.now))
+        (λ f. reading.twice_closed (map terminal pieces.now) ≡ Err (fault_of f)) }
+{
+    match pieces {
+        [Piece::Close, rest @ ..] => closed(rest),
+        _ => Err(Fault {
+            kind: FaultKind::Unexpected,
+            left: pieces,
+        }),
+    }
+}

@@ -1,0 +1,190 @@
+//! Function types, and their uses.
+ghost use Rattle.std.specs.Prelude.{◌≡◌, Ok, Err, Some, None, slice_get, map, IfOk, MatchOption, MatchResult};
+ghost use Rattle.wat_fields.specs.Fields as grammar;
+ghost use Rattle.wat_fields_read.specs.Reading as reading;
+ghost use Rattle.wat_fields.specs.Views.{definition_of, use_of, variable_of};
+ghost use Rattle.wat_fields_read.specs.Views.{types_of};
+ghost use Rattle.wat_instructions.specs.Parts.{Faults, fault_of};
+ghost use Rattle.wat_instructions.specs.Terminals.{label, terminal};
+ghost use Rattle.wat_instructions.specs.Views.{type_of};
+
+use crate::header::{after, closed, unnamed, variables};
+use crate::names::Names;
+use crate::types::twice_closed;
+use std::alloc::{AllocError, Global};
+use wat_fields::fields::{Definition, TypeUse, Variable};
+use wat_fields::variables::function_type;
+use wat_instructions::pieces::{Fault, FaultKind, Name, Piece, Refusal};
+use wat_instructions::reading;
+use wat_instructions::types::{FunctionType, same_type};
+
+/// A type use.
+#[tactic(auto, unfolding(crate::specs::Reading::use_at))]
+pub(crate) fn type_use<'p, 'a>(
+    alloc: Global,
+    names: &Names<'p>,
+    pieces: &'p [Piece<'a>],
+) -> Result<(TypeUse<'p>, &'p [Piece<'a>]), Refusal<'p, 'a>>
+    ensures { MatchResult result
+        (λ r. reading.use_at (types_of names.now) (map terminal pieces.now) ≡ Ok (use_of r.0, map terminal r.1.now))
+        (λ e. Faults (reading.use_at (types_of names.now) (map terminal pieces.now)) e) }
+{
+    match after("type", pieces) {
+        Some(rest) => indexed_use(alloc, names, rest),
+        None => listed_use(alloc, pieces),
+    }
+}
+
+/// A type use that lists its type.
+fn listed_use<'p, 'a>(
+    alloc: Global,
+    pieces: &'p [Piece<'a>],
+) -> Result<(TypeUse<'p>, &'p [Piece<'a>]), Refusal<'p, 'a>>
+    ensures { MatchResult result
+        (λ r. reading.listed_use (map terminal pieces.now) ≡ Ok (use_of r.0, map terminal r.1.now))
+        (λ e. Faults (reading.listed_use (map terminal pieces.now)) e) }
+{
+    let (params, rest) = variables(alloc, "param", true, pieces)?;
+    let (results, rest) = variables(alloc, "result", false, rest)?;
+    let index = None;
+    Ok((
+        TypeUse {
+            index,
+            params,
+            results,
+        },
+        rest,
+    ))
+}
+
+/// A type use after `(type`.
+fn indexed_use<'p, 'a>(
+    alloc: Global,
+    names: &Names<'p>,
+    pieces: &'p [Piece<'a>],
+) -> Result<(TypeUse<'p>, &'p [Piece<'a>]), Refusal<'p, 'a>>
+    ensures { MatchResult result
+        (λ r. reading.indexed_use (types_of names.now) (map terminal pieces.now) ≡ Ok (use_of r.0, map terminal r.1.now))
+        (λ e. Faults (reading.indexed_use (types_of names.now) (map terminal pieces.now)) e) }
+{
+    let (index, rest) = reading::index(&names.type_names, pieces)?;
+    let rest = closed(rest)?;
+    match type_at_index(&names.types, index) {
+        Some(of) => lists(alloc, index, of, pieces, rest),
+        None => Err(Refusal::Text(Fault {
+            kind: FaultKind::UnknownName,
+            left: pieces,
+        })),
+    }
+}
+
+/// The type of an index.
+fn type_at_index(types: &[FunctionType], index: usize) -> Option<&FunctionType>
+    ensures { MatchOption result (slice_get (map type_of types.now) index ≡ None) (λ t. slice_get (map type_of types.now) index ≡ Some (type_of t.now)) }
+{
+    types.get(index)
+}
+
+/// A type use after the index of a type.
+fn lists<'p, 'a>(
+    alloc: Global,
+    index: usize,
+    of: &FunctionType,
+    all: &'p [Piece<'a>],
+    pieces: &'p [Piece<'a>],
+) -> Result<(TypeUse<'p>, &'p [Piece<'a>]), Refusal<'p, 'a>>
+    ensures { MatchResult result
+        (λ r. reading.lists_after index (Some (type_of of.now)) (map terminal all.now) (map terminal pieces.now) ≡ Ok (use_of r.0, map terminal r.1.now))
+        (λ e. Faults (reading.lists_after index (Some (type_of of.now)) (map terminal all.now) (map terminal pieces.now)) e) }
+{
+    let (params, rest) = variables(alloc, "param", true, pieces)?;
+    let (results, rest) = variables(alloc, "result", false, rest)?;
+    if list_nothing(&params, &results) {
+        let uses = unnamed_use(alloc, index, of)?;
+        return Ok((uses, rest));
+    }
+    let listed = function_type(alloc, &params, &results)?;
+    if !same_type(&listed, of) {
+        return Err(Refusal::Text(Fault {
+            kind: FaultKind::OtherType,
+            left: all,
+        }));
+    }
+    let index = Some(index);
+    Ok((
+        TypeUse {
+            index,
+            params,
+            results,
+        },
+        rest,
+    ))
+}
+
+/// Whether nothing is listed.
+fn list_nothing(params: &[Variable<'_>], results: &[Variable<'_>]) -> bool
+    ensures { result ≡ reading.list_nothing (map variable_of params.now) (map variable_of results.now) }
+{
+    match params {
+        [] => match results {
+            [] => true,
+            [_, ..] => false,
+        },
+        [_, ..] => false,
+    }
+}
+
+/// The use of a type by its index alone.
+fn unnamed_use<'p>(
+    alloc: Global,
+    index: usize,
+    of: &FunctionType,
+) -> Result<TypeUse<'p>, AllocError>
+    ensures { IfOk result (λ u. use_of u ≡ grammar.type_use (Some index) (map grammar.unnamed of.now.params.items) (map grammar.unnamed of.now.results.items)) }
+{
+    let params = unnamed(alloc, &of.params)?;
+    let results = unnamed(alloc, &of.results)?;
+    let index = Some(index);
+    Ok(TypeUse {
+        index,
+        params,
+        results,
+    })
+}
+
+/// A type, after the word of its field.
+#[tactic(auto, unfolding(crate::specs::Reading::type_at))]
+pub(crate) fn type_at<'p, 'a>(
+    alloc: Global,
+    pieces: &'p [Piece<'a>],
+) -> Result<(Definition<'p>, &'p [Piece<'a>]), Refusal<'p, 'a>>
+    ensures { MatchResult result
+        (λ r. reading.type_at (map terminal pieces.now) ≡ Ok (definition_of r.0, map terminal r.1.now))
+        (λ e. Faults (reading.type_at (map terminal pieces.now)) e) }
+{
+    let (name, pieces) = reading::label(pieces);
+    match after("func", pieces) {
+        Some(rest) => type_lists(alloc, name, rest),
+        None => Err(Refusal::Text(Fault {
+            kind: FaultKind::Unexpected,
+            left: pieces,
+        })),
+    }
+}
+
+/// A type after `(func`.
+fn type_lists<'p, 'a>(
+    alloc: Global,
+    name: Name<'p>,
+    pieces: &'p [Piece<'a>],
+) -> Result<(Definition<'p>, &'p [Piece<'a>]), Refusal<'p, 'a>>
+    ensures { MatchResult result
+        (λ r. reading.type_lists (label name.entry) (map terminal pieces.now) ≡ Ok (definition_of r.0, map terminal r.1.now))
+        (λ e. Faults (reading.type_lists (label name.entry) (map terminal pieces.now)) e) }
+{
+    let (params, rest) = variables(alloc, "param", true, pieces)?;
+    let (results, rest) = variables(alloc, "result", false, rest)?;
+    let rest = twice_closed(rest)?;
+    let of = function_type(alloc, &params, &results)?;
+    Ok((Definition { name, of }, rest))
+}

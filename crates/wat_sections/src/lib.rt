@@ -1,0 +1,4 @@
+//! The sections of a module, from its fields to bytes.
+#![tactic(auto)]
+
+pub mod encode;
