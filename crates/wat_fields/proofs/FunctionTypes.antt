@@ -12,7 +12,8 @@ use Rattle.wat_fields.specs.declared.fields.Element.{Element}
 use Rattle.wat_fields.specs.declared.fields.Field as declared
 use Rattle.wat_fields.specs.Views.{field_of, items_of}
 use Rattle.wat_instructions.specs.Types.{FunctionType, reference_byte, same_type, same_values, type_byte}
-use Rattle.wat_fields.specs.ImplicitTypes.{expression_types, has_type, type_index, types_after, types_of, used_by, with_type}
+use Rattle.wat_fields.specs.ImplicitTypes.{has_type, type_index, types_after, types_of, used_by, with_type}
+use Rattle.wat_instructions.specs.Uses.{expression_types}
 use Rattle.wat_fields.specs.Fields.{definition_type, definitions_of}
 use Rattle.wat_fields.specs.Law.{TypesAreThere}
 

@@ -1,7 +1,6 @@
 -- WebAssembly 2.0 specification, 6.6 (text format, modules): 6.6.1 indices, 6.6.2 types, 6.6.3 type uses, 6.6.4 imports, 6.6.5 functions, 6.6.6 tables,
--- 6.6.7 memories, 6.6.8 globals, 6.6.9 exports, 6.6.10 start function, 6.6.11 element segments, 6.6.12 data segments, 6.6.13 modules; 6.4 (types). Over
--- the tokens that count. A rule takes tokens from a place on, and leaves the rest. Left out of the standard: a type use by the index of a type that no field
--- `type` defines (one that a type use brings, 6.6.3).
+-- 6.6.7 memories, 6.6.8 globals, 6.6.9 exports, 6.6.10 start function, 6.6.11 element segments, 6.6.12 data segments; 6.4 (types). Over the tokens that
+-- count. A rule takes tokens from a place on, and leaves the rest.
 use Rattle.std.specs.Prelude.{◌≡◌, ◌&&◌, ◌^◌, ◌+◌, ◌/◌, ◌≤◌, ℕ, Bool, true, false, List, [], ◌∷◌, ◌++◌, length, map, codes, bytes_eq, nat_lt, slice_get, Option, Some, None, if◌then◌else◌}
 use Rattle.std.specs.List.{flat_map}
 use Rattle.std.specs.Str.{is_utf8}
@@ -214,9 +213,9 @@ definition_name d = d.name
 abbrev pub definition_type : Definition → FunctionType
 definition_type d = d.type
 
--- 6.1.3: the types of the context
-abbrev pub types_in : List Definition → Types
-types_in ds = record { names = map definition_name ds; types = map definition_type ds }
+-- 6.1.3: the types of the context, which has the names of those that fields define
+abbrev pub types_in : List Definition → List FunctionType → Types
+types_in ds types = record { names = map definition_name ds; types = types; are_known = true }
 
 -- 6.6.13: imports come before all definitions of functions, tables, memories and globals
 abbrev pub is_import : Field → Bool
@@ -284,15 +283,18 @@ pub data GlobalTypeIs : List Terminal → GlobalType → List Terminal → Type 
   by_mutable : {ts : List Terminal} {v w : List ℕ} {t : ValueType} → v ≡ codes "mut" → value_type w ≡ Some t → GlobalTypeIs (Open ∷ Word v ∷ Word w ∷ Close ∷ ts) (record { is_mutable = true; value = t }) ts
 
 -- 6.6.3: typeuse = param* result*; or `(` type index `)` param* result*, where the lists are those of the type, or list nothing: then the parameters have no
--- names
+-- names. Where the types are not known, which is so in no module, any index is taken with any lists.
 pub data TypeUseIs (types : Types) : List Terminal → TypeUse → List Terminal → Type 0 where
   by_lists : {ts us vs : List Terminal} {params results : List Variable}
       → Many (Group (codes "param") true) ts params us → Many (Group (codes "result") false) us results vs → TypeUseIs types ts (type_use None params results) vs
   by_index : {w : List ℕ} {ts us vs ws : List Terminal} {i : ℕ} {t : FunctionType}
-      → w ≡ codes "type" → IndexIs types.names ts i (Close ∷ us) → slice_get types.types i ≡ Some t → Many (Group (codes "param") true) us [] vs → Many (Group (codes "result") false) vs [] ws
+      → types.are_known ≡ true → w ≡ codes "type" → IndexIs types.names ts i (Close ∷ us) → slice_get types.types i ≡ Some t → Many (Group (codes "param") true) us [] vs → Many (Group (codes "result") false) vs [] ws
       → TypeUseIs types (Open ∷ Word w ∷ ts) (type_use (Some i) (map unnamed t.params) (map unnamed t.results)) ws
   by_both : {w : List ℕ} {ts us vs ws : List Terminal} {i : ℕ} {params results : List Variable}
-      → w ≡ codes "type" → IndexIs types.names ts i (Close ∷ us) → slice_get types.types i ≡ Some (function_type params results) → Many (Group (codes "param") true) us params vs → Many (Group (codes "result") false) vs results ws
+      → types.are_known ≡ true → w ≡ codes "type" → IndexIs types.names ts i (Close ∷ us) → slice_get types.types i ≡ Some (function_type params results) → Many (Group (codes "param") true) us params vs → Many (Group (codes "result") false) vs results ws
+      → TypeUseIs types (Open ∷ Word w ∷ ts) (type_use (Some i) params results) ws
+  by_unknown : {w : List ℕ} {ts us vs ws : List Terminal} {i : ℕ} {params results : List Variable}
+      → types.are_known ≡ false → w ≡ codes "type" → IndexIs types.names ts i (Close ∷ us) → Many (Group (codes "param") true) us params vs → Many (Group (codes "result") false) vs results ws
       → TypeUseIs types (Open ∷ Word w ∷ ts) (type_use (Some i) params results) ws
 
 -- 6.6.9: the index space that a word of an export names; the word of a field is the same
@@ -415,15 +417,3 @@ pub data FieldIs (types : Types) (context : Context) : List Terminal → List Fi
   -- or `(` data id? memuse offset string* `)`, which is active
   by_active_data : {w : List ℕ} {ts os bs r : List Terminal} {i : ℕ} {is : List Instruction} {bytes : List ℕ}
       → w ≡ codes "data" → UseIs (codes "memory") context.memories (label_of ts).1 i os → ExpressionIs (codes "offset") context os is bs → Many StringIs bs bytes (Close ∷ r) → FieldIs types context (Open ∷ Word w ∷ ts) (Data (label_of ts).0 (Some (target i is)) bytes ∷ []) r
-
--- 6.6.13: field*, up to these tokens. The context is the one that the fields themselves bring; imports come first, and there is one start function at most.
-pub record FieldsAre (ts : List Terminal) (fs : List Field) (r : List Terminal) : Type 0 where
-  pub spelled : Many (FieldIs (types_in (definitions_of fs)) (context_of (types_in (definitions_of fs)) (bindings_of fs) (elems_of fs) (datas_of fs))) ts fs r
-  pub distinct : all_distinct (types_in (definitions_of fs)) (context_of (types_in (definitions_of fs)) (bindings_of fs) (elems_of fs) (datas_of fs)) ≡ true
-  pub imports : imports_first fs ≡ true
-  pub starts : length (starts_of fs) ≤ 1
-
--- 6.6.13: module = `(` module id? field* `)`, or field* alone, of which there may be none; and nothing after it
-pub data Module : List Terminal → List Field → Type 0 where
-  by_module : {w : List ℕ} {ts : List Terminal} {fs : List Field} → w ≡ codes "module" → FieldsAre (label_of ts).1 fs (Close ∷ []) → Module (Open ∷ Word w ∷ ts) fs
-  by_fields : {ts : List Terminal} {fs : List Field} → FieldsAre ts fs [] → Module ts fs

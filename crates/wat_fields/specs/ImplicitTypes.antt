@@ -2,10 +2,8 @@
 -- without an index bring.
 use Rattle.std.specs.Prelude.{ℕ, suc, Bool, true, false, List, [], ◌∷◌, ◌++◌, map, Option, Some, None, if◌then◌else◌}
 use Rattle.std.specs.List.{flat_map}
-use Rattle.wat_instructions.specs.declared.pieces.Argument.{Argument}
-use Rattle.wat_instructions.specs.declared.pieces.Argument.TheVariants as argument
-use Rattle.wat_instructions.specs.declared.pieces.Instruction.{Instruction}
-use Rattle.wat_instructions.specs.Types.{FunctionType, same_type}
+use Rattle.wat_instructions.specs.Types.{FunctionType, brought_by, same_type}
+use Rattle.wat_instructions.specs.Uses.{expression_types}
 use Rattle.wat_fields.specs.Fields.{ExternType, FuncType, OfTable, OfMemory, OfGlobal, Field, Func, Table, Memory, Global, Start, TypeUse, definition_type, definitions_of, function_type, ElemMode, Passive, Active, Declarative, Elements, Target}
 use Rattle.wat_fields.specs.Fields as field
 
@@ -25,23 +23,14 @@ with_type ts t = if has_type t ts then ts else ts ++ t ∷ []
 abbrev pub used_type : TypeUse → FunctionType
 used_type u = function_type u.params u.results
 
--- the types after those that are used, from those before
+-- the types after those that are brought, from those before
 abbrev pub types_after : List FunctionType → List FunctionType → List FunctionType
 types_after ts [] = ts
 types_after ts (u ∷ us) = types_after (with_type ts u) us
 
--- the type that an instruction uses
-abbrev pub argument_types : Argument → List FunctionType
-argument_types (argument.Indirect c) = c.uses.type ∷ []
-argument_types (argument.BlockUse u) = u.type ∷ []
-argument_types a = []
-
-abbrev pub instruction_types : Instruction → List FunctionType
-instruction_types i = argument_types i.argument
-
--- the types that instructions use, in their order, which is that of the binary format: a folded instruction comes after its operands, which 6.5.10 puts first
-abbrev pub expression_types : List Instruction → List FunctionType
-expression_types is = flat_map instruction_types is
+-- the type that a type use brings, where it says no index
+abbrev pub use_types : TypeUse → List FunctionType
+use_types u = brought_by u.index (used_type u)
 
 abbrev pub target_types : Option Target → List FunctionType
 target_types None = []
@@ -57,16 +46,16 @@ mode_types Passive = []
 mode_types Declarative = []
 
 abbrev pub extern_types : ExternType → List FunctionType
-extern_types (FuncType u) = used_type u ∷ []
+extern_types (FuncType u) = use_types u
 extern_types (OfTable t) = []
 extern_types (OfMemory l) = []
 extern_types (OfGlobal t) = []
 
--- 6.6.3: the types that a field uses, as they appear: a function's own first, and then those of its instructions; and those of each other expression
+-- 6.6.3: the types that a field brings, as they appear: a function's own first, and then those of its instructions; and those of each other expression
 abbrev pub used_by : Field → List FunctionType
 used_by (field.TypeField l t) = []
 used_by (field.Import m n l ns t) = extern_types t
-used_by (Func f) = used_type f.uses ∷ expression_types f.body
+used_by (Func f) = use_types f.uses ++ expression_types f.body
 used_by (Table l ns t es) = elements_types es
 used_by (Memory l ns t bytes) = []
 used_by (Global l ns t is) = expression_types is

@@ -5,6 +5,6 @@ use Rattle.wat_instructions.specs.Types.{FunctionType}
 use Rattle.wat_fields.specs.Fields.{Field}
 use Rattle.wat_fields.specs.ImplicitTypes.{type_index, types_of, used_by}
 
--- 6.6.3, 5.5.6: a type that a function, an import or an instruction uses is among the types of its module, at the least index of it.
+-- 6.6.3, 5.5.6: a type that a function, an import or an instruction brings is among the types of its module, at the least index of it.
 abbrev pub TypesAreThere : Type 0
 TypesAreThere = (fs : List Field) (t : FunctionType) → Contains (flat_map used_by fs) t → slice_get (types_of fs) (type_index t (types_of fs)) ≡ Some t

@@ -4,9 +4,12 @@ ghost use Rattle.std.specs.List.{flat_map};
 ghost use Rattle.wat_fields.specs.Fields as grammar;
 ghost use Rattle.wat_fields.specs.ImplicitTypes as implicit;
 ghost use Rattle.wat_fields.specs.Views.{field_of, fields_of, items_of, mode_of};
-ghost use Rattle.wat_instructions.specs.Views.{type_of};
+ghost use Rattle.wat_fields.specs.Views as fields;
+ghost use Rattle.wat_instructions.specs.Types.{brought};
+ghost use Rattle.wat_instructions.specs.Uses.{expression_types, instruction_types};
+ghost use Rattle.wat_instructions.specs.Views.{type_of, use_of};
 
-use crate::fields::{ElemMode, Element, ExternType, Field};
+use crate::fields::{ElemMode, Element, ExternType, Field, TypeUse};
 use crate::indexed_types::IndexedTypes;
 use std::alloc::{AllocError, Global};
 use wat_instructions::pieces::{Argument, Instruction};
@@ -25,20 +28,30 @@ fn defined_types(alloc: Global, fields: &[Field<'_>]) -> Result<IndexedTypes, Al
     Ok(types)
 }
 
-/// The type use of an instruction, where it has one.
+/// A type use that says no index, and so brings its type.
+fn bringing(uses: &UnnamedUse) -> Option<&UnnamedUse>
+    ensures { MatchOption result (brought (use_of uses.now) ≡ []) (λ u. brought (use_of uses.now) ≡ type_of u.now.of ∷ []) }
+{
+    match uses.index {
+        Some(_) => None,
+        None => Some(uses),
+    }
+}
+
+/// The type use of an instruction that brings a type.
 fn instruction_use(instruction: &Instruction) -> Option<&UnnamedUse>
-    ensures { MatchOption result (implicit.instruction_types instruction.now ≡ []) (λ u. implicit.instruction_types instruction.now ≡ type_of u.now.of ∷ []) }
+    ensures { MatchOption result (instruction_types instruction.now ≡ []) (λ u. instruction_types instruction.now ≡ type_of u.now.of ∷ []) }
 {
     match &instruction.argument {
-        Argument::Indirect(call) => Some(call.uses()),
-        Argument::BlockUse(uses) => Some(uses.uses()),
+        Argument::Indirect(call) => bringing(call.uses()),
+        Argument::BlockUse(uses) => bringing(uses.uses()),
         _ => None,
     }
 }
 
-/// Appends the types that instructions use.
+/// Appends the types that instructions bring.
 fn add_instructions(types: &mut IndexedTypes, all: &[Instruction]) -> Result<(), AllocError>
-    ensures { OnOk result (types.new ≡ implicit.types_after types.old (flat_map implicit.instruction_types all.now)) }
+    ensures { OnOk result (types.new ≡ implicit.types_after types.old (expression_types all.now)) }
 {
     for instruction in all {
         if let Some(uses) = instruction_use(instruction) {
@@ -48,9 +61,9 @@ fn add_instructions(types: &mut IndexedTypes, all: &[Instruction]) -> Result<(),
     Ok(())
 }
 
-/// Appends the types that elements use.
+/// Appends the types that elements bring.
 fn add_elements(types: &mut IndexedTypes, elements: &[Element]) -> Result<(), AllocError>
-    ensures { OnOk result (types.new ≡ implicit.types_after types.old (flat_map implicit.expression_types (map items_of elements.now))) }
+    ensures { OnOk result (types.new ≡ implicit.types_after types.old (flat_map expression_types (map items_of elements.now))) }
 {
     for element in elements {
         add_element(types, element)?;
@@ -58,9 +71,9 @@ fn add_elements(types: &mut IndexedTypes, elements: &[Element]) -> Result<(), Al
     Ok(())
 }
 
-/// Appends the types that an element uses.
+/// Appends the types that an element brings.
 fn add_element(types: &mut IndexedTypes, element: &Element) -> Result<(), AllocError>
-    ensures { OnOk result (types.new ≡ implicit.types_after types.old (implicit.expression_types (items_of element.now))) }
+    ensures { OnOk result (types.new ≡ implicit.types_after types.old (expression_types (items_of element.now))) }
 {
     match element {
         Element::Function(_) => Ok(()),
@@ -68,7 +81,7 @@ fn add_element(types: &mut IndexedTypes, element: &Element) -> Result<(), AllocE
     }
 }
 
-/// Appends the types that the offset of an active element segment uses.
+/// Appends the types that the offset of an active element segment brings.
 fn add_mode(types: &mut IndexedTypes, mode: &ElemMode) -> Result<(), AllocError>
     ensures { OnOk result (types.new ≡ implicit.types_after types.old (implicit.mode_types (mode_of mode.now))) }
 {
@@ -78,17 +91,27 @@ fn add_mode(types: &mut IndexedTypes, mode: &ElemMode) -> Result<(), AllocError>
     }
 }
 
-/// Appends the types that a field uses.
+/// Appends the type of a type use that says no index.
+fn add_use(types: &mut IndexedTypes, uses: &TypeUse<'_>) -> Result<(), AllocError>
+    ensures { OnOk result (types.new ≡ implicit.types_after types.old (implicit.use_types (fields.use_of uses.now))) }
+{
+    if uses.index.is_none() {
+        types.add_used(uses)?;
+    }
+    Ok(())
+}
+
+/// Appends the types that a field brings.
 fn add_field(types: &mut IndexedTypes, field: &Field<'_>) -> Result<(), AllocError>
     ensures { OnOk result (types.new ≡ implicit.types_after types.old (implicit.used_by (field_of field.now))) }
 {
     match field {
         Field::Func(function) => {
-            types.add_used(&function.uses)?;
+            add_use(types, &function.uses)?;
             add_instructions(types, &function.body)
         }
         Field::Import(import) => match &import.what {
-            ExternType::Func(uses) => types.add_used(uses),
+            ExternType::Func(uses) => add_use(types, uses),
             ExternType::Table(_) | ExternType::Memory(_) | ExternType::Global(_) => Ok(()),
         },
         Field::Table(table) => match &table.elements {

@@ -59,6 +59,13 @@ impl IndexedTypes {
         &self.types
     }
 
+    /// The types.
+    pub fn into_types(self) -> Vec<FunctionType>
+        ensures { map type_of result.items ≡ self.entry }
+    {
+        self.types
+    }
+
     /// The least index of this type.
     fn position(&self, of: &FunctionType) -> Result<Option<usize>, AllocError>
         ensures { IfOk result (λ i. i ≡ found_type (type_of of.now) self.now) }

@@ -5,5 +5,6 @@ pub mod SegmentKinds
 pub mod ElementKinds
 pub mod FieldKinds
 pub mod Headers
+pub mod OtherTypes
 pub mod Modules
 pub mod Utf8

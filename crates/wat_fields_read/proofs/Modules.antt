@@ -1,5 +1,5 @@
 -- What is read of a module is what the grammar spells.
-use Rattle.std.proofs.Common.{◌≡◌, ◌≤◌, ℕ, zero, suc, Bool, true, false, List, [], ◌∷◌, ◌++◌, length, Option, Some, None, Result, Ok, Err, refl, sym, ap, subst, ◌∙◌, arith, append_assoc, append-nil}
+use Rattle.std.proofs.Common.{◌≡◌, ◌≤◌, ℕ, zero, suc, Bool, true, false, List, [], ◌∷◌, ◌++◌, length, map, Option, Some, None, Result, Ok, Err, refl, sym, ap, subst, ◌∙◌, arith, append_assoc, append-nil}
 use Rattle.std.specs.Prelude.{if◌then◌else◌, bytes_eq, codes, nat_lt}
 use Rattle.std.specs.List.{flat_map}
 use Rattle.std.proofs.lemmas.Bool.Decides.{Decides-ltb}
@@ -11,14 +11,18 @@ use Rattle.wat_instructions.specs.Terminals.{Terminal, Open, Close, Word, Id, In
 use Rattle.wat_fields.specs.declared.fields.IndexSpace.{IndexSpace}
 use Rattle.wat_fields.specs.declared.fields.Limits.{Limits}
 use Rattle.wat_fields.specs.declared.fields.IndexSpace.TheVariants as space
-use Rattle.wat_instructions.specs.Types.{Types}
-use Rattle.wat_fields.specs.Fields.{Many, by_none, by_more, Field, FieldIs, by_type, by_import, by_inline_import, by_func, by_table, by_memory, by_global, by_export, by_start, binding, Definition, FieldsAre, Module, by_module, by_fields, all_distinct, context_of, types_in, binding_of, bindings_of, definition_of, definitions_of, imports_first, space_of, starts_of, InlineExport, LimitsAre, by_min, by_min_max, elem_of, elems_of, data_of, datas_of, by_table_items, by_table_functions, by_passive_elem, by_declarative_elem, by_active_elem, by_function_elem, by_memory_data, by_passive_data, by_active_data}
+use Rattle.wat_instructions.specs.Types.{FunctionType, Types}
+use Rattle.wat_fields.specs.Fields.{Many, by_none, by_more, Field, FieldIs, by_type, by_import, by_inline_import, by_func, by_table, by_memory, by_global, by_export, by_start, binding, Definition, all_distinct, context_of, types_in, binding_of, bindings_of, definition_of, definitions_of, definition_type, imports_first, space_of, starts_of, InlineExport, LimitsAre, by_min, by_min_max, elem_of, elems_of, data_of, datas_of, by_table_items, by_table_functions, by_passive_elem, by_declarative_elem, by_active_elem, by_function_elem, by_memory_data, by_passive_data, by_active_data}
+use Rattle.wat_fields.specs.ImplicitTypes.{has_type, types_after, types_of, used_by, with_type}
+use Rattle.wat_fields.specs.Modules.{FieldsAre, Module, by_module, by_fields, own_context, own_types}
+use Rattle.wat_instructions.specs.Uses.{MoreTypesKeep, UnknownTypesBring, unknown}
 use Rattle.wat_fields_read.specs.Law.{ReadingIsGrammar}
-use Rattle.wat_fields_read.specs.Reading.{Read, after, all, export, export_item, elem_name_at, inline_elem, elem_after_type, data_name_at, inline_data, unnamed_by, field_item, fields_at, fields_of, binding_by, import_binding, binding_at, definition_by, definition_at, type_at, whole, whole_by, ended, at_end, ended_by, ordered, starts, Before, Inside}
+use Rattle.wat_fields_read.specs.Reading.{Read, after, all, export, export_item, elem_name_at, inline_elem, elem_after_type, data_name_at, inline_data, unnamed_by, field_item, fields_at, fields_by, fields_again, fields_or, all_by, all_types, defined_types, context_by, binding_by, import_binding, binding_at, definition_by, definition_at, type_at, whole, whole_by, ended, at_end, ended_by, ordered, starts, Before, Inside}
 use Rattle.wat_fields_read.proofs.Headers.{item_ends, other_word}
 use Rattle.wat_fields_read.proofs.Items.{Finds, word_is, begins, after_is, exports_read}
 use Rattle.wat_fields_read.proofs.TypeRules.{limits_no_data, limits_no_export}
 use Rattle.wat_fields_read.proofs.FieldKinds.{Laws, Closes, field_after, fields_read, label_past, extern_space_is, type_complete}
+use Rattle.wat_fields_read.proofs.OtherTypes.{more_fields, unknown_fields}
 use Rattle.wat_fields_read.proofs.Manies.{all_sound, all_complete}
 use Rattle.wat_fields_read.proofs.Manies as manies
 
@@ -236,19 +240,12 @@ module_context laws enclosed types context ts fs m =
     let f = fields_found laws types context ts fs (tail enclosed) m in
     let e : starts Before [] ts ≡ f.ss = f.begin [] ∙ tail_starts enclosed f.ss in record { bindings = ap (flat_map binding_at) e ∙ f.bindings; definitions = ap (flat_map definition_at) e ∙ f.definitions; datas = ap (flat_map data_name_at) e ∙ f.datas; elems = ap (flat_map elem_name_at) e ∙ f.elems }
 
--- the context that is found is the one that the fields bring
-abbrev found_context : List (List Terminal) → Context
-found_context ss = context_of (types_in (flat_map definition_at ss)) (flat_map binding_at ss) (flat_map elem_name_at ss) (flat_map data_name_at ss)
-
-abbrev own_context : List Field → Context
-own_context fs = context_of (types_in (definitions_of fs)) (bindings_of fs) (elems_of fs) (datas_of fs)
-
-context_is : (ts : List Terminal) (fs : List Field) → Context_of ts fs → found_context (starts Before [] ts) ≡ own_context fs
-context_is ts fs k =
+-- the context that is found, by some types, is the one that the fields bring
+context_is : (types : Types) (ts : List Terminal) (fs : List Field) → Context_of ts fs → context_by (starts Before [] ts) types ≡ context_of types (bindings_of fs) (elems_of fs) (datas_of fs)
+context_is types ts fs k =
     let ss = starts Before [] ts in
-    let types = types_in (definitions_of fs) in
-    ap (λ x. context_of (types_in x) (flat_map binding_at ss) (flat_map elem_name_at ss) (flat_map data_name_at ss)) k.definitions ∙ ap (λ x. context_of types x (flat_map elem_name_at ss) (flat_map data_name_at ss)) k.bindings
-    ∙ ap (λ x. context_of types (bindings_of fs) x (flat_map data_name_at ss)) k.elems ∙ ap (λ x. context_of types (bindings_of fs) (elems_of fs) x) k.datas
+    ap (λ x. context_of types x (flat_map elem_name_at ss) (flat_map data_name_at ss)) k.bindings ∙ ap (λ x. context_of types (bindings_of fs) x (flat_map data_name_at ss)) k.elems
+    ∙ ap (λ x. context_of types (bindings_of fs) (elems_of fs) x) k.datas
 
 -- The module.
 
@@ -293,48 +290,157 @@ ordered_complete : (ts : List Terminal) (fs : List Field) → imports_first fs �
 ordered_complete ts fs i l =
     ap (λ (b : Bool). if b then (if nat_lt (length (starts_of fs)) 2 then Ok fs else Err (SecondStart, ts)) else Err (LateImport, ts)) i ∙ ap (λ (b : Bool). if b then Ok fs else Err (SecondStart, ts)) ((Decides-ltb (length (starts_of fs)) 2).1 (omega (arith, l)))
 
-of_context : Laws → (enclosed : Bool) (ds : List Definition) (context : Context) (ts : List Terminal) (fs : List Field) → ds ≡ flat_map definition_at (starts Before [] ts) → context ≡ found_context (starts Before [] ts)
-    → (b : Bool) → all_distinct (types_in ds) context ≡ b → (if b then ordered ts (ended_by enclosed (all (field_item (types_in ds) context) ts)) else Err (Duplicate, ts)) ≡ Ok fs → FieldsAre ts fs (tail enclosed)
-of_context laws enclosed ds context ts fs n o true d h =
-    let s = ordered_sound ts (ended_by enclosed (all (field_item (types_in ds) context) ts)) fs h in
-    let m = (all_sound (field_item (types_in ds) context) (FieldIs (types_in ds) context) (fields_read laws (types_in ds) context) fs ts (tail enclosed) (tail_sound enclosed _ fs s.0)).0 in
-    let k = module_context laws enclosed (types_in ds) context ts fs m in
-    let x = n ∙ k.definitions in
-    let y = o ∙ context_is ts fs k in record {
-      spelled = subst (λ z. Many (FieldIs (types_in z) (own_context fs)) ts fs (tail enclosed)) x (subst (λ z. Many (FieldIs (types_in ds) z) ts fs (tail enclosed)) y m);
-      distinct = subst (λ z. all_distinct (types_in z) (own_context fs) ≡ true) x (subst (λ z. all_distinct (types_in ds) z ≡ true) y d);
-      imports = s.1;
-      starts = s.2;
-    }
-of_context laws enclosed ds context ts fs n o false d h = cc
-
-fields_sound : Laws → (enclosed : Bool) (ts : List Terminal) (fs : List Field) → fields_at enclosed ts ≡ Ok fs → FieldsAre ts fs (tail enclosed)
-fields_sound laws enclosed ts fs h =
-    let ss = starts Before [] ts in of_context laws enclosed (flat_map definition_at ss) (found_context ss) ts fs refl refl (all_distinct (types_in (flat_map definition_at ss)) (found_context ss)) refl h
-
-whole_sound : Laws → (ts : List Terminal) (fs : List Field) (o : Option (List Terminal)) → after (codes "module") ts ≡ o → whole_by o ts ≡ Ok fs → Module ts fs
-whole_sound laws ts fs (Some us) e h =
-    let b = begins (codes "module") ts us (subst (λ x. Finds x us) (sym e) refl) in subst (λ x. Module x fs) (sym b.is) (by_module b.same (fields_sound laws true (label_of us).1 fs h))
-whole_sound laws ts fs None e h = by_fields (fields_sound laws false ts fs h)
-
-module_sound : Laws → (ts : List Terminal) (fs : List Field) → whole ts ≡ Ok fs → Module ts fs
-unfolding whole
-module_sound laws ts fs h = whole_sound laws ts fs (after (codes "module") ts) refl h
-
 no_field : (types : Types) (context : Context) (enclosed : Bool) → field_item types context (tail enclosed) ≡ None
 unfolding field_item
 no_field types context true = refl
 no_field types context false = refl
 
-fields_complete : Laws → (enclosed : Bool) (ts : List Terminal) (fs : List Field) → FieldsAre ts fs (tail enclosed) → fields_at enclosed ts ≡ Ok fs
+-- By any types.
+
+abbrev Spelled : List (List Terminal) → Types → List Terminal → List Field → List Terminal → Type 0
+Spelled ss types ts fs r = Many (FieldIs types (context_by ss types)) ts fs r
+
+-- the first types that are known, with others after them
+abbrev with_more : List (List Terminal) → List FunctionType → Types
+with_more ss more = types_in (flat_map definition_at ss) (map definition_type (flat_map definition_at ss) ++ more)
+
+by_types_sound : Laws → (enclosed : Bool) (ss : List (List Terminal)) (types : Types) (ts : List Terminal) (fs : List Field) → fields_by enclosed ss types ts ≡ Ok fs → Spelled ss types ts fs (tail enclosed) × (imports_first fs ≡ true) × (length (starts_of fs) ≤ 1)
+by_types_sound laws enclosed ss types ts fs h =
+    let s = ordered_sound ts (ended_by enclosed (all_by ss types ts)) fs h in
+    let context = context_by ss types in ((all_sound (field_item types context) (FieldIs types context) (fields_read laws types context) fs ts (tail enclosed) (tail_sound enclosed _ fs s.0)).0, s.1, s.2)
+
+all_read : Laws → (enclosed : Bool) (ss : List (List Terminal)) (types : Types) (ts : List Terminal) (fs : List Field) → Spelled ss types ts fs (tail enclosed) → all_by ss types ts ≡ Ok (fs, tail enclosed)
+all_read laws enclosed ss types ts fs m = let context = context_by ss types in all_complete (field_item types context) (FieldIs types context) (fields_read laws types context) fs ts (tail enclosed) m (no_field types context enclosed)
+
+by_types_complete : Laws → (enclosed : Bool) (ss : List (List Terminal)) (types : Types) (ts : List Terminal) (fs : List Field) → Spelled ss types ts fs (tail enclosed) → imports_first fs ≡ true → length (starts_of fs) ≤ 1 → fields_by enclosed ss types ts ≡ Ok fs
+by_types_complete laws enclosed ss types ts fs m i l = ap (λ q. ordered ts (ended_by enclosed q)) (all_read laws enclosed ss types ts fs m) ∙ ap (λ q. ordered ts q) (tail_complete enclosed fs) ∙ ordered_complete ts fs i l
+
+-- the laws of instructions that are asked for
+pub record AllLaws : Type 0 where
+  pub base : Laws
+  pub more : MoreTypesKeep
+  pub unknown : UnknownTypesBring
+
+by_more_types : AllLaws → (ss : List (List Terminal)) (more : List FunctionType) (ts : List Terminal) (fs : List Field) (r : List Terminal) → Spelled ss (defined_types ss) ts fs r → Spelled ss (with_more ss more) ts fs r
+by_more_types laws ss more ts fs r m = more_fields laws.more (context_by ss (defined_types ss)) more ts fs r m
+
+-- the fields that are read without the types
+record Unknown (ss : List (List Terminal)) (ts : List Terminal) (fs : List Field) (r : List Terminal) : Type 0 where
+  gs : List Field
+  spelled : Spelled ss (unknown (defined_types ss)) ts gs r
+  brings : flat_map used_by fs ≡ flat_map used_by gs
+
+by_unknown_types : AllLaws → (ss : List (List Terminal)) (types : List FunctionType) (ts : List Terminal) (fs : List Field) (r : List Terminal) → Spelled ss (types_in (flat_map definition_at ss) types) ts fs r → Unknown ss ts fs r
+by_unknown_types laws ss types ts fs r m = let l = unknown_fields laws.unknown (context_by ss (types_in (flat_map definition_at ss) types)) ts fs r m in record { gs = l.gs; spelled = l.spelled; brings = l.brings }
+
+-- The types of fields are those that they define, and more.
+
+types_grow : (ts us : List FunctionType) → (more : List FunctionType) × (ts ++ more ≡ types_after ts us)
+types_grow ts [] = ([], append-nil ts)
+types_grow ts (u ∷ us) = by (has_type u ts) (types_grow (with_type ts u) us)
+  where
+    by : (b : Bool) → (more : List FunctionType) × ((if b then ts else ts ++ u ∷ []) ++ more ≡ types_after (if b then ts else ts ++ u ∷ []) us) → (more : List FunctionType) × (ts ++ more ≡ types_after (if b then ts else ts ++ u ∷ []) us)
+    by true g = g
+    by false (more, e) = (u ∷ more, sym (append_assoc ts (u ∷ []) more) ∙ e)
+
+own_more : (ts : List Terminal) (fs : List Field) → Context_of ts fs → (more : List FunctionType) × (map definition_type (flat_map definition_at (starts Before [] ts)) ++ more ≡ types_of fs)
+unfolding types_of
+own_more ts fs k =
+    let g = types_grow (map definition_type (flat_map definition_at (starts Before [] ts))) (flat_map used_by fs) in
+    (g.0, g.1 ∙ ap (λ ds. types_after (map definition_type ds) (flat_map used_by fs)) k.definitions)
+
+types_same : (ts : List Terminal) (fs gs : List Field) → Context_of ts fs → Context_of ts gs → flat_map used_by fs ≡ flat_map used_by gs → types_of fs ≡ types_of gs
+unfolding types_of
+types_same ts fs gs k l e =
+    ap (λ ds. types_after (map definition_type ds) (flat_map used_by fs)) (sym k.definitions ∙ l.definitions) ∙ ap (λ us. types_after (map definition_type (definitions_of gs)) us) e
+
+-- By their own types.
+
+to_own : (ts : List Terminal) (fs : List Field) (r : List Terminal) → Context_of ts fs → Spelled (starts Before [] ts) (all_types (starts Before [] ts) fs) ts fs r → Many (FieldIs (own_types fs) (own_context fs)) ts fs r
+to_own ts fs r k m =
+    let ss = starts Before [] ts in
+    subst (λ z. Many (FieldIs (own_types fs) z) ts fs r) (context_is (own_types fs) ts fs k) (subst (λ ds. Spelled ss (types_in ds (types_of fs)) ts fs r) k.definitions m)
+
+from_own : (ts : List Terminal) (fs : List Field) (r : List Terminal) → Context_of ts fs → Many (FieldIs (own_types fs) (own_context fs)) ts fs r → Spelled (starts Before [] ts) (all_types (starts Before [] ts) fs) ts fs r
+from_own ts fs r k m =
+    let ss = starts Before [] ts in
+    subst (λ ds. Spelled ss (types_in ds (types_of fs)) ts fs r) (sym k.definitions) (subst (λ z. Many (FieldIs (own_types fs) z) ts fs r) (sym (context_is (own_types fs) ts fs k)) m)
+
+distinct_is : (ts : List Terminal) (fs : List Field) → Context_of ts fs → all_distinct (defined_types (starts Before [] ts)) (context_by (starts Before [] ts) (defined_types (starts Before [] ts))) ≡ all_distinct (own_types fs) (own_context fs)
+distinct_is ts fs k =
+    let ss = starts Before [] ts in
+    let D : List Definition → Types = λ ds. types_in ds (map definition_type ds) in
+    ap (λ ds. all_distinct (D ds) (context_by ss (D ds))) k.definitions ∙ ap (λ c. all_distinct (D (definitions_of fs)) c) (context_is (D (definitions_of fs)) ts fs k)
+
+record Own (enclosed : Bool) (ts : List Terminal) (fs : List Field) : Type 0 where
+  spelled : Many (FieldIs (own_types fs) (own_context fs)) ts fs (tail enclosed)
+  imports : imports_first fs ≡ true
+  starts : length (starts_of fs) ≤ 1
+  context : Context_of ts fs
+
+again_sound : AllLaws → (enclosed : Bool) (ts : List Terminal) (fs : List Field) (f : Fault) (p : Read (List Field)) → all_by (starts Before [] ts) (unknown (defined_types (starts Before [] ts))) ts ≡ p → fields_again enclosed (starts Before [] ts) ts f p ≡ Ok fs → Own enclosed ts fs
+again_sound laws enclosed ts fs f (Ok (gs, us)) e h =
+    let ss = starts Before [] ts in
+    let b = by_types_sound laws.base enclosed ss (all_types ss gs) ts fs h in
+    let k = module_context laws.base enclosed (all_types ss gs) (context_by ss (all_types ss gs)) ts fs b.0 in
+    let l = by_unknown_types laws ss (types_of gs) ts fs (tail enclosed) b.0 in
+    let n = module_context laws.base enclosed (unknown (defined_types ss)) (context_by ss (unknown (defined_types ss))) ts l.gs l.spelled in
+    let r : Ok (gs, us) ≡ Ok (l.gs, tail enclosed) = sym e ∙ all_read laws.base enclosed ss (unknown (defined_types ss)) ts l.gs l.spelled in
+    let g : gs ≡ l.gs = cc in
+    let t : types_of gs ≡ types_of fs = ap types_of g ∙ sym (types_same ts fs l.gs k n l.brings) in
+    record { spelled = to_own ts fs (tail enclosed) k (subst (λ x. Spelled ss (types_in (flat_map definition_at ss) x) ts fs (tail enclosed)) t b.0); imports = b.1; starts = b.2; context = k }
+again_sound laws enclosed ts fs f (Err g) e h = cc
+
+or_sound : AllLaws → (enclosed : Bool) (ts : List Terminal) (fs : List Field) (q : Result (List Field) Fault) → fields_by enclosed (starts Before [] ts) (defined_types (starts Before [] ts)) ts ≡ q → fields_or enclosed (starts Before [] ts) ts q ≡ Ok fs → Own enclosed ts fs
+or_sound laws enclosed ts fs (Ok hs) e h =
+    let ss = starts Before [] ts in
+    let b = by_types_sound laws.base enclosed ss (defined_types ss) ts fs (e ∙ h) in
+    let k = module_context laws.base enclosed (defined_types ss) (context_by ss (defined_types ss)) ts fs b.0 in
+    let n = own_more ts fs k in
+    record { spelled = to_own ts fs (tail enclosed) k (subst (λ x. Spelled ss (types_in (flat_map definition_at ss) x) ts fs (tail enclosed)) n.1 (by_more_types laws ss n.0 ts fs (tail enclosed) b.0)); imports = b.1; starts = b.2; context = k }
+or_sound laws enclosed ts fs (Err f) e h = let ss = starts Before [] ts in again_sound laws enclosed ts fs f (all_by ss (unknown (defined_types ss)) ts) refl h
+
+of_distinct : AllLaws → (enclosed : Bool) (ts : List Terminal) (fs : List Field) (b : Bool) → all_distinct (defined_types (starts Before [] ts)) (context_by (starts Before [] ts) (defined_types (starts Before [] ts))) ≡ b
+    → (if b then fields_or enclosed (starts Before [] ts) ts (fields_by enclosed (starts Before [] ts) (defined_types (starts Before [] ts)) ts) else Err (Duplicate, ts)) ≡ Ok fs → FieldsAre ts fs (tail enclosed)
+of_distinct laws enclosed ts fs true d h =
+    let ss = starts Before [] ts in
+    let o = or_sound laws enclosed ts fs (fields_by enclosed ss (defined_types ss) ts) refl h in record { spelled = o.spelled; distinct = sym (distinct_is ts fs o.context) ∙ d; imports = o.imports; starts = o.starts }
+of_distinct laws enclosed ts fs false d h = cc
+
+fields_sound : AllLaws → (enclosed : Bool) (ts : List Terminal) (fs : List Field) → fields_at enclosed ts ≡ Ok fs → FieldsAre ts fs (tail enclosed)
+fields_sound laws enclosed ts fs h = let ss = starts Before [] ts in of_distinct laws enclosed ts fs (all_distinct (defined_types ss) (context_by ss (defined_types ss))) refl h
+
+whole_sound : AllLaws → (ts : List Terminal) (fs : List Field) (o : Option (List Terminal)) → after (codes "module") ts ≡ o → whole_by o ts ≡ Ok fs → Module ts fs
+whole_sound laws ts fs (Some us) e h =
+    let b = begins (codes "module") ts us (subst (λ x. Finds x us) (sym e) refl) in subst (λ x. Module x fs) (sym b.is) (by_module b.same (fields_sound laws true (label_of us).1 fs h))
+whole_sound laws ts fs None e h = by_fields (fields_sound laws false ts fs h)
+
+module_sound : AllLaws → (ts : List Terminal) (fs : List Field) → whole ts ≡ Ok fs → Module ts fs
+unfolding whole
+module_sound laws ts fs h = whole_sound laws ts fs (after (codes "module") ts) refl h
+
+or_complete : AllLaws → (enclosed : Bool) (ts : List Terminal) (fs : List Field) → Context_of ts fs → Spelled (starts Before [] ts) (all_types (starts Before [] ts) fs) ts fs (tail enclosed) → imports_first fs ≡ true → length (starts_of fs) ≤ 1
+    → (q : Result (List Field) Fault) → fields_by enclosed (starts Before [] ts) (defined_types (starts Before [] ts)) ts ≡ q → fields_or enclosed (starts Before [] ts) ts q ≡ Ok fs
+or_complete laws enclosed ts fs k m i s (Ok hs) e =
+    let ss = starts Before [] ts in
+    let b = by_types_sound laws.base enclosed ss (defined_types ss) ts hs e in
+    let n = own_more ts fs k in
+    let x = subst (λ x. Spelled ss (types_in (flat_map definition_at ss) x) ts hs (tail enclosed)) n.1 (by_more_types laws ss n.0 ts hs (tail enclosed) b.0) in
+    let r : Ok (hs, tail enclosed) ≡ Ok (fs, tail enclosed) = sym (all_read laws.base enclosed ss (all_types ss fs) ts hs x) ∙ all_read laws.base enclosed ss (all_types ss fs) ts fs m in
+    let g : hs ≡ fs = cc in ap (λ x. Ok x) g
+or_complete laws enclosed ts fs k m i s (Err f) e =
+    let ss = starts Before [] ts in
+    let l = by_unknown_types laws ss (types_of fs) ts fs (tail enclosed) m in
+    let n = module_context laws.base enclosed (unknown (defined_types ss)) (context_by ss (unknown (defined_types ss))) ts l.gs l.spelled in
+    ap (λ p. fields_again enclosed ss ts f p) (all_read laws.base enclosed ss (unknown (defined_types ss)) ts l.gs l.spelled)
+    ∙ ap (λ x. fields_by enclosed ss (types_in (flat_map definition_at ss) x) ts) (sym (types_same ts fs l.gs k n l.brings)) ∙ by_types_complete laws.base enclosed ss (all_types ss fs) ts fs m i s
+
+fields_complete : AllLaws → (enclosed : Bool) (ts : List Terminal) (fs : List Field) → FieldsAre ts fs (tail enclosed) → fields_at enclosed ts ≡ Ok fs
 fields_complete laws enclosed ts fs a =
-    let types = types_in (definitions_of fs) in
-    let context = own_context fs in
-    let k = module_context laws enclosed types context ts fs a.spelled in
-    ap (λ x. fields_of enclosed (types_in x) (found_context (starts Before [] ts)) ts) k.definitions ∙ ap (λ x. fields_of enclosed types x ts) (context_is ts fs k)
-    ∙ ap (λ (x : Bool). if x then ordered ts (ended_by enclosed (all (field_item types context) ts)) else Err (Duplicate, ts)) a.distinct
-    ∙ ap (λ q. ordered ts (ended_by enclosed q)) (all_complete (field_item types context) (FieldIs types context) (fields_read laws types context) fs ts (tail enclosed) a.spelled (no_field types context enclosed))
-    ∙ ap (λ q. ordered ts q) (tail_complete enclosed fs) ∙ ordered_complete ts fs a.imports a.starts
+    let ss = starts Before [] ts in
+    let k = module_context laws.base enclosed (own_types fs) (own_context fs) ts fs a.spelled in
+    ap (λ (x : Bool). if x then fields_or enclosed ss ts (fields_by enclosed ss (defined_types ss) ts) else Err (Duplicate, ts)) (distinct_is ts fs k ∙ a.distinct)
+    ∙ or_complete laws enclosed ts fs k (from_own ts fs (tail enclosed) k a.spelled) a.imports a.starts (fields_by enclosed ss (defined_types ss) ts) refl
 
 module_is_no_field : (types : Types) (context : Context) (us r : List Terminal) (fs : List Field) → manies.Brings (field_item types context (Open ∷ Word (codes "module") ∷ us)) fs r → ⊥
 unfolding field_item
@@ -351,10 +457,10 @@ no_module : Laws → (types : Types) (context : Context) (ts : List Terminal) (f
 no_module laws types context _ _ r by_none e = ap (λ x. after (codes "module") x) e
 no_module laws types context _ _ r (by_more {ts = ts} {us = us} {vs = fs} one rest) e = no_module_by laws types context ts fs us one (after (codes "module") ts) refl
 
-module_complete : Laws → (ts : List Terminal) (fs : List Field) → Module ts fs → whole ts ≡ Ok fs
+module_complete : AllLaws → (ts : List Terminal) (fs : List Field) → Module ts fs → whole ts ≡ Ok fs
 unfolding whole
 module_complete laws _ fs (by_module {w = w} {ts = ts} e a) = ap (λ o. whole_by o (Open ∷ Word w ∷ ts)) (after_is (codes "module") w ts e) ∙ fields_complete laws true (label_of ts).1 fs a
-module_complete laws ts fs (by_fields a) = ap (λ o. whole_by o ts) (no_module laws (types_in (definitions_of fs)) (own_context fs) ts fs [] a.spelled refl) ∙ fields_complete laws false ts fs a
+module_complete laws ts fs (by_fields a) = ap (λ o. whole_by o ts) (no_module laws.base (own_types fs) (own_context fs) ts fs [] a.spelled refl) ∙ fields_complete laws false ts fs a
 
-pub law : Laws → ReadingIsGrammar
+pub law : AllLaws → ReadingIsGrammar
 law laws ts fs = (module_sound laws ts fs, module_complete laws ts fs)

@@ -16,8 +16,10 @@ use Rattle.wat_fields.specs.declared.fields.IndexSpace.{IndexSpace}
 use Rattle.wat_fields.specs.declared.fields.IndexSpace.TheVariants as space
 use Rattle.wat_fields.specs.declared.fields.Limits.{Limits}
 use Rattle.wat_fields.specs.declared.fields.TableType.{TableType}
-use Rattle.wat_fields.specs.Fields.{Field, Func, Table, Memory, Global, Export, Import, TypeField, Start, Function, TypeUse, ExternType, FuncType, OfTable, OfMemory, OfGlobal, Definition, Binding, Variable, binding, definition, function_type, type_use, variable, unnamed, name_of, names_of, context_of, types_in, with_locals, all_distinct, imports_first, space_of, starts_of, Data, Elem, ElemMode, Passive, Active, Declarative, Elements, ref_func, table_of, Target, target, is_u32, pages_of}
+use Rattle.wat_fields.specs.Fields.{Field, Func, Table, Memory, Global, Export, Import, TypeField, Start, Function, TypeUse, ExternType, FuncType, OfTable, OfMemory, OfGlobal, Definition, Binding, Variable, binding, definition, definition_type, function_type, type_use, variable, unnamed, name_of, names_of, context_of, types_in, with_locals, all_distinct, imports_first, space_of, starts_of, Data, Elem, ElemMode, Passive, Active, Declarative, Elements, ref_func, table_of, Target, target, is_u32, pages_of}
 use Rattle.wat_instructions.specs.Names.{are_distinct}
+use Rattle.wat_instructions.specs.Uses.{unknown}
+use Rattle.wat_fields.specs.ImplicitTypes.{types_of}
 
 -- a value and the tokens after it, or the fault
 abbrev pub Read : Type 0 → Type 0
@@ -134,8 +136,15 @@ abbrev pub lists_after : ℕ → Option FunctionType → List Terminal → List 
 lists_after i None all ts = Err (UnknownName, all)
 lists_after i (Some t) all ts = and_then (params ts) (λ ps us. and_then (results us) (λ rs vs. agreed i t ps rs all vs))
 
+-- the same where the types are not known
+abbrev pub assumed_use : ℕ → List Terminal → Read TypeUse
+assumed_use i ts = and_then (params ts) (λ ps us. and_then (results us) (λ rs vs. Ok (type_use (Some i) ps rs, vs)))
+
+abbrev pub either_use : Types → ℕ → List Terminal → List Terminal → Read TypeUse
+either_use types i all ts = if types.are_known then lists_after i (slice_get types.types i) all ts else assumed_use i ts
+
 abbrev pub indexed_use : Types → List Terminal → Read TypeUse
-indexed_use types ts = and_then (index types.names ts) (λ i us. and_then (closing i (closed us)) (λ i vs. lists_after i (slice_get types.types i) ts vs))
+indexed_use types ts = and_then (index types.names ts) (λ i us. and_then (closing i (closed us)) (λ i vs. either_use types i ts vs))
 
 abbrev pub use_by : Types → Option (List Terminal) → List Terminal → Read TypeUse
 use_by types None all = listed_use all
@@ -581,12 +590,38 @@ abbrev pub ordered : List Terminal → Result (List Field) Fault → Result (Lis
 ordered ts (Ok fs) = if imports_first fs then (if nat_lt (length (starts_of fs)) 2 then Ok fs else Err (SecondStart, ts)) else Err (LateImport, ts)
 ordered ts (Err f) = Err f
 
--- the fields of a module, in parentheses or not, in a context
-abbrev pub fields_of : Bool → Types → Context → List Terminal → Result (List Field) Fault
-fields_of enclosed types context ts = if all_distinct types context then ordered ts (ended_by enclosed (all (field_item types context) ts)) else Err (Duplicate, ts)
+-- the context of fields that begin there, by these types
+abbrev pub context_by : List (List Terminal) → Types → Context
+context_by ss types = context_of types (flat_map binding_at ss) (flat_map elem_name_at ss) (flat_map data_name_at ss)
+
+-- the types that these fields define
+abbrev pub defined_types : List (List Terminal) → Types
+defined_types ss = types_in (flat_map definition_at ss) (map definition_type (flat_map definition_at ss))
+
+-- with those that type uses bring
+abbrev pub all_types : List (List Terminal) → List Field → Types
+all_types ss fs = types_in (flat_map definition_at ss) (types_of fs)
+
+-- all fields, by these types
+abbrev pub all_by : List (List Terminal) → Types → List Terminal → Read (List Field)
+all_by ss types ts = all (field_item types (context_by ss types)) ts
+
+-- the fields of a module, in parentheses or not, by these types
+abbrev pub fields_by : Bool → List (List Terminal) → Types → List Terminal → Result (List Field) Fault
+fields_by enclosed ss types ts = ordered ts (ended_by enclosed (all_by ss types ts))
+
+-- by the types that these fields bring, which were read without knowing the types; or the fault
+abbrev pub fields_again : Bool → List (List Terminal) → List Terminal → Fault → Read (List Field) → Result (List Field) Fault
+fields_again enclosed ss ts f (Ok (fs, us)) = fields_by enclosed ss (all_types ss fs) ts
+fields_again enclosed ss ts f (Err g) = Err f
+
+-- by the types that fields define; where these do not serve, by those that type uses bring too
+abbrev pub fields_or : Bool → List (List Terminal) → List Terminal → Result (List Field) Fault → Result (List Field) Fault
+fields_or enclosed ss ts (Ok fs) = Ok fs
+fields_or enclosed ss ts (Err f) = fields_again enclosed ss ts f (all_by ss (unknown (defined_types ss)) ts)
 
 abbrev pub fields_from : Bool → List (List Terminal) → List Terminal → Result (List Field) Fault
-fields_from enclosed ss ts = fields_of enclosed (types_in (flat_map definition_at ss)) (context_of (types_in (flat_map definition_at ss)) (flat_map binding_at ss) (flat_map elem_name_at ss) (flat_map data_name_at ss)) ts
+fields_from enclosed ss ts = if all_distinct (defined_types ss) (context_by ss (defined_types ss)) then fields_or enclosed ss ts (fields_by enclosed ss (defined_types ss) ts) else Err (Duplicate, ts)
 
 abbrev pub fields_at : Bool → List Terminal → Result (List Field) Fault
 fields_at enclosed ts = fields_from enclosed (starts Before [] ts) ts

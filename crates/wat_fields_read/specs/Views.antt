@@ -23,7 +23,7 @@ abbrev pub binding_of : declared_binding.Binding → Binding
 binding_of h = binding h.space (label h.name)
 
 abbrev pub types_of : declared_names.Names → Types
-types_of n = record { names = n.type_names; types = map type_of n.types.items }
+types_of n = record { names = n.type_names; types = map type_of n.types.items; are_known = n.are_types_known }
 
 abbrev pub context_of : declared_names.Names → Context
 context_of n = record {

@@ -8,4 +8,5 @@ pub fn reading_is_grammar()
     wat_instructions::laws::machine_is_grammar();
     wat_instructions::laws::folded_is_grammar();
     wat_instructions::laws::instructions_are_balanced();
+    wat_instructions::laws::types_are_looked_up();
 }

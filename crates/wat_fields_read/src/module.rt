@@ -1,16 +1,18 @@
 //! A module, from tokens to its fields.
 ghost use Rattle.std.specs.Prelude.{◌≡◌, [], ◌∷◌, List, Ok, Err, Some, length, map, IfOk, MatchOption, MatchResult};
 ghost use Rattle.wat_fields.specs.Fields as grammar;
+ghost use Rattle.wat_fields.specs.Modules.{Module};
 ghost use Rattle.wat_fields_read.specs.Reading as reading;
 ghost use Rattle.wat_fields.specs.Views.{extern_of, field_of, fields_of, text_of, use_of, variable_of};
 ghost use Rattle.wat_fields_read.specs.Views.{IsItem, ItemFaults, NoItem, context_of, types_of, with_names};
 ghost use Rattle.wat_instructions.specs.Grammar.{label_of};
 ghost use Rattle.wat_instructions.specs.Parts.{Faults, IsMemory, fault_of, scope_of};
-ghost use Rattle.wat_instructions.specs.Terminals.{label, terminal};
+ghost use Rattle.wat_instructions.specs.Terminals.{Terminal, label, terminal};
+ghost use Rattle.wat_instructions.specs.Uses.{unknown};
 
 use crate::elements::table_at;
 use crate::header::{after, closed, exports, utf8_text, variables};
-use crate::names::{Names, names_in, names_of, variable_names};
+use crate::names::{Names, names_in, names_of, variable_names, with_types, without_types};
 use crate::segments::{memory_at, segment};
 use crate::types::{global_type, limits, space_of, table_type, twice_closed};
 use crate::uses::{type_at, type_use};
@@ -18,6 +20,7 @@ use std::alloc::Global;
 use wat_fields::fields::{
     Export, ExternType, Field, Function, GlobalVariable, Import, IndexSpace, TypeUse, Variable,
 };
+use wat_fields::implicit_types;
 use wat_instructions::machine;
 use wat_instructions::names::IndexedNames;
 use wat_instructions::pieces::{Fault, FaultKind, Instruction, Name, Piece, Refusal};
@@ -37,8 +40,8 @@ pub fn module<'p, 'a>(
     alloc: Global,
     pieces: &'p [Piece<'a>],
 ) -> Result<Vec<Field<'p>>, Refusal<'p, 'a>>
-    ensures read { IfOk result (λ fields. grammar.Module (map terminal pieces.now) (fields_of fields.items)) }
-    ensures spelled { (fs : List grammar.Field) → grammar.Module (map terminal pieces.now) fs →
+    ensures read { IfOk result (λ fields. Module (map terminal pieces.now) (fields_of fields.items)) }
+    ensures spelled { (fs : List grammar.Field) → Module (map terminal pieces.now) fs →
         MatchResult result (λ fields. fields_of fields.items ≡ fs) IsMemory }
     ensures refused { MatchResult result (λ _. Unit {0}) (λ e. Faults (reading.whole (map terminal pieces.now)) e) }
 {
@@ -78,7 +81,49 @@ fn module_fields<'p, 'a>(
             left: pieces,
         }));
     };
-    let (fields, rest) = fields(alloc, &names, pieces)?;
+    match fields_by(alloc, enclosed, &names, pieces) {
+        Err(Refusal::Text(fault)) => fields_again(alloc, enclosed, names, fault, pieces),
+        answer => answer,
+    }
+}
+
+/// The same by the types that type uses bring too, where the fault is that of reading by those that
+/// fields define. The types are found by reading without them.
+fn fields_again<'p, 'a>(
+    alloc: Global,
+    enclosed: bool,
+    names: Names<'p>,
+    fault: Fault<'p, 'a>,
+    pieces: &'p [Piece<'a>],
+) -> Result<Vec<Field<'p>>, Refusal<'p, 'a>>
+    ensures { (ss : List (List Terminal)) → types_of names.entry ≡ reading.defined_types ss → context_of names.entry ≡ reading.context_by ss (reading.defined_types ss) → MatchResult result
+        (λ fs. reading.fields_again enclosed ss (map terminal pieces.now) (fault_of fault) (reading.all_by ss (unknown (reading.defined_types ss)) (map terminal pieces.now)) ≡ Ok (fields_of fs.items))
+        (λ e. Faults (reading.fields_again enclosed ss (map terminal pieces.now) (fault_of fault) (reading.all_by ss (unknown (reading.defined_types ss)) (map terminal pieces.now))) e) }
+{
+    let names = without_types(alloc, names);
+    match fields(alloc, &names, pieces) {
+        Ok((fields, _)) => {
+            let types = implicit_types::types_of(alloc, &fields)?;
+            let names = with_types(types.into_types(), names);
+            fields_by(alloc, enclosed, &names, pieces)
+        }
+        Err(Refusal::Text(_)) => Err(Refusal::Text(fault)),
+        Err(Refusal::Memory(refused)) => Err(Refusal::Memory(refused)),
+    }
+}
+
+/// The fields of a module, by these types.
+fn fields_by<'p, 'a>(
+    alloc: Global,
+    enclosed: bool,
+    names: &Names<'p>,
+    pieces: &'p [Piece<'a>],
+) -> Result<Vec<Field<'p>>, Refusal<'p, 'a>>
+    ensures { MatchResult result
+        (λ fs. reading.ordered (map terminal pieces.now) (reading.ended_by enclosed (reading.all (reading.field_item (types_of names.now) (context_of names.now)) (map terminal pieces.now))) ≡ Ok (fields_of fs.items))
+        (λ e. Faults (reading.ordered (map terminal pieces.now) (reading.ended_by enclosed (reading.all (reading.field_item (types_of names.now) (context_of names.now)) (map terminal pieces.now)))) e) }
+{
+    let (fields, rest) = fields(alloc, names, pieces)?;
     ended_by(enclosed, rest)?;
     if !imports_first(&fields) {
         return Err(Refusal::Text(Fault {
@@ -700,6 +745,7 @@ pub(crate) fn scope<'s, 'n>(names: &'s Names<'n>, locals: &'s IndexedNames<'n>) 
     Scope {
         type_names: &names.type_names,
         types: &names.types,
+        are_types_known: names.are_types_known,
         locals,
         funcs: &names.funcs,
         tables: &names.tables,

@@ -9,6 +9,8 @@ ghost use Rattle.wat_fields_read.specs.Views.{binding_of, context_of, depth_of, 
 ghost use Rattle.wat_instructions.specs.Grammar.{label_of};
 ghost use Rattle.wat_instructions.specs.Names.{are_distinct};
 ghost use Rattle.wat_instructions.specs.Terminals.{label, terminal};
+ghost use Rattle.wat_instructions.specs.Uses.{unknown};
+ghost use Rattle.wat_instructions.specs.Uses as uses;
 ghost use Rattle.wat_instructions.specs.Views.{type_of};
 
 use crate::header::{after, exports};
@@ -47,6 +49,8 @@ pub(crate) struct Names<'p> {
     pub(crate) datas: IndexedNames<'p>,
     pub(crate) type_names: IndexedNames<'p>,
     pub(crate) types: Vec<FunctionType>,
+    /// Whether these are all types. Where they are not, any index of a type is taken.
+    pub(crate) are_types_known: bool,
 }
 
 /// What the fields bring into the context, by the parentheses alone; None where two names in an
@@ -55,9 +59,9 @@ pub(crate) fn names_of<'p, 'a>(
     alloc: Global,
     pieces: &'p [Piece<'a>],
 ) -> Result<Option<Names<'p>>, AllocError>
-    ensures context { IfOk result (λ found. IfSome found (λ names. context_of names ≡ grammar.context_of (grammar.types_in (flat_map reading.definition_at (reading.starts reading.Before [] (map terminal pieces.now)))) (flat_map reading.binding_at (reading.starts reading.Before [] (map terminal pieces.now))) (flat_map reading.elem_name_at (reading.starts reading.Before [] (map terminal pieces.now))) (flat_map reading.data_name_at (reading.starts reading.Before [] (map terminal pieces.now))))) }
-    ensures types { IfOk result (λ found. IfSome found (λ names. types_of names ≡ grammar.types_in (flat_map reading.definition_at (reading.starts reading.Before [] (map terminal pieces.now))))) }
-    ensures distinct { IfOk result (λ found. is_some found ≡ all_distinct (grammar.types_in (flat_map reading.definition_at (reading.starts reading.Before [] (map terminal pieces.now)))) (grammar.context_of (grammar.types_in (flat_map reading.definition_at (reading.starts reading.Before [] (map terminal pieces.now)))) (flat_map reading.binding_at (reading.starts reading.Before [] (map terminal pieces.now))) (flat_map reading.elem_name_at (reading.starts reading.Before [] (map terminal pieces.now))) (flat_map reading.data_name_at (reading.starts reading.Before [] (map terminal pieces.now))))) }
+    ensures context { IfOk result (λ found. IfSome found (λ names. context_of names ≡ reading.context_by (reading.starts reading.Before [] (map terminal pieces.now)) (reading.defined_types (reading.starts reading.Before [] (map terminal pieces.now))))) }
+    ensures types { IfOk result (λ found. IfSome found (λ names. types_of names ≡ reading.defined_types (reading.starts reading.Before [] (map terminal pieces.now)))) }
+    ensures distinct { IfOk result (λ found. is_some found ≡ all_distinct (reading.defined_types (reading.starts reading.Before [] (map terminal pieces.now))) (reading.context_by (reading.starts reading.Before [] (map terminal pieces.now)) (reading.defined_types (reading.starts reading.Before [] (map terminal pieces.now))))) }
 {
     let starts = starts(alloc, pieces)?;
     let bindings = bindings(alloc, &starts)?;
@@ -92,7 +96,32 @@ pub(crate) fn names_of<'p, 'a>(
         datas,
         type_names,
         types,
+        are_types_known: true,
     }))
+}
+
+/// The same without knowing the types.
+pub(crate) fn without_types<'p>(alloc: Global, names: Names<'p>) -> Names<'p>
+    ensures types { types_of result ≡ unknown (types_of names.entry) }
+    ensures context { context_of result ≡ uses.with_types (unknown (types_of names.entry)) [] (context_of names.entry) }
+{
+    Names {
+        types: Vec::new(alloc),
+        are_types_known: false,
+        ..names
+    }
+}
+
+/// The same by these types.
+pub(crate) fn with_types<'p>(types: Vec<FunctionType>, names: Names<'p>) -> Names<'p>
+    ensures types { types_of result ≡ record { names = (types_of names.entry).names; types = map type_of types.entry.items; are_known = true } }
+    ensures context { context_of result ≡ uses.with_types (record { names = (types_of names.entry).names; types = map type_of types.entry.items; are_known = true }) [] (context_of names.entry) }
+{
+    Names {
+        types,
+        are_types_known: true,
+        ..names
+    }
 }
 
 /// Whether two index spaces are the same.

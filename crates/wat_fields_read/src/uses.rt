@@ -69,13 +69,55 @@ fn indexed_use<'p, 'a>(
 {
     let (index, rest) = reading::index(&names.type_names, pieces)?;
     let rest = closed(rest)?;
+    if names.are_types_known {
+        known_use(alloc, names, index, pieces, rest)
+    } else {
+        assumed_use(alloc, index, rest)
+    }
+}
+
+/// A type use after the index of its type, with which all these tokens begin.
+fn known_use<'p, 'a>(
+    alloc: Global,
+    names: &Names<'p>,
+    index: usize,
+    all: &'p [Piece<'a>],
+    pieces: &'p [Piece<'a>],
+) -> Result<(TypeUse<'p>, &'p [Piece<'a>]), Refusal<'p, 'a>>
+    ensures { MatchResult result
+        (λ r. reading.lists_after index (slice_get (types_of names.now).types index) (map terminal all.now) (map terminal pieces.now) ≡ Ok (use_of r.0, map terminal r.1.now))
+        (λ e. Faults (reading.lists_after index (slice_get (types_of names.now).types index) (map terminal all.now) (map terminal pieces.now)) e) }
+{
     match type_at_index(&names.types, index) {
-        Some(of) => lists(alloc, index, of, pieces, rest),
+        Some(of) => lists(alloc, index, of, all, pieces),
         None => Err(Refusal::Text(Fault {
             kind: FaultKind::UnknownName,
-            left: pieces,
+            left: all,
         })),
     }
+}
+
+/// A type use after an index of any type, where the types are not known.
+fn assumed_use<'p, 'a>(
+    alloc: Global,
+    index: usize,
+    pieces: &'p [Piece<'a>],
+) -> Result<(TypeUse<'p>, &'p [Piece<'a>]), Refusal<'p, 'a>>
+    ensures { MatchResult result
+        (λ r. reading.assumed_use index (map terminal pieces.now) ≡ Ok (use_of r.0, map terminal r.1.now))
+        (λ e. Faults (reading.assumed_use index (map terminal pieces.now)) e) }
+{
+    let (params, rest) = variables(alloc, "param", true, pieces)?;
+    let (results, rest) = variables(alloc, "result", false, rest)?;
+    let index = Some(index);
+    Ok((
+        TypeUse {
+            index,
+            params,
+            results,
+        },
+        rest,
+    ))
 }
 
 /// The type of an index.

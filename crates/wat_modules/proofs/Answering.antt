@@ -23,7 +23,8 @@ use Rattle.wat_instructions.specs.declared.pieces.FaultKind.{FaultKind}
 use Rattle.wat_instructions.specs.Grammar as grammar
 use Rattle.wat_instructions.specs.Terminals.{Terminal}
 use Rattle.wat_sections.specs.Binary.{module_bytes}
-use Rattle.wat_fields.specs.Fields.{Field, Module}
+use Rattle.wat_fields.specs.Fields.{Field}
+use Rattle.wat_fields.specs.Modules.{Module}
 use Rattle.wat_fields_read.specs.Law.{ReadingIsGrammar}
 use Rattle.wat_fields_read.specs.Reading as reading
 use Rattle.wat_pieces.specs.Pieces.{plain, terminal_of}

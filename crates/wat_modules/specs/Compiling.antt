@@ -10,7 +10,8 @@ use Rattle.wat_instructions.specs.Grammar as grammar
 use Rattle.wat_instructions.specs.Terminals.{Terminal}
 use Rattle.wat_pieces.specs.Pieces.{Shows, terminal_of}
 use Rattle.wat_sections.specs.Binary.{module_bytes}
-use Rattle.wat_fields.specs.Fields.{Field, Module}
+use Rattle.wat_fields.specs.Fields.{Field}
+use Rattle.wat_fields.specs.Modules.{Module}
 use Rattle.wat_fields_read.specs.Reading as reading
 
 -- the tokens that count of the text are a module of these fields, and then it ends

@@ -1,6 +1,7 @@
 use Rattle.std.proofs.Common.{◌≡◌, map, drop}
 use Rattle.std.specs.List.{flat_map}
-use Rattle.wat_fields.specs.ImplicitTypes.{expression_types, types_after}
+use Rattle.wat_fields.specs.ImplicitTypes.{types_after}
+use Rattle.wat_instructions.specs.Uses.{expression_types}
 use Rattle.wat_fields.specs.Views.{items_of}
 use Rattle.wat_fields.proofs.implicit_types.add_elements.Given as goal
 

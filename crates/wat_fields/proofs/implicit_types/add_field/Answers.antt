@@ -1,6 +1,7 @@
 use Rattle.std.proofs.Common.{map, ◌∙◌, ap, sym}
 use Rattle.std.specs.List.{flat_map}
-use Rattle.wat_fields.specs.ImplicitTypes.{expression_types, mode_types, types_after, used_by}
+use Rattle.wat_fields.specs.ImplicitTypes.{mode_types, types_after, used_by}
+use Rattle.wat_instructions.specs.Uses.{expression_types}
 use Rattle.wat_fields.specs.Views.{field_of, items_of, mode_of}
 use Rattle.wat_fields.proofs.FunctionTypes.{after_more}
 use Rattle.wat_fields.proofs.implicit_types.add_field.Goals as goal
