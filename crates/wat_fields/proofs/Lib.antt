@@ -1,3 +1,3 @@
 pub mod FunctionTypes
 pub mod TypeKeys
-pub mod Strings
+pub mod Lengths

@@ -61,7 +61,7 @@ impl IndexedTypes {
 
     /// The types.
     pub fn into_types(self) -> Vec<FunctionType>
-        ensures { map type_of result.items ≡ self.entry }
+        ensures { map type_of result.items ≡ self }
     {
         self.types
     }

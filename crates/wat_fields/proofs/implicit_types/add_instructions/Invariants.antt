@@ -1,6 +1,7 @@
 use Rattle.std.proofs.Common.{◌≡◌, drop}
 use Rattle.std.specs.List.{flat_map}
-use Rattle.wat_fields.specs.ImplicitTypes.{instruction_types, types_after}
+use Rattle.wat_fields.specs.ImplicitTypes.{types_after}
+use Rattle.wat_instructions.specs.Uses.{instruction_types}
 use Rattle.wat_fields.proofs.implicit_types.add_instructions.Given as goal
 
 abbrev pub invariant-loop-instruction : goal.invariant-loop-instruction

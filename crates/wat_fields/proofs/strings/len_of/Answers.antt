@@ -1,4 +1,4 @@
-use Rattle.wat_fields.proofs.Strings.{together_past}
+use Rattle.wat_fields.proofs.Lengths.{together_past}
 use Rattle.wat_fields.proofs.strings.len_of.Goals as goal
 
 pub returns-then-len-gt-MOST-clause-refused : goal.returns-then-len-gt-MOST-clause-refused
