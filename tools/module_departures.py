@@ -15,9 +15,8 @@ REFUSED = {
     "of two data segments of one name, which wat2wasm takes": ("duplicate identifier", tokens_of.has_two_segments_of_a_name),
     "of a `table.copy` of one table, which wat2wasm takes": ("unexpected token", tokens_of.has_one_table),
 }
-# The same of what wast takes too: what the program leaves out, older texts, and later proposals.
+# The same of what wast takes too: older texts, and later proposals.
 REFUSED_ALONE = {
-    "of a type use by the number of a type that a use brings, left out": ("unknown identifier", tokens_of.has_brought_type),
     "of limits with a type, which both judges take": ("unexpected token", tokens_of.has_index_type),
     "of a segment's memory or table without parentheses, which both judges take": ("unexpected token", tokens_of.has_bare_use),
     "of a memory's index in an instruction, which both judges take": ("unexpected token", tokens_of.has_memory_index),

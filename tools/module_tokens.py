@@ -259,13 +259,6 @@ def has_reference(tokens):
     return any(REFERENCES & set(group) for group in groups_of(tokens, GROUPS))
 
 
-def has_brought_type(tokens):
-    """Whether a type use says a number that no field `type` has."""
-    fields = sum(tokens[at : at + 2] == ["(", "type"] and ["(", "func"] in (tokens[at + 2 : at + 4], tokens[at + 3 : at + 5]) for at in range(len(tokens)))
-    uses = [tokens[at + 2] for at in range(len(tokens) - 3) if tokens[at : at + 2] == ["(", "type"] and tokens[at + 3] == ")"]
-    return any(number_of(use) >= fields for use in uses)
-
-
 def has_bare_use(tokens):
     """Whether a segment says the index of its memory or table without parentheses."""
     return any(is_index(unnamed(field), 0) for field in groups_of(tokens, SEGMENTS))

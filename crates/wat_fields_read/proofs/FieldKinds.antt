@@ -17,11 +17,11 @@ use Rattle.wat_instructions.specs.declared.pieces.ReferenceType.TheVariants as r
 use Rattle.wat_fields.specs.Fields.{Many, Group, InlineExport, IndexIs, by_number, by_identifier, LimitsAre, TypeUseIs, by_lists, by_index, by_both, by_unknown, ExternIs, by_type_use, by_table_type, by_memory_type, by_global_type, Variable, TypeUse, type_use, function_type, ExternType, FuncType, OfTable, OfMemory, OfGlobal, extern_space, Definition, definition, Field, TypeField, Import, Func, Table, Memory, Global, Export, Start, FieldIs, by_type, by_import, by_inline_import, by_func, by_table, by_memory, by_global, by_export, by_start, name_of, names_of, unnamed, with_locals, space_of, Data, StringIs, target, Elem, Passive, Active, Declarative, Elements, table_of, is_u32, by_table_items, by_table_functions, by_passive_elem, by_declarative_elem, by_active_elem, by_function_elem, by_memory_data, by_passive_data, by_active_data}
 use Rattle.wat_instructions.specs.Names.{are_distinct}
 use Rattle.wat_fields_read.specs.Reading.{and_then, after, all, closed, closing, utf8_text, export, export_item, group_item, group, function, func_at, locals, instructions, agreed, lists_after, assumed_use, either_use, listed_use, indexed_use, use_by, use_at, limits_at, table_type_at, table_limits, table_open, table_by, table_at, elem_at, memory_type, memory_by, memory_at, segment_at, data_at, global_type_at, global_at, defined, import_names, func_type, extern_at, imported, inline_import, item_by, item_at, import_by, import_word, import_open, import_at, type_by, type_at, type_field, twice_closed, external_by, external_word, external_at, export_at, start_at, field_by, field, field_item}
-use Rattle.wat_fields.proofs.FunctionTypes.{type_is, type_same}
+use Rattle.wat_fields_read.proofs.SameTypes.{type_is, type_same}
 use Rattle.wat_fields_read.proofs.Headers.{Ends, IsNoInstruction, Listed, NoLists, lists_sound, lists_complete, ends_lists, ends_groups, ends_body, item_ends, other_word, export_is_none, import_is_none, type_is_none, param_is_none, result_is_none, local_is_none}
 use Rattle.wat_fields_read.proofs.Items.{exports_read, export_past, groups_read, group_past, group_takes, word_is, closing_inv, closed_is, utf8_inv, begins, after_is}
 use Rattle.wat_fields_read.proofs.Manies.{Gives, gives_of, of_gives, and_then_inv, Brings, Reads, all_sound, all_complete, many_takes, many_past}
-pub use Rattle.wat_fields.proofs.SegmentKinds.{Laws}
+pub use Rattle.wat_fields_read.proofs.SegmentKinds.{Laws}
 use Rattle.wat_fields_read.proofs.ElementKinds.{Elems, of_items, of_functions, elem_sound, table_elements_sound, table_word_complete, limits_first, either_items, either_functions, items_keep, functions_keep, elements_keep, passive_elem_complete, declarative_elem_complete, active_elem_complete, function_elem_complete}
 use Rattle.wat_fields_read.proofs.SegmentKinds.{Keeps, finds_of, data_sound, passive_complete, active_complete, memory_data_sound, memory_data_complete, strings_keep, used_keeps, expression_keeps}
 use Rattle.wat_fields_read.proofs.TypeRules.{Passes, IsTableType, limits_sound, limits_complete, limits_pass, limits_no_export, limits_no_import, limits_no_data, table_type_sound, table_type_complete, table_type_pass, global_type_sound, global_type_complete, global_type_pass, global_type_no_export, global_type_no_import, index_sound, index_complete, index_pass, twice_closed_is}
@@ -64,48 +64,12 @@ either_sound types w hs vs i u us true q e n g = after_index types w hs vs i (sl
 either_sound types w hs vs i u us false q e n g = unknown_sound types w hs vs i u us q e n g
 
 indexed_use_sound : (types : Types) (w : List ℕ) (hs : List Terminal) (u : TypeUse) (us : List Terminal) → w ≡ codes "type" → Gives (indexed_use types hs) u us → TypeUseIs types (Open ∷ Word w ∷ hs) u us
-use_sound : (types : Types) (ts : List Terminal) (u : TypeUse) (us : List Terminal) → Gives (listed_use ts) u us → TypeUseIs types ts u us
-listed_use_sound types ts u us g =
-    let (ps, rs, ds, k, e) = lists_sound (λ ps rs vs. Ok (type_use None ps rs, vs)) ts u us g in
-    subst (λ x. TypeUseIs types ts x us) e.0 (subst (λ x. TypeUseIs types ts (type_use None ps rs) x) e.1 (by_lists k.params k.results))
-
-both_sound : (types : Types) (w : List ℕ) (hs vs : List Terminal) (i : ℕ) (t : FunctionType) (ps rs : List Variable) (ds : List Terminal) (u : TypeUse) (us : List Terminal) → types.are_known ≡ true → w ≡ codes "type" → IndexIs types.names hs i (Close ∷ vs) → slice_get types.types i ≡ Some t → Listed ps rs vs ds
-    → (b : Bool) → same_type (function_type ps rs) t ≡ b → Gives (if b then Ok (type_use (Some i) ps rs, ds) else Err (OtherType, hs)) u us → TypeUseIs types (Open ∷ Word w ∷ hs) u us
-both_sound types w hs vs i t ps rs ds u us q e n s k true b g =
-    subst (λ x. TypeUseIs types (Open ∷ Word w ∷ hs) x us) g.0
-    (subst (λ x. TypeUseIs types (Open ∷ Word w ∷ hs) (type_use (Some i) ps rs) x) g.1
-    (by_both q e n (s ∙ ap (λ x. Some x) (sym (type_is (function_type ps rs) t b))) k.params k.results))
-both_sound types w hs vs i t ps rs ds u us q e n s k false b g = absurd g
-
-agreed_sound : (types : Types) (w : List ℕ) (hs vs : List Terminal) (i : ℕ) (t : FunctionType) (ps rs : List Variable) (ds : List Terminal) (u : TypeUse) (us : List Terminal) → types.are_known ≡ true → w ≡ codes "type" → IndexIs types.names hs i (Close ∷ vs) → slice_get types.types i ≡ Some t → Listed ps rs vs ds
-    → Gives (agreed i t ps rs hs ds) u us → TypeUseIs types (Open ∷ Word w ∷ hs) u us
-agreed_sound types w hs vs i t [] [] ds u us q e n s k g =
-    subst (λ x. TypeUseIs types (Open ∷ Word w ∷ hs) x us) g.0
-    (subst (λ x. TypeUseIs types (Open ∷ Word w ∷ hs) (type_use (Some i) (map unnamed t.params) (map unnamed t.results)) x) g.1
-    (by_index q e n s k.params k.results))
-agreed_sound types w hs vs i t [] (r ∷ rs) ds u us q e n s k g = both_sound types w hs vs i t [] (r ∷ rs) ds u us q e n s k (same_type (function_type [] (r ∷ rs)) t) refl g
-agreed_sound types w hs vs i t (p ∷ ps) rs ds u us q e n s k g = both_sound types w hs vs i t (p ∷ ps) rs ds u us q e n s k (same_type (function_type (p ∷ ps) rs) t) refl g
-
-after_index : (types : Types) (w : List ℕ) (hs vs : List Terminal) (i : ℕ) (o : Option FunctionType) (u : TypeUse) (us : List Terminal) → types.are_known ≡ true → w ≡ codes "type" → IndexIs types.names hs i (Close ∷ vs) → slice_get types.types i ≡ o → Gives (lists_after i o hs vs) u us → TypeUseIs types (Open ∷ Word w ∷ hs) u us
-after_index types w hs vs i (Some t) u us q e n s g = let (ps, rs, ds, k, h) = lists_sound (λ ps rs ws. agreed i t ps rs hs ws) vs u us g in agreed_sound types w hs vs i t ps rs ds u us q e n s k h
-after_index types w hs vs i None u us q e n s g = absurd g
-
-unknown_sound : (types : Types) (w : List ℕ) (hs vs : List Terminal) (i : ℕ) (u : TypeUse) (us : List Terminal) → types.are_known ≡ false → w ≡ codes "type" → IndexIs types.names hs i (Close ∷ vs) → Gives (assumed_use i vs) u us → TypeUseIs types (Open ∷ Word w ∷ hs) u us
-unknown_sound types w hs vs i u us q e n g =
-    let (ps, rs, ds, k, h) = lists_sound (λ ps rs vs. Ok (type_use (Some i) ps rs, vs)) vs u us g in
-    subst (λ x. TypeUseIs types (Open ∷ Word w ∷ hs) x us) h.0 (subst (λ x. TypeUseIs types (Open ∷ Word w ∷ hs) (type_use (Some i) ps rs) x) h.1 (by_unknown q e n k.params k.results))
-
-either_sound : (types : Types) (w : List ℕ) (hs vs : List Terminal) (i : ℕ) (u : TypeUse) (us : List Terminal) (b : Bool) → types.are_known ≡ b → w ≡ codes "type" → IndexIs types.names hs i (Close ∷ vs) → Gives (if b then lists_after i (slice_get types.types i) hs vs else assumed_use i vs) u us → TypeUseIs types (Open ∷ Word w ∷ hs) u us
-either_sound types w hs vs i u us true q e n g = after_index types w hs vs i (slice_get types.types i) u us q e n refl g
-either_sound types w hs vs i u us false q e n g = unknown_sound types w hs vs i u us q e n g
-
-indexed_use_sound : (types : Types) (w : List ℕ) (hs : List Terminal) (u : TypeUse) (us : List Terminal) → w ≡ codes "type" → Gives (indexed_use types hs) u us → TypeUseIs types (Open ∷ Word w ∷ hs) u us
 indexed_use_sound types w hs u us e g =
-    let (i, xs, e1, g1) = and_then_inv (index types.names hs) (λ i us. and_then (closing i (closed us)) (λ i vs. lists_after i (slice_get types.types i) hs vs)) u us g in
-    let (j, vs, e2, g2) = and_then_inv (closing i (closed xs)) (λ i vs. lists_after i (slice_get types.types i) hs vs) u us g1 in
+    let (i, xs, e1, g1) = and_then_inv (index types.names hs) (λ i us. and_then (closing i (closed us)) (λ i vs. either_use types i hs vs)) u us g in
+    let (j, vs, e2, g2) = and_then_inv (closing i (closed xs)) (λ i vs. either_use types i hs vs) u us g1 in
     let (same, shut) = closing_inv i j (closed xs) vs (gives_of _ j vs e2) in
     let n = index_sound types.names hs i xs (gives_of _ i xs e1) in
-    after_index types w hs vs j (slice_get types.types j) u us e (subst (λ x. IndexIs types.names hs x (Close ∷ vs)) same (subst (λ x. IndexIs types.names hs i x) (closed_is xs vs shut) n)) refl g2
+    either_sound types w hs vs j u us types.are_known refl e (subst (λ x. IndexIs types.names hs x (Close ∷ vs)) same (subst (λ x. IndexIs types.names hs i x) (closed_is xs vs shut) n)) g2
 
 use_sound : (types : Types) (ts : List Terminal) (u : TypeUse) (us : List Terminal) → Gives (use_at types ts) u us → TypeUseIs types ts u us
 unfolding use_at

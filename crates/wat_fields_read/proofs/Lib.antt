@@ -1,4 +1,5 @@
 pub mod Manies
+pub mod SameTypes
 pub mod Items
 pub mod TypeRules
 pub mod SegmentKinds

@@ -297,6 +297,11 @@ no_field types context false = refl
 
 -- By any types.
 
+-- the fields that are read
+abbrev read_fields : Read (List Field) → List Field
+read_fields (Ok (fs, ts)) = fs
+read_fields (Err f) = []
+
 abbrev Spelled : List (List Terminal) → Types → List Terminal → List Field → List Terminal → Type 0
 Spelled ss types ts fs r = Many (FieldIs types (context_by ss types)) ts fs r
 
@@ -385,8 +390,7 @@ again_sound laws enclosed ts fs f (Ok (gs, us)) e h =
     let k = module_context laws.base enclosed (all_types ss gs) (context_by ss (all_types ss gs)) ts fs b.0 in
     let l = by_unknown_types laws ss (types_of gs) ts fs (tail enclosed) b.0 in
     let n = module_context laws.base enclosed (unknown (defined_types ss)) (context_by ss (unknown (defined_types ss))) ts l.gs l.spelled in
-    let r : Ok (gs, us) ≡ Ok (l.gs, tail enclosed) = sym e ∙ all_read laws.base enclosed ss (unknown (defined_types ss)) ts l.gs l.spelled in
-    let g : gs ≡ l.gs = cc in
+    let g : gs ≡ l.gs = ap read_fields (sym e ∙ all_read laws.base enclosed ss (unknown (defined_types ss)) ts l.gs l.spelled) in
     let t : types_of gs ≡ types_of fs = ap types_of g ∙ sym (types_same ts fs l.gs k n l.brings) in
     record { spelled = to_own ts fs (tail enclosed) k (subst (λ x. Spelled ss (types_in (flat_map definition_at ss) x) ts fs (tail enclosed)) t b.0); imports = b.1; starts = b.2; context = k }
 again_sound laws enclosed ts fs f (Err g) e h = cc
@@ -426,8 +430,7 @@ or_complete laws enclosed ts fs k m i s (Ok hs) e =
     let b = by_types_sound laws.base enclosed ss (defined_types ss) ts hs e in
     let n = own_more ts fs k in
     let x = subst (λ x. Spelled ss (types_in (flat_map definition_at ss) x) ts hs (tail enclosed)) n.1 (by_more_types laws ss n.0 ts hs (tail enclosed) b.0) in
-    let r : Ok (hs, tail enclosed) ≡ Ok (fs, tail enclosed) = sym (all_read laws.base enclosed ss (all_types ss fs) ts hs x) ∙ all_read laws.base enclosed ss (all_types ss fs) ts fs m in
-    let g : hs ≡ fs = cc in ap (λ x. Ok x) g
+    let g : hs ≡ fs = ap read_fields (sym (all_read laws.base enclosed ss (all_types ss fs) ts hs x) ∙ all_read laws.base enclosed ss (all_types ss fs) ts fs m) in ap (λ x. Ok x) g
 or_complete laws enclosed ts fs k m i s (Err f) e =
     let ss = starts Before [] ts in
     let l = by_unknown_types laws ss (types_of fs) ts fs (tail enclosed) m in

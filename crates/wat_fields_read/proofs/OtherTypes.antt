@@ -5,6 +5,7 @@ use Rattle.std.specs.List.{flat_map}
 use Rattle.std.proofs.lemmas.Grind.{flat_map-append}
 use Rattle.wat_instructions.specs.declared.pieces.Instruction.{Instruction}
 use Rattle.wat_instructions.specs.declared.pieces.ReferenceType.{ReferenceType}
+use Rattle.wat_instructions.specs.declared.pieces.ReferenceType.TheVariants as reference
 use Rattle.wat_instructions.specs.declared.pieces.ValueType.{ValueType}
 use Rattle.wat_instructions.specs.Grammar.{Context, Folded, by_group, Instructions, is_name, label_of, past, position}
 use Rattle.wat_instructions.specs.Names.{are_distinct}
@@ -23,11 +24,11 @@ never false e k = cc
 
 found_from : (x : List ℕ) (k j n : ℕ) (ls : List Label) → position k x ls ≡ Some n → (m : ℕ) × (position j x ls ≡ Some m)
 found_from x k j n [] e = cc
-found_from x k j n (l ∷ ls) e = by (is_name x l) e
+found_from x k j n (l ∷ ls) e = by (is_name x l) (λ f. found_from x (suc k) (suc j) n ls f) e
   where
-    by : (b : Bool) → (if b then Some k else position (suc k) x ls) ≡ Some n → (m : ℕ) × ((if b then Some j else position (suc j) x ls) ≡ Some m)
-    by true f = (j, refl)
-    by false f = found_from x (suc k) (suc j) n ls f
+    by : (b : Bool) → (position (suc k) x ls ≡ Some n → (m : ℕ) × (position (suc j) x ls ≡ Some m)) → (if b then Some k else position (suc k) x ls) ≡ Some n → (m : ℕ) × ((if b then Some j else position (suc j) x ls) ≡ Some m)
+    by true g f = (j, refl)
+    by false g f = g f
 
 nameless_among : (types : List ValueType) (vs : List Variable) → AreAmong (map name_of (map unnamed types ++ vs)) (map name_of vs)
 nameless_among [] vs x n e = (n, e)
@@ -246,10 +247,10 @@ field_like same context others c _ _ r (by_active_elem {ts = ts} {os = os} {bs =
     }
 field_like same context others c _ _ r (by_function_elem {ts = ts} {bs = bs} {is = is} {es = es} e o a) =
     let m = expression_like same context others c (codes "offset") (label_of ts).1 is bs o in record {
-      gs = Elem (label_of ts).0 (Active (target 0 m.js)) _ es ∷ [];
+      gs = Elem (label_of ts).0 (Active (target 0 m.js)) reference.Func es ∷ [];
       spelled = by_function_elem e m.spelled (functions_kept context others bs es (Close ∷ r) a);
-      equal = λ k. ap (λ x. Elem (label_of ts).0 (Active (target 0 x)) _ es ∷ []) (m.equal k);
-      brings = one (Elem (label_of ts).0 (Active (target 0 is)) _ es) (Elem (label_of ts).0 (Active (target 0 m.js)) _ es) (ap (λ x. x ++ flat_map expression_types es) m.brings);
+      equal = λ k. ap (λ x. Elem (label_of ts).0 (Active (target 0 x)) reference.Func es ∷ []) (m.equal k);
+      brings = one (Elem (label_of ts).0 (Active (target 0 is)) reference.Func es) (Elem (label_of ts).0 (Active (target 0 m.js)) reference.Func es) (ap (λ x. x ++ flat_map expression_types es) m.brings);
     }
 field_like same context others c _ _ r (by_passive_data a b) = kept same others context _ _ r (by_passive_data a b)
 field_like same context others c _ _ r (by_active_data {ts = ts} {os = os} {bs = bs} {i = i} {is = is} {bytes = bytes} e u o a) =

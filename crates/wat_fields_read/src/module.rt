@@ -97,8 +97,8 @@ fn fields_again<'p, 'a>(
     pieces: &'p [Piece<'a>],
 ) -> Result<Vec<Field<'p>>, Refusal<'p, 'a>>
     ensures { (ss : List (List Terminal)) → types_of names.entry ≡ reading.defined_types ss → context_of names.entry ≡ reading.context_by ss (reading.defined_types ss) → MatchResult result
-        (λ fs. reading.fields_again enclosed ss (map terminal pieces.now) (fault_of fault) (reading.all_by ss (unknown (reading.defined_types ss)) (map terminal pieces.now)) ≡ Ok (fields_of fs.items))
-        (λ e. Faults (reading.fields_again enclosed ss (map terminal pieces.now) (fault_of fault) (reading.all_by ss (unknown (reading.defined_types ss)) (map terminal pieces.now))) e) }
+        (λ fs. reading.fields_again enclosed ss (map terminal pieces.now) (fault_of fault.entry) (reading.all_by ss (unknown (reading.defined_types ss)) (map terminal pieces.now)) ≡ Ok (fields_of fs.items))
+        (λ e. Faults (reading.fields_again enclosed ss (map terminal pieces.now) (fault_of fault.entry) (reading.all_by ss (unknown (reading.defined_types ss)) (map terminal pieces.now))) e) }
 {
     let names = without_types(alloc, names);
     match fields(alloc, &names, pieces) {

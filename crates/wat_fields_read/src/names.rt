@@ -1,5 +1,5 @@
 //! The items that fields define, before the fields are read; and whether names are distinct.
-ghost use Rattle.std.specs.Prelude.{◌≡◌, ◌++◌, ◌∷◌, [], IfOk, IfSome, MatchOption, is_some, map};
+ghost use Rattle.std.specs.Prelude.{◌≡◌, ◌++◌, ◌∷◌, [], true, IfOk, IfSome, MatchOption, is_some, map};
 ghost use Rattle.std.specs.List.{flat_map};
 ghost use Rattle.wat_fields.specs.Fields.{all_distinct, definition_name, definition_type, is_space, name_of, names_in, names_of};
 ghost use Rattle.wat_fields.specs.Fields as grammar;
@@ -114,8 +114,8 @@ pub(crate) fn without_types<'p>(alloc: Global, names: Names<'p>) -> Names<'p>
 
 /// The same by these types.
 pub(crate) fn with_types<'p>(types: Vec<FunctionType>, names: Names<'p>) -> Names<'p>
-    ensures types { types_of result ≡ record { names = (types_of names.entry).names; types = map type_of types.entry.items; are_known = true } }
-    ensures context { context_of result ≡ uses.with_types (record { names = (types_of names.entry).names; types = map type_of types.entry.items; are_known = true }) [] (context_of names.entry) }
+    ensures types { types_of result ≡ record { names = (types_of names.entry).names; types = map type_of types.items; are_known = true } }
+    ensures context { context_of result ≡ uses.with_types (record { names = (types_of names.entry).names; types = map type_of types.items; are_known = true }) [] (context_of names.entry) }
 {
     Names {
         types,
