@@ -1,7 +1,6 @@
 -- WebAssembly 2.0 specification, 5 (binary format): 5.1.3 vectors, 5.2 values, 5.3 types, 5.4 instructions, 5.5 modules (5.5.2 sections, 5.5.4 type
 -- section, 5.5.5 import section, 5.5.6 function section, 5.5.7 table section, 5.5.8 memory section, 5.5.9 global section, 5.5.10 export section, 5.5.11 start
--- section, 5.5.12 element section, 5.5.13 code section, 5.5.14 data section, 5.5.15 data count section, 5.5.16 modules). And 6.6.3: the types that type uses
--- without an index bring.
+-- section, 5.5.12 element section, 5.5.13 code section, 5.5.14 data section, 5.5.15 data count section, 5.5.16 modules).
 -- What the standard leaves open is fixed: integers in their shortest form, runs of local variables of one type counted together, no section without
 -- content, no custom section, a data count only where it has to be, an `else` where the text has one, a data segment of the memory 0 by the flags 0, and of the
 -- bytes for valid element segments those that `wat2wasm` writes (elem_bytes). The order of exports and segments is that of the text: an inline one is where its field is.
@@ -26,6 +25,7 @@ use Rattle.wat_fields.specs.declared.fields.Limits.{Limits}
 use Rattle.wat_fields.specs.declared.fields.TableType.{TableType}
 use Rattle.wat_fields.specs.Fields.{ExternType, FuncType, OfTable, OfMemory, OfGlobal, Field, Func, Table, Memory, Global, Start, Function, TypeUse, Variable, bindings_of, definition_type, definitions_of, extern_space, function_type, names_in, starts_of, ElemMode, Passive, Active, Declarative, Elements, Target, target}
 use Rattle.wat_fields.specs.Fields as field
+use Rattle.wat_fields.specs.ImplicitTypes.{type_index, types_of, used_type}
 
 -- 5.4.1 block types: a value type, or 0x40
 abbrev pub block_byte : Option ValueType → ℕ
