@@ -226,18 +226,19 @@ def rules_of(text):
 
 
 def kinds_of(enum, text):
-    """The variants of an enum in their order."""
-    return VARIANT.findall(re.search(rf"\benum {enum} \{{\n(.*?)\n\}}", text, re.DOTALL)[1])
+    """The variants of an enum in their order, none where it is not there."""
+    found = re.search(rf"\benum {enum} \{{\n(.*?)\n\}}", text, re.DOTALL)
+    return VARIANT.findall(found[1]) if found else []
 
 
 def read(path):
     return (ROOT / path).read_text(encoding="utf-8")
 
 
-def constructors(read):
-    """What has to have a record that turns it: the rules of the grammar, and the kinds of immediates."""
-    rules = [f"{name}.{rule}" for name, path in RULES.items() for rule in rules_of(read(path))]
-    return rules + [f"{name}.{kind}" for name, path in KINDS.items() for kind in kinds_of(name, read(path))]
+def constructors(text_of):
+    """What has to have a record that turns it: the rules of the grammar, and the kinds of immediates, where files have these texts."""
+    rules = [f"{name}.{rule}" for name, path in RULES.items() for rule in rules_of(text_of(path))]
+    return rules + [f"{name}.{kind}" for name, path in KINDS.items() for kind in kinds_of(name, text_of(path))]
 
 
 def turned_faults(text, wanted, names):
