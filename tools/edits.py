@@ -2,10 +2,11 @@
 """Lists, checks and tries the wrong bodies of edits/CRATE.txt. docs/PROOF.md says what they are, the head of each table how a record is written.
 
   list        prints crate, name, functions, clause and input of each record, with tabs between them
-  check       checks that each record is complete, that its names are those of the sources, and that it can be applied
+  check       checks that each record is complete, that its names are those of the sources, and that it can be applied; and, by
+              edits/constructors.txt, that each rule of the grammar and each kind of immediate has one that turns it
   try         has the prover refuse each: first by a check of the functions of the record alone, and of those that they call; where
               it takes these, by a check of the whole crate, since a function that only a caller's contract pins is refused there
-  self-test   shows that `check` finds faults that are put into a record
+  self-test   shows that `check` finds faults that are put into a record, and into that table
 
 A WORD is a crate, a record's name, CRATE/NAME, or the end of a function's path, as TableRef::look.
 
@@ -31,12 +32,18 @@ import time
 ROOT = pathlib.Path(__file__).resolve().parent.parent
 KIT = pathlib.Path(os.path.realpath(shutil.which("rt") or "rt")).parent.parent
 PARTS = ("src", "specs", "proofs")
+TURNED = ROOT / "edits/constructors.txt"
+# The definitions whose data types have the rules of the grammar, and the enums of immediates, each with its file.
+RULES = {"Grammar": "crates/wat_instructions/specs/Grammar.antt", "Fields": "crates/wat_fields/specs/Fields.antt"}
+KINDS = {"Immediate": "crates/wat_instructions/src/table.rt", "Argument": "crates/wat_instructions/src/pieces.rt"}
 ORDER = re.compile(r"name file fn clause( old new)+ breaks( family)?( must-fail)?( refused-in)?( note)?")
 NAME = re.compile(r"[a-z0-9]+(-[a-z0-9]+)*")
 ENTRY = re.compile(r"((?P<kind>constant|type|macro|definition) )?(?P<path>.+)")
 CLAUSE = re.compile(r"(?P<clause>the clause|the invariant|\w+) of (?P<of>[\w:]+)")
 ITEM = re.compile(r"\s*(?:pub(?:\(\w+\))? )?(?:(?:const )?(?:unsafe )?(?:extern \"C\" )?fn|const|struct|enum|macro_rules!) (\w+)")
 DECLARED = re.compile(r"\b(?:fn|struct|trait) (\w+)")
+RULE = re.compile(r"^(?:pub )?data (\w+)|^  (by_\w+) :", re.MULTILINE)
+VARIANT = re.compile(r"^    ([A-Z]\w*)", re.MULTILINE)
 STATED = re.compile(r"\b(?:ensures\*?(?: (\w+))? \{|ghost (?!use\b)(\w+))")
 QUIET = {"stdin": subprocess.DEVNULL, "stdout": subprocess.PIPE, "check": False}
 LOST = re.compile(r"error: `\w+` has no function|fits more than one|several functions")
@@ -102,7 +109,7 @@ def records_of(crate, text):
 
 
 def tables():
-    return {path.stem: path.read_text(encoding="utf-8") for path in sorted(ROOT.glob("edits/*.txt"))}
+    return {path.stem: path.read_text(encoding="utf-8") for path in sorted(ROOT.glob("edits/*.txt")) if path != TURNED}
 
 
 def all_records():
@@ -209,6 +216,45 @@ def faults_of(records):
     return faults + [f"{file.relative_to(ROOT)}: no record" for file in sorted(ROOT.glob("crates/*/must-fail/*")) if file not in files]
 
 
+def rules_of(text):
+    """The constructors `by_..` of each data type of these definitions, in their order, as TYPE.RULE."""
+    of, rules = "", []
+    for data, rule in RULE.findall(text):
+        of = data or of
+        rules += [f"{of}.{rule}"] if rule else []
+    return rules
+
+
+def kinds_of(enum, text):
+    """The variants of an enum in their order, none where it is not there."""
+    found = re.search(rf"\benum {enum} \{{\n(.*?)\n\}}", text, re.DOTALL)
+    return VARIANT.findall(found[1]) if found else []
+
+
+def read(path):
+    return (ROOT / path).read_text(encoding="utf-8")
+
+
+def constructors(text_of):
+    """What has to have a record that turns it: the rules of the grammar, and the kinds of immediates, where files have these texts."""
+    rules = [f"{name}.{rule}" for name, path in RULES.items() for rule in rules_of(text_of(path))]
+    return rules + [f"{name}.{kind}" for name, path in KINDS.items() for kind in kinds_of(name, text_of(path))]
+
+
+def turned_faults(text, wanted, names):
+    """What is wrong with the table of what records turn, where these constructors are there, and records of these names."""
+    lines = [line for line in text.splitlines() if line and not line.startswith("#")]
+    rows = [line.partition("\t")[::2] for line in lines]
+    faults = [f"{line}: it is there twice" for line, count in collections.Counter(lines).items() if count > 1]
+    faults += [f"{line}: no rule or kind is {name}" for line, (name, _) in zip(lines, rows) if name not in wanted]
+    faults += [f"{line}: no record is {record or 'said'}" for line, (_, record) in zip(lines, rows) if record not in names]
+    listed = [name for name, _ in itertools.groupby(name for name, _ in rows)]
+    faults += [f"{name}: no record turns it" for name in wanted if name not in listed]
+    if not faults and listed != wanted:
+        faults = ["the order is not that of the sources"]
+    return [f"{TURNED.relative_to(ROOT)}: {fault}" for fault in faults]
+
+
 def check(_asked):
     records, faults = [], []
     for crate, text in tables().items():
@@ -217,6 +263,7 @@ def check(_asked):
         except Fault as fault:
             faults.append(f"edits/{crate}.txt: {fault}")
     faults += faults_of(records)
+    faults += turned_faults(read(TURNED), constructors(read), {f"{it.crate}/{it.name}" for it in records})
     print("\n".join([*faults, f"edits.py: {len(records)} records, {len(faults)} faults"]))
     return 1 if faults or not records else 0
 
@@ -377,10 +424,20 @@ WRONG = {
     "a clause is not there": (r"clause: .*", "clause: no_such of {fn}", "no source has this clause"),
     "the file is not there": (r"file: .*", "file: src/no_such.rt", "is no source"),
 }
+# Of the first row of the table of what records turn, or of the sources beside it: the file, what is put in the place of what, and what is said.
+WRONG_TURNED = {
+    "a row is left out": (TURNED, r"(?m)^Grammar\.Instructions\.by_none\t.*\n", "", "no record turns it"),
+    "a row has no record": (TURNED, r"(?m)^(\w.*\t).*", r"\1", "no record is said"),
+    "a row's record is not there": (TURNED, r"(?m)^(\w.*\t).*", r"\1wat_fields/no-such", "no record is wat_fields/no-such"),
+    "a row's rule is not there": (TURNED, r"(?m)^\w.*\t", "Grammar.Instructions.by_no_such\t", "no rule or kind is"),
+    "a row is there twice": (TURNED, r"(?m)^\w.*\n", r"\g<0>\g<0>", "it is there twice"),
+    "a rule has no row": (RULES["Fields"], r"(?m)^  by_.*\n", r"  by_no_such : Field\n\g<0>", "by_no_such: no record turns it"),
+    "a kind has no row": (KINDS["Immediate"], r"(?m)^    No,\n", r"\g<0>    NoSuch(u8),\n", "Immediate.NoSuch: no record turns it"),
+}
 
 
-def self_test(_asked):
-    """Puts each fault of WRONG into a record of a plain function, the first that there is."""
+def missed_in_record():
+    """Which faults of WRONG are not found in a record of a plain function, the first that there is."""
     record = next(it for it in all_records() if it.entries()[0][0] is None)
     text = next(part for part in tables()[record.crate].split("\n\n") if part.startswith(f"name: {record.name}\n"))
     name = record.entries()[0][1].rpartition("::")[2]
@@ -393,7 +450,26 @@ def self_test(_asked):
         except Fault as fault:
             found = [str(fault)]
         missed += [] if any(wanted in it for it in found) else [f"{what}: {found}"]
-    print("\n".join([*missed, f"edits.py: {len(WRONG) - len(missed)} of {len(WRONG)} faults were found"]))
+    return missed
+
+
+def missed_in_table():
+    """Which faults of WRONG_TURNED are not found."""
+    names = {f"{it.crate}/{it.name}" for it in all_records()}
+    missed = []
+    for what, (file, old, new, wanted) in WRONG_TURNED.items():
+        def changed_read(path, file=file, old=old, new=new):
+            return re.sub(old, new, read(path), count=1) if path == file else read(path)
+
+        found = turned_faults(changed_read(TURNED), constructors(changed_read), names)
+        missed += [] if any(wanted in it for it in found) else [f"{what}: {found}"]
+    return missed
+
+
+def self_test(_asked):
+    """Whether each fault is found that is put into a record, or into the table of what records turn."""
+    missed, planted = missed_in_record() + missed_in_table(), len(WRONG) + len(WRONG_TURNED)
+    print("\n".join([*missed, f"edits.py: {planted - len(missed)} of {planted} faults were found"]))
     return 1 if missed else 0
 
 
