@@ -2,7 +2,7 @@
 import functools
 
 import module_tokens as tokens_of
-from module_sections import DATA_COUNT, contents, differences, meaning
+from module_sections import DATA_COUNT, contents, differences, meaning, type_count
 from module_texts import FORMS, laid
 
 # What `wat2wasm` takes and the program refuses: what the program says, and what such a text has.
@@ -14,6 +14,7 @@ REFUSED = {
     "of an element segment with nothing in it, which wat2wasm takes": ("unexpected token", tokens_of.has_no_list),
     "of two data segments of one name, which wat2wasm takes": ("duplicate identifier", tokens_of.has_two_segments_of_a_name),
     "of a `table.copy` of one table, which wat2wasm takes": ("unexpected token", tokens_of.has_one_table),
+    "of a type's number with the lists of another type, which wat2wasm takes": ("mismatching type", tokens_of.type_numbers),
 }
 # The same of what wast takes too: older texts, and later proposals.
 REFUSED_ALONE = {
@@ -22,11 +23,12 @@ REFUSED_ALONE = {
     "of a memory's index in an instruction, which both judges take": ("unexpected token", tokens_of.has_memory_index),
 }
 OF_A_FORM = "of a form left out: "
+NO_TYPE = "of the number of no type, for which the judges do not look"
 
 
 def is_taken_by_both(name):
     """Whether both judges are known to take what a departure is of."""
-    return name is not None and (name in REFUSED_ALONE or name.startswith(OF_A_FORM))
+    return name is not None and (name == NO_TYPE or name in REFUSED_ALONE or name.startswith(OF_A_FORM))
 
 
 # What a program refuses that leaves out a form: what it says, and what such a text has.
@@ -56,6 +58,11 @@ def refusal(without, tokens, message):
     found = (name for name, (said, has) in {**REFUSED, **REFUSED_ALONE}.items() if message.startswith(said + "\n") and has(tokens))
     left_out = (f"{OF_A_FORM}{form}" for form in without for said, has in LEFT_OUT[form] if message.startswith(said + "\n") and has(tokens))
     return next(left_out, None) or next(found, None)
+
+
+def is_no_type(tokens, message, theirs):
+    """Whether a type use says a number that is none of a type of these bytes."""
+    return message.startswith("unknown identifier\n") and any(number >= type_count(theirs) for number in tokens_of.type_numbers(tokens))
 
 
 def is_other_count(tokens, ours, theirs):
@@ -93,7 +100,7 @@ def departures(makers, without, rng, tokens, ours, theirs):
     if ours[0] is not None and theirs[0] is not None:
         return other_bytes(makers, rng, tokens, ours[0], theirs[0])
     if ours[0] is None:
-        name = refusal(without, tokens, ours[1])
+        name = NO_TYPE if theirs[0] is not None and is_no_type(tokens, ours[1], theirs[0]) else refusal(without, tokens, ours[1])
     elif "Assertion" in theirs[1]:
         name = STOPPED
     else:

@@ -1,7 +1,7 @@
 """The sections of binary modules, for compare_modules.py: their bytes, and what these say, apart from the ways to spell it."""
 
 NAMES = dict(enumerate(["custom", "types", "imports", "functions", "tables", "memories", "globals", "exports", "start", "elements", "code", "data", "data count", "order"]))
-DATA_COUNT, ORDER = 12, 13
+TYPES, DATA_COUNT, ORDER = 1, 12, 13
 EMPTY, FUNCREF, END = 0x40, 0x70, 0x0B
 # How many numbers come after an instruction of none but unsigned ones, by its first byte, and by its number after 0xFC or 0xFD; after others none.
 COUNTS = {
@@ -181,6 +181,11 @@ def contents(data):
     """The bytes of each section, by its number; and in which order these are."""
     found = sections(data)
     return {**dict(found), ORDER: [number for number, _ in found if number != DATA_COUNT]}
+
+
+def type_count(data):
+    """How many types a module has."""
+    return Reader(contents(data).get(TYPES, b"\0")).number()
 
 
 def meaning(data):

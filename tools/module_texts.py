@@ -510,10 +510,22 @@ def laid(rng, tokens):
     return text
 
 
+def with_type(rng, tokens):
+    """The tokens with the index of a type, which a type use may bring, in a function, a block or a call."""
+    heads = [at for at, token in enumerate(tokens) if token in {"func", "block", "loop", "if", "call_indirect"}]
+    if not heads:
+        return tokens
+    at = rng.choice(heads) + 1
+    at += at < len(tokens) and tokens[at].startswith("$")
+    return tokens[:at] + ["(", "type", str(rng.randrange(6)), ")"] + tokens[at:]
+
+
 def mutated(rng, tokens):
     """The tokens with one change."""
     at, other = rng.randrange(len(tokens)), rng.randrange(len(tokens))
-    kind = rng.randrange(4)
+    kind = rng.randrange(5)
+    if kind == 4:
+        return with_type(rng, tokens)
     if kind == 0:
         return tokens[:at] + tokens[at + 1:]
     if kind == 1:

@@ -259,6 +259,12 @@ def has_reference(tokens):
     return any(REFERENCES & set(group) for group in groups_of(tokens, GROUPS))
 
 
+def type_numbers(tokens):
+    """The numbers of types that type uses say."""
+    uses = (tokens[at + 2] for at in range(len(tokens) - 3) if tokens[at : at + 2] == ["(", "type"] and tokens[at + 3] == ")")
+    return [number_of(use) for use in uses]
+
+
 def has_bare_use(tokens):
     """Whether a segment says the index of its memory or table without parentheses."""
     return any(is_index(unnamed(field), 0) for field in groups_of(tokens, SEGMENTS))
