@@ -21,6 +21,7 @@ REFUSED_ALONE = {
     "of limits with a type, which both judges take": ("unexpected token", tokens_of.has_index_type),
     "of a segment's memory or table without parentheses, which both judges take": ("unexpected token", tokens_of.has_bare_use),
     "of a memory's index in an instruction, which both judges take": ("unexpected token", tokens_of.has_memory_index),
+    "of a memory's index before a memory argument, which both judges take": ("unknown keyword", tokens_of.has_memory_index),
 }
 OF_A_FORM = "of a form left out: "
 NO_TYPE = "of the number of no type, for which the judges do not look"
@@ -55,7 +56,7 @@ OF_MODULES = {SHORT, STOPPED, COUNT, LONG}
 
 def refusal(without, tokens, message):
     """The name of the departure that explains why the program alone refuses, or None."""
-    found = (name for name, (said, has) in {**REFUSED, **REFUSED_ALONE}.items() if message.startswith(said + "\n") and has(tokens))
+    found = (name for name, (said, has) in {**REFUSED_ALONE, **REFUSED}.items() if message.startswith(said + "\n") and has(tokens))
     left_out = (f"{OF_A_FORM}{form}" for form in without for said, has in LEFT_OUT[form] if message.startswith(said + "\n") and has(tokens))
     return next(left_out, None) or next(found, None)
 
@@ -86,6 +87,8 @@ def other_bytes(makers, rng, tokens, ours, theirs):
     spelled, said = differences(contents(ours), contents(theirs)), differences(meaning(ours), meaning(theirs))
     if DATA_COUNT in spelled and is_other_count(tokens, ours, theirs):
         names, spelled, said = names + [COUNT], spelled - {DATA_COUNT}, said - {DATA_COUNT}
+    if spelled and not said and not names and tokens_of.has_brought_type(tokens):
+        names, spelled = [SHORT], set()
     if spelled and not said and is_long(makers, rng, tokens):
         names, spelled = names + [LONG], set()
     if not spelled:

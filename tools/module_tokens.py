@@ -265,6 +265,11 @@ def type_numbers(tokens):
     return [number_of(use) for use in uses]
 
 
+def has_brought_type(tokens):
+    """Whether a type use says a number that no field `type` has."""
+    return any(number >= len(types_of(tokens)) for number in type_numbers(tokens))
+
+
 def has_bare_use(tokens):
     """Whether a segment says the index of its memory or table without parentheses."""
     return any(is_index(unnamed(field), 0) for field in groups_of(tokens, SEGMENTS))

@@ -12,7 +12,7 @@ use Rattle.wat_fields.specs.declared.fields.Element.{Element}
 use Rattle.wat_fields.specs.declared.fields.Field as declared
 use Rattle.wat_fields.specs.Views.{field_of, items_of}
 use Rattle.wat_instructions.specs.Types.{FunctionType, reference_byte, same_type, same_values, type_byte}
-use Rattle.wat_fields.specs.ImplicitTypes.{has_type, type_index, types_after, types_of, used_by, with_type}
+use Rattle.wat_fields.specs.ImplicitTypes.{has_type, type_index, types_after, types_of, field_types, with_type}
 use Rattle.wat_instructions.specs.Uses.{expression_types}
 use Rattle.wat_fields.specs.Fields.{definition_type, definitions_of}
 use Rattle.wat_fields.specs.Law.{TypesAreThere}
@@ -147,10 +147,10 @@ after_more ts [] vs = refl
 after_more ts (u ∷ us) vs = after_more (with_type ts u) us vs
 
 -- one field on
-pub field_used : (fields : List declared.Field) (f d : declared.Field) (i : ℕ) (all before after : List FunctionType) → all ≡ types_after before (flat_map used_by (map field_of (drop i fields))) → i < length fields → f ≡ get_or fields i d → after ≡ types_after before (used_by (field_of f)) → all ≡ types_after after (flat_map used_by (map field_of (drop (i + 1) fields)))
+pub field_used : (fields : List declared.Field) (f d : declared.Field) (i : ℕ) (all before after : List FunctionType) → all ≡ types_after before (flat_map field_types (map field_of (drop i fields))) → i < length fields → f ≡ get_or fields i d → after ≡ types_after before (field_types (field_of f)) → all ≡ types_after after (flat_map field_types (map field_of (drop (i + 1) fields)))
 field_used fields f d i all before after h l e k =
-    let rest = flat_map used_by (map field_of (drop (i + 1) fields)) in
-    h ∙ ap (λ xs. types_after before (flat_map used_by (map field_of xs))) (drop_more fields i d l) ∙ ap (λ x. types_after before (used_by (field_of x) ++ rest)) (sym e) ∙ after_more before (used_by (field_of f)) rest ∙ ap (λ x. types_after x rest) (sym k)
+    let rest = flat_map field_types (map field_of (drop (i + 1) fields)) in
+    h ∙ ap (λ xs. types_after before (flat_map field_types (map field_of xs))) (drop_more fields i d l) ∙ ap (λ x. types_after before (field_types (field_of x) ++ rest)) (sym e) ∙ after_more before (field_types (field_of f)) rest ∙ ap (λ x. types_after x rest) (sym k)
 
 -- one element on
 pub element_used : (elements : List Element) (e d : Element) (i : ℕ) (all before after : List FunctionType) → all ≡ types_after before (flat_map expression_types (map items_of (drop i elements))) → i < length elements → e ≡ get_or elements i d → after ≡ types_after before (expression_types (items_of e)) → all ≡ types_after after (flat_map expression_types (map items_of (drop (i + 1) elements)))
@@ -160,4 +160,4 @@ element_used elements e d i all before after h l k a =
 
 pub types_are_there : TypesAreThere
 unfolding types_of
-types_are_there fs t (k, l, e) = there t (types_of fs) (each (map definition_type (definitions_of fs)) (flat_map used_by fs) t k l e)
+types_are_there fs t (k, l, e) = there t (types_of fs) (each (map definition_type (definitions_of fs)) (flat_map field_types fs) t k l e)

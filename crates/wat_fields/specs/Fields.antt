@@ -1,6 +1,6 @@
 -- WebAssembly 2.0 specification, 6.6 (text format, modules): 6.6.1 indices, 6.6.2 types, 6.6.3 type uses, 6.6.4 imports, 6.6.5 functions, 6.6.6 tables,
--- 6.6.7 memories, 6.6.8 globals, 6.6.9 exports, 6.6.10 start function, 6.6.11 element segments, 6.6.12 data segments; 6.4 (types). Over the tokens that
--- count. A rule takes tokens from a place on, and leaves the rest.
+-- 6.6.7 memories, 6.6.8 globals, 6.6.9 exports, 6.6.10 start function, 6.6.11 element segments, 6.6.12 data segments, and of 6.6.13 (modules) what
+-- `Modules` asks for; 6.4 (types). Over the tokens that count. A rule takes tokens from a place on, and leaves the rest.
 use Rattle.std.specs.Prelude.{◌≡◌, ◌&&◌, ◌^◌, ◌+◌, ◌/◌, ◌≤◌, ℕ, Bool, true, false, List, [], ◌∷◌, ◌++◌, length, map, codes, bytes_eq, nat_lt, slice_get, Option, Some, None, if◌then◌else◌}
 use Rattle.std.specs.List.{flat_map}
 use Rattle.std.specs.Str.{is_utf8}
@@ -283,7 +283,7 @@ pub data GlobalTypeIs : List Terminal → GlobalType → List Terminal → Type 
   by_mutable : {ts : List Terminal} {v w : List ℕ} {t : ValueType} → v ≡ codes "mut" → value_type w ≡ Some t → GlobalTypeIs (Open ∷ Word v ∷ Word w ∷ Close ∷ ts) (record { is_mutable = true; value = t }) ts
 
 -- 6.6.3: typeuse = param* result*; or `(` type index `)` param* result*, where the lists are those of the type, or list nothing: then the parameters have no
--- names. Where the types are not known, which is so in no module, any index is taken with any lists.
+-- names. The lists alone are of the least index of their type (ImplicitTypes). Where the types are not known, which is so in no module, any index is taken.
 pub data TypeUseIs (types : Types) : List Terminal → TypeUse → List Terminal → Type 0 where
   by_lists : {ts us vs : List Terminal} {params results : List Variable}
       → Many (Group (codes "param") true) ts params us → Many (Group (codes "result") false) us results vs → TypeUseIs types ts (type_use None params results) vs

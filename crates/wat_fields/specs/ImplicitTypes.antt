@@ -7,7 +7,7 @@ use Rattle.wat_instructions.specs.Uses.{expression_types}
 use Rattle.wat_fields.specs.Fields.{ExternType, FuncType, OfTable, OfMemory, OfGlobal, Field, Func, Table, Memory, Global, Start, TypeUse, definition_type, definitions_of, function_type, ElemMode, Passive, Active, Declarative, Elements, Target}
 use Rattle.wat_fields.specs.Fields as field
 
--- 6.6.3: the index of a type among these, which is the least
+-- 6.6.3: the least index of a type among these; how many there are, where it is not
 abbrev pub type_index : FunctionType → List FunctionType → ℕ
 type_index t [] = 0
 type_index t (u ∷ us) = if same_type u t then 0 else suc (type_index t us)
@@ -23,7 +23,7 @@ with_type ts t = if has_type t ts then ts else ts ++ t ∷ []
 abbrev pub used_type : TypeUse → FunctionType
 used_type u = function_type u.params u.results
 
--- the types after those that are brought, from those before
+-- these types, and after them each of the others that is not there yet, in their order (6.1.2, 6.6.3)
 abbrev pub types_after : List FunctionType → List FunctionType → List FunctionType
 types_after ts [] = ts
 types_after ts (u ∷ us) = types_after (with_type ts u) us
@@ -52,18 +52,18 @@ extern_types (OfMemory l) = []
 extern_types (OfGlobal t) = []
 
 -- 6.6.3: the types that a field brings, as they appear: a function's own first, and then those of its instructions; and those of each other expression
-abbrev pub used_by : Field → List FunctionType
-used_by (field.TypeField l t) = []
-used_by (field.Import m n l ns t) = extern_types t
-used_by (Func f) = use_types f.uses ++ expression_types f.body
-used_by (Table l ns t es) = elements_types es
-used_by (Memory l ns t bytes) = []
-used_by (Global l ns t is) = expression_types is
-used_by (field.Export n s i) = []
-used_by (Start i) = []
-used_by (field.Elem l m t es) = mode_types m ++ flat_map expression_types es
-used_by (field.Data l t bytes) = target_types t
+abbrev pub field_types : Field → List FunctionType
+field_types (field.TypeField l t) = []
+field_types (field.Import m n l ns t) = extern_types t
+field_types (Func f) = use_types f.uses ++ expression_types f.body
+field_types (Table l ns t es) = elements_types es
+field_types (Memory l ns t bytes) = []
+field_types (Global l ns t is) = expression_types is
+field_types (field.Export n s i) = []
+field_types (Start i) = []
+field_types (field.Elem l m t es) = mode_types m ++ flat_map expression_types es
+field_types (field.Data l t bytes) = target_types t
 
--- those that fields define, and after them those that type uses bring
+-- those that fields define, and after them those that type uses bring, in the order of the text, each once
 unfoldable pub types_of : List Field → List FunctionType
-types_of fs = types_after (map definition_type (definitions_of fs)) (flat_map used_by fs)
+types_of fs = types_after (map definition_type (definitions_of fs)) (flat_map field_types fs)

@@ -3,8 +3,8 @@ use Rattle.std.specs.Prelude.{◌≡◌, List, Some, slice_get}
 use Rattle.std.specs.List.{Contains, flat_map}
 use Rattle.wat_instructions.specs.Types.{FunctionType}
 use Rattle.wat_fields.specs.Fields.{Field}
-use Rattle.wat_fields.specs.ImplicitTypes.{type_index, types_of, used_by}
+use Rattle.wat_fields.specs.ImplicitTypes.{type_index, types_of, field_types}
 
--- 6.6.3, 5.5.6: a type that a function, an import or an instruction brings is among the types of its module, at the least index of it.
+-- 6.6.3, 5.5.6: a type that a type use without an index brings is among the types of its module, at its least index.
 abbrev pub TypesAreThere : Type 0
-TypesAreThere = (fs : List Field) (t : FunctionType) → Contains (flat_map used_by fs) t → slice_get (types_of fs) (type_index t (types_of fs)) ≡ Some t
+TypesAreThere = (fs : List Field) (t : FunctionType) → Contains (flat_map field_types fs) t → slice_get (types_of fs) (type_index t (types_of fs)) ≡ Some t

@@ -14,7 +14,7 @@ own_types fs = types_in (definitions_of fs) (types_of fs)
 abbrev pub own_context : List Field → Context
 own_context fs = context_of (own_types fs) (bindings_of fs) (elems_of fs) (datas_of fs)
 
--- 6.6.13: field*, up to these tokens, in their own context. Imports come first, and there is one start function at most.
+-- 6.6.13: field*, up to these tokens, in their own context. Identifiers are distinct, imports come first, and there is one start function at most.
 pub record FieldsAre (ts : List Terminal) (fs : List Field) (r : List Terminal) : Type 0 where
   pub spelled : Many (FieldIs (own_types fs) (own_context fs)) ts fs r
   pub distinct : all_distinct (own_types fs) (own_context fs) ≡ true

@@ -103,7 +103,7 @@ fn add_use(types: &mut IndexedTypes, uses: &TypeUse<'_>) -> Result<(), AllocErro
 
 /// Appends the types that a field brings.
 fn add_field(types: &mut IndexedTypes, field: &Field<'_>) -> Result<(), AllocError>
-    ensures { OnOk result (types.new ≡ implicit.types_after types.old (implicit.used_by (field_of field.now))) }
+    ensures { OnOk result (types.new ≡ implicit.types_after types.old (implicit.field_types (field_of field.now))) }
 {
     match field {
         Field::Func(function) => {

@@ -13,7 +13,7 @@ use Rattle.wat_fields.specs.declared.fields.Limits.{Limits}
 use Rattle.wat_fields.specs.declared.fields.IndexSpace.TheVariants as space
 use Rattle.wat_instructions.specs.Types.{FunctionType, Types}
 use Rattle.wat_fields.specs.Fields.{Many, by_none, by_more, Field, FieldIs, by_type, by_import, by_inline_import, by_func, by_table, by_memory, by_global, by_export, by_start, binding, Definition, all_distinct, context_of, types_in, binding_of, bindings_of, definition_of, definitions_of, definition_type, imports_first, space_of, starts_of, InlineExport, LimitsAre, by_min, by_min_max, elem_of, elems_of, data_of, datas_of, by_table_items, by_table_functions, by_passive_elem, by_declarative_elem, by_active_elem, by_function_elem, by_memory_data, by_passive_data, by_active_data}
-use Rattle.wat_fields.specs.ImplicitTypes.{has_type, types_after, types_of, used_by, with_type}
+use Rattle.wat_fields.specs.ImplicitTypes.{has_type, types_after, types_of, field_types, with_type}
 use Rattle.wat_fields.specs.Modules.{FieldsAre, Module, by_module, by_fields, own_context, own_types}
 use Rattle.wat_instructions.specs.Uses.{MoreTypesKeep, UnknownTypesBring, unknown}
 use Rattle.wat_fields_read.specs.Law.{ReadingIsGrammar}
@@ -333,7 +333,7 @@ by_more_types laws ss more ts fs r m = more_fields laws.more (context_by ss (def
 record Unknown (ss : List (List Terminal)) (ts : List Terminal) (fs : List Field) (r : List Terminal) : Type 0 where
   gs : List Field
   spelled : Spelled ss (unknown (defined_types ss)) ts gs r
-  brings : flat_map used_by fs ≡ flat_map used_by gs
+  brings : flat_map field_types fs ≡ flat_map field_types gs
 
 by_unknown_types : AllLaws → (ss : List (List Terminal)) (types : List FunctionType) (ts : List Terminal) (fs : List Field) (r : List Terminal) → Spelled ss (types_in (flat_map definition_at ss) types) ts fs r → Unknown ss ts fs r
 by_unknown_types laws ss types ts fs r m = let l = unknown_fields laws.unknown (context_by ss (types_in (flat_map definition_at ss) types)) ts fs r m in record { gs = l.gs; spelled = l.spelled; brings = l.brings }
@@ -351,13 +351,13 @@ types_grow ts (u ∷ us) = by (has_type u ts) (types_grow (with_type ts u) us)
 own_more : (ts : List Terminal) (fs : List Field) → Context_of ts fs → (more : List FunctionType) × (map definition_type (flat_map definition_at (starts Before [] ts)) ++ more ≡ types_of fs)
 unfolding types_of
 own_more ts fs k =
-    let g = types_grow (map definition_type (flat_map definition_at (starts Before [] ts))) (flat_map used_by fs) in
-    (g.0, g.1 ∙ ap (λ ds. types_after (map definition_type ds) (flat_map used_by fs)) k.definitions)
+    let g = types_grow (map definition_type (flat_map definition_at (starts Before [] ts))) (flat_map field_types fs) in
+    (g.0, g.1 ∙ ap (λ ds. types_after (map definition_type ds) (flat_map field_types fs)) k.definitions)
 
-types_same : (ts : List Terminal) (fs gs : List Field) → Context_of ts fs → Context_of ts gs → flat_map used_by fs ≡ flat_map used_by gs → types_of fs ≡ types_of gs
+types_same : (ts : List Terminal) (fs gs : List Field) → Context_of ts fs → Context_of ts gs → flat_map field_types fs ≡ flat_map field_types gs → types_of fs ≡ types_of gs
 unfolding types_of
 types_same ts fs gs k l e =
-    ap (λ ds. types_after (map definition_type ds) (flat_map used_by fs)) (sym k.definitions ∙ l.definitions) ∙ ap (λ us. types_after (map definition_type (definitions_of gs)) us) e
+    ap (λ ds. types_after (map definition_type ds) (flat_map field_types fs)) (sym k.definitions ∙ l.definitions) ∙ ap (λ us. types_after (map definition_type (definitions_of gs)) us) e
 
 -- By their own types.
 

@@ -11,10 +11,10 @@ use Rattle.wat_instructions.specs.Grammar.{Context, Folded, by_group, Instructio
 use Rattle.wat_instructions.specs.Names.{are_distinct}
 use Rattle.wat_instructions.specs.Terminals.{Terminal, Open, Close, Word, Label}
 use Rattle.wat_instructions.specs.Types.{FunctionType, Types}
-use Rattle.wat_instructions.specs.Uses.{AreAmong, MoreTypesKeep, UnknownTypesBring, and_more, expression_types, unknown, with_types}
+use Rattle.wat_instructions.specs.Uses.{AreAmong, MoreTypesKeep, UnknownTypesBring, and_more, expression_types, unknown, retyped}
 use Rattle.wat_fields.specs.declared.fields.IndexSpace.{IndexSpace}
 use Rattle.wat_fields.specs.Fields.{Variable, TypeUse, type_use, unnamed, name_of, ExternType, FuncType, Elements, Target, target, Many, by_none, by_more, TypeUseIs, by_lists, by_index, by_both, by_unknown, ExternIs, by_type_use, by_table_type, by_memory_type, by_global_type, ExpressionIs, by_word_expression, by_instruction, ItemIs, by_item, FunctionIs, by_function, ElementsAre, by_items, by_functions, Field, Function, Func, Import, Global, Table, Elem, ElemMode, Passive, Active, Declarative, Data, is_u32, table_of, FieldIs, by_type, by_import, by_inline_import, by_func, by_table, by_table_items, by_table_functions, by_memory, by_memory_data, by_global, by_export, by_start, by_passive_elem, by_declarative_elem, by_active_elem, by_function_elem, by_passive_data, by_active_data}
-use Rattle.wat_fields.specs.ImplicitTypes.{extern_types, use_types, used_by}
+use Rattle.wat_fields.specs.ImplicitTypes.{extern_types, use_types, field_types}
 
 never : {A : Type 0} (same : Bool) → same ≡ false → same ≡ true → A
 never true e k = cc
@@ -96,14 +96,14 @@ record LikeCode (same : Bool) (context : Context) (ls : List Label) (folded : Bo
 -- Other types in the place of those of a context.
 pub record Change (same : Bool) (context : Context) (others : Types) : Type 0 where
   uses : (ts : List Terminal) (u : TypeUse) (us : List Terminal) → TypeUseIs context.types ts u us → LikeUse same others ts u us
-  code : (ls ms labels : List Label) (folded : Bool) (ts : List Terminal) (is : List Instruction) (r : List Terminal) → (same ≡ true → ls ≡ ms) → AreAmong ls ms → Instructions (with_types context.types ls context) labels folded ts is r → LikeCode same (with_types others ms context) labels folded ts is r
+  code : (ls ms labels : List Label) (folded : Bool) (ts : List Terminal) (is : List Instruction) (r : List Terminal) → (same ≡ true → ls ≡ ms) → AreAmong ls ms → Instructions (retyped context.types ls context) labels folded ts is r → LikeCode same (retyped others ms context) labels folded ts is r
 
 pub more_types : MoreTypesKeep → (context : Context) (more : List FunctionType) → Change true context (and_more more context.types)
 more_types law context more = record {
   uses = uses_more context.types more;
   code = λ ls ms labels folded ts is r e a h. record {
     js = is;
-    spelled = subst (λ x. Instructions (with_types (and_more more context.types) x context) labels folded ts is r) (e refl) (law (with_types context.types ls context) more labels folded ts is r h);
+    spelled = subst (λ x. Instructions (retyped (and_more more context.types) x context) labels folded ts is r) (e refl) (law (retyped context.types ls context) more labels folded ts is r h);
     equal = λ k. refl;
     brings = refl;
   };
@@ -112,15 +112,15 @@ more_types law context more = record {
 pub no_types : UnknownTypesBring → (context : Context) → Change false context (unknown context.types)
 no_types law context = record {
   uses = uses_unknown context.types;
-  code = λ ls ms labels folded ts is r e a h. let f = law (with_types context.types ls context) ms labels folded ts is r a h in record { js = f.others; spelled = f.spelled; equal = λ k. never false refl k; brings = f.brings };
+  code = λ ls ms labels folded ts is r e a h. let f = law (retyped context.types ls context) ms labels folded ts is r a h in record { js = f.others; spelled = f.spelled; equal = λ k. never false refl k; brings = f.brings };
 }
 
 -- the same without local variables
-own_code : (same : Bool) (context : Context) (others : Types) → Change same context others → (labels : List Label) (folded : Bool) (ts : List Terminal) (is : List Instruction) (r : List Terminal) → Instructions context labels folded ts is r → LikeCode same (with_types others context.locals context) labels folded ts is r
+own_code : (same : Bool) (context : Context) (others : Types) → Change same context others → (labels : List Label) (folded : Bool) (ts : List Terminal) (is : List Instruction) (r : List Terminal) → Instructions context labels folded ts is r → LikeCode same (retyped others context.locals context) labels folded ts is r
 own_code same context others c labels folded ts is r h = c.code context.locals context.locals labels folded ts is r (λ k. refl) (λ x n e. (n, e)) h
 
 abbrev changed : Types → Context → Context
-changed others context = with_types others context.locals context
+changed others context = retyped others context.locals context
 
 -- What is imported.
 
@@ -188,12 +188,12 @@ record LikeFields (same : Bool) (others : Types) (context : Context) (ts : List 
   gs : List Field
   spelled : FieldIs others (changed others context) ts gs r
   equal : same ≡ true → fs ≡ gs
-  brings : flat_map used_by fs ≡ flat_map used_by gs
+  brings : flat_map field_types fs ≡ flat_map field_types gs
 
 abbrev function : Label → List (List ℕ) → List Variable → TypeUse → List Instruction → Function
 function l ns ls u is = record { name = l; exports = ns; uses = u; locals = ls; body = is }
 
-one : (f g : Field) → used_by f ≡ used_by g → flat_map used_by (f ∷ []) ≡ flat_map used_by (g ∷ [])
+one : (f g : Field) → field_types f ≡ field_types g → flat_map field_types (f ∷ []) ≡ flat_map field_types (g ∷ [])
 one f g e = ap (λ x. x ++ []) e
 
 kept : (same : Bool) (others : Types) (context : Context) (ts : List Terminal) (fs : List Field) (r : List Terminal) → FieldIs others (changed others context) ts fs r → LikeFields same others context ts fs r
@@ -262,7 +262,7 @@ pub record LikeMany (same : Bool) (others : Types) (context : Context) (ts : Lis
   pub gs : List Field
   pub spelled : Many (FieldIs others (changed others context)) ts gs r
   pub equal : same ≡ true → fs ≡ gs
-  pub brings : flat_map used_by fs ≡ flat_map used_by gs
+  pub brings : flat_map field_types fs ≡ flat_map field_types gs
 
 fields_like : (same : Bool) (context : Context) (others : Types) → Change same context others → (ts : List Terminal) (fs : List Field) (r : List Terminal) → Many (FieldIs context.types context) ts fs r → LikeMany same others context ts fs r
 fields_like same context others c _ _ r by_none = record { gs = []; spelled = by_none; equal = λ k. refl; brings = refl }
@@ -272,11 +272,11 @@ fields_like same context others c _ _ r (by_more {ts = ts} {us = us} {vs = fs} {
       gs = l.gs ++ m.gs;
       spelled = by_more l.spelled m.spelled;
       equal = λ k. ap (λ x. x ++ hs) (l.equal k) ∙ ap (λ x. l.gs ++ x) (m.equal k);
-      brings = flat_map-append used_by fs hs ∙ ap (λ x. x ++ flat_map used_by hs) l.brings ∙ ap (λ x. flat_map used_by l.gs ++ x) m.brings ∙ sym (flat_map-append used_by l.gs m.gs);
+      brings = flat_map-append field_types fs hs ∙ ap (λ x. x ++ flat_map field_types hs) l.brings ∙ ap (λ x. flat_map field_types l.gs ++ x) m.brings ∙ sym (flat_map-append field_types l.gs m.gs);
     }
 
 -- with more types
-pub more_fields : MoreTypesKeep → (context : Context) (more : List FunctionType) (ts : List Terminal) (fs : List Field) (r : List Terminal) → Many (FieldIs context.types context) ts fs r → Many (FieldIs (and_more more context.types) (with_types (and_more more context.types) context.locals context)) ts fs r
+pub more_fields : MoreTypesKeep → (context : Context) (more : List FunctionType) (ts : List Terminal) (fs : List Field) (r : List Terminal) → Many (FieldIs context.types context) ts fs r → Many (FieldIs (and_more more context.types) (retyped (and_more more context.types) context.locals context)) ts fs r
 more_fields law context more ts fs r h =
     let l = fields_like true context (and_more more context.types) (more_types law context more) ts fs r h in
     let others = and_more more context.types in subst (λ x. Many (FieldIs others (changed others context)) ts x r) (sym (l.equal refl)) l.spelled

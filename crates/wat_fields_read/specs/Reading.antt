@@ -610,12 +610,17 @@ all_by ss types ts = all (field_item types (context_by ss types)) ts
 abbrev pub fields_by : Bool → List (List Terminal) → Types → List Terminal → Result (List Field) Fault
 fields_by enclosed ss types ts = ordered ts (ended_by enclosed (all_by ss types ts))
 
--- by the types that these fields bring, which were read without knowing the types; or the fault
+-- Of two faults, the second by reading without the types: an unknown index may be that of a type that a type use brings, and no other fault is.
+abbrev pub fault_of : Fault → Fault → Fault
+fault_of (UnknownName, ts) g = g
+fault_of f g = f
+
+-- by the types that fields define and type uses bring, which these fields tell that were read without the types; or the fault
 abbrev pub fields_again : Bool → List (List Terminal) → List Terminal → Fault → Read (List Field) → Result (List Field) Fault
 fields_again enclosed ss ts f (Ok (fs, us)) = fields_by enclosed ss (all_types ss fs) ts
-fields_again enclosed ss ts f (Err g) = Err f
+fields_again enclosed ss ts f (Err g) = Err (fault_of f g)
 
--- by the types that fields define; where these do not serve, by those that type uses bring too
+-- by the types that fields define; where there is a fault by these, by those that type uses bring too
 abbrev pub fields_or : Bool → List (List Terminal) → List Terminal → Result (List Field) Fault → Result (List Field) Fault
 fields_or enclosed ss ts (Ok fs) = Ok fs
 fields_or enclosed ss ts (Err f) = fields_again enclosed ss ts f (all_by ss (unknown (defined_types ss)) ts)

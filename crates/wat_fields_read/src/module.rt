@@ -1,6 +1,7 @@
 //! A module, from tokens to its fields.
 ghost use Rattle.std.specs.Prelude.{◌≡◌, [], ◌∷◌, List, Ok, Err, Some, length, map, IfOk, MatchOption, MatchResult};
 ghost use Rattle.wat_fields.specs.Fields as grammar;
+ghost use Rattle.wat_fields.specs.ImplicitTypes as implicit;
 ghost use Rattle.wat_fields.specs.Modules.{Module};
 ghost use Rattle.wat_fields_read.specs.Reading as reading;
 ghost use Rattle.wat_fields.specs.Views.{extern_of, field_of, fields_of, text_of, use_of, variable_of};
@@ -9,6 +10,7 @@ ghost use Rattle.wat_instructions.specs.Grammar.{label_of};
 ghost use Rattle.wat_instructions.specs.Parts.{Faults, IsMemory, fault_of, scope_of};
 ghost use Rattle.wat_instructions.specs.Terminals.{Terminal, label, terminal};
 ghost use Rattle.wat_instructions.specs.Uses.{unknown};
+ghost use Rattle.wat_instructions.specs.Views.{type_of};
 
 use crate::elements::table_at;
 use crate::header::{after, closed, exports, utf8_text, variables};
@@ -25,6 +27,7 @@ use wat_instructions::machine;
 use wat_instructions::names::IndexedNames;
 use wat_instructions::pieces::{Fault, FaultKind, Instruction, Name, Piece, Refusal};
 use wat_instructions::reading::{self, Scope};
+use wat_instructions::types::FunctionType;
 
 /// What is left to read.
 #[derive(Clone, Copy)]
@@ -88,7 +91,7 @@ fn module_fields<'p, 'a>(
 }
 
 /// The same by the types that type uses bring too, where the fault is that of reading by those that
-/// fields define. The types are found by reading without them.
+/// fields define.
 fn fields_again<'p, 'a>(
     alloc: Global,
     enclosed: bool,
@@ -101,14 +104,38 @@ fn fields_again<'p, 'a>(
         (λ e. Faults (reading.fields_again enclosed ss (map terminal pieces.now) (fault_of fault.entry) (reading.all_by ss (unknown (reading.defined_types ss)) (map terminal pieces.now))) e) }
 {
     let names = without_types(alloc, names);
-    match fields(alloc, &names, pieces) {
-        Ok((fields, _)) => {
-            let types = implicit_types::types_of(alloc, &fields)?;
-            let names = with_types(types.into_types(), names);
+    match types_without(alloc, &names, pieces) {
+        Ok(types) => {
+            let names = with_types(types, names);
             fields_by(alloc, enclosed, &names, pieces)
         }
-        Err(Refusal::Text(_)) => Err(Refusal::Text(fault)),
+        Err(Refusal::Text(other)) => Err(Refusal::Text(first_fault(fault, other))),
         Err(Refusal::Memory(refused)) => Err(Refusal::Memory(refused)),
+    }
+}
+
+/// All types, from fields that are read without knowing them. The fields take memory until then.
+fn types_without<'p, 'a>(
+    alloc: Global,
+    names: &Names<'p>,
+    pieces: &'p [Piece<'a>],
+) -> Result<Vec<FunctionType>, Refusal<'p, 'a>>
+    ensures { MatchResult result
+        (λ types. (fs : List grammar.Field) × (us : List Terminal) × (reading.all (reading.field_item (types_of names.now) (context_of names.now)) (map terminal pieces.now) ≡ Ok (fs, us)) × (map type_of types.items ≡ implicit.types_of fs))
+        (λ e. Faults (reading.all (reading.field_item (types_of names.now) (context_of names.now)) (map terminal pieces.now)) e) }
+{
+    let (fields, _) = fields(alloc, names, pieces)?;
+    let types = implicit_types::types_of(alloc, &fields)?;
+    Ok(types.into_types())
+}
+
+/// Of two faults, the second by reading without the types: the one that more types do not mend.
+fn first_fault<'p, 'a>(fault: Fault<'p, 'a>, other: Fault<'p, 'a>) -> Fault<'p, 'a>
+    ensures { fault_of result ≡ reading.fault_of (fault_of fault) (fault_of other) }
+{
+    match fault.kind {
+        FaultKind::UnknownName => other,
+        _ => fault,
     }
 }
 

@@ -9,8 +9,7 @@ ghost use Rattle.wat_fields_read.specs.Views.{binding_of, context_of, depth_of, 
 ghost use Rattle.wat_instructions.specs.Grammar.{label_of};
 ghost use Rattle.wat_instructions.specs.Names.{are_distinct};
 ghost use Rattle.wat_instructions.specs.Terminals.{label, terminal};
-ghost use Rattle.wat_instructions.specs.Uses.{unknown};
-ghost use Rattle.wat_instructions.specs.Uses as uses;
+ghost use Rattle.wat_instructions.specs.Uses.{retyped, unknown};
 ghost use Rattle.wat_instructions.specs.Views.{type_of};
 
 use crate::header::{after, exports};
@@ -49,7 +48,7 @@ pub(crate) struct Names<'p> {
     pub(crate) datas: IndexedNames<'p>,
     pub(crate) type_names: IndexedNames<'p>,
     pub(crate) types: Vec<FunctionType>,
-    /// Whether these are all types. Where they are not, any index of a type is taken.
+    /// Whether types are looked up. Where not, any index of a type is taken.
     pub(crate) are_types_known: bool,
 }
 
@@ -103,7 +102,7 @@ pub(crate) fn names_of<'p, 'a>(
 /// The same without knowing the types.
 pub(crate) fn without_types<'p>(alloc: Global, names: Names<'p>) -> Names<'p>
     ensures types { types_of result ≡ unknown (types_of names.entry) }
-    ensures context { context_of result ≡ uses.with_types (unknown (types_of names.entry)) [] (context_of names.entry) }
+    ensures context { context_of result ≡ retyped (unknown (types_of names.entry)) [] (context_of names.entry) }
 {
     Names {
         types: Vec::new(alloc),
@@ -115,7 +114,7 @@ pub(crate) fn without_types<'p>(alloc: Global, names: Names<'p>) -> Names<'p>
 /// The same by these types.
 pub(crate) fn with_types<'p>(types: Vec<FunctionType>, names: Names<'p>) -> Names<'p>
     ensures types { types_of result ≡ record { names = (types_of names.entry).names; types = map type_of types.items; are_known = true } }
-    ensures context { context_of result ≡ uses.with_types (record { names = (types_of names.entry).names; types = map type_of types.items; are_known = true }) [] (context_of names.entry) }
+    ensures context { context_of result ≡ retyped (record { names = (types_of names.entry).names; types = map type_of types.items; are_known = true }) [] (context_of names.entry) }
 {
     Names {
         types,

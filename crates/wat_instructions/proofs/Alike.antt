@@ -17,7 +17,7 @@ use Rattle.wat_instructions.specs.Grammar as grammar
 use Rattle.wat_instructions.specs.Table.{Mnemonic, found, mnemonics}
 use Rattle.wat_instructions.specs.Terminals.{Terminal, Open, Close, Word, Id, Integer, Text, Float, Other, Label}
 use Rattle.wat_instructions.specs.Types.{FunctionType, Types, UnnamedUse, brought, indirect_call, same_type, unnamed_use}
-use Rattle.wat_instructions.specs.Uses.{AreAmong, Alike, MoreTypesKeep, UnknownTypesBring, and_more, argument_types, expression_types, instruction_types, unknown, with_types}
+use Rattle.wat_instructions.specs.Uses.{AreAmong, Alike, MoreTypesKeep, UnknownTypesBring, and_more, argument_types, expression_types, instruction_types, unknown, retyped}
 
 -- where the first is read, the other is read up to the same place, and the values are alike
 abbrev Follows : {A : Type 0} → (A → A → Type 0) → Result (A × List Terminal) Fault → Result (A × List Terminal) Fault → Type 0
@@ -186,7 +186,7 @@ kept : (same : Bool) (q : Result (Argument × List Terminal) Fault) → Kept sam
 kept same q = follows (LikeArgument same) (same_argument same) q
 
 immediate_alike : (same : Bool) (context : Context) (types : Types) (locals ls : List Label) → Contexts same context types locals → (k : Immediate) (ts : List Terminal)
-    → Follows (LikeArgument same) (grammar.immediate_of context ls k ts) (grammar.immediate_of (with_types types locals context) ls k ts)
+    → Follows (LikeArgument same) (grammar.immediate_of context ls k ts) (grammar.immediate_of (retyped types locals context) ls k ts)
 immediate_alike same context types locals ls c immediate.Local ts = local_alike same context.locals locals c.names ts
 immediate_alike same context types locals ls c immediate.Indirect ts = indirect_alike same context.types types c.uses (grammar.table_of context.tables ts)
 immediate_alike same context types locals ls c immediate.No ts = kept same (grammar.immediate_of context ls immediate.No ts)
@@ -222,12 +222,12 @@ with_opcode_alike same o (Ok (a, ts)) p (b, e, l) = (with o b, ap (grammar.with_
 with_opcode_alike same o (Err f) p h = tt
 
 plain_by_alike : (same : Bool) (context : Context) (types : Types) (locals ls : List Label) → Contexts same context types locals → (m : Option Mnemonic) (all ts : List Terminal)
-    → Follows (LikeInstruction same) (grammar.plain_by context ls m all ts) (grammar.plain_by (with_types types locals context) ls m all ts)
+    → Follows (LikeInstruction same) (grammar.plain_by context ls m all ts) (grammar.plain_by (retyped types locals context) ls m all ts)
 plain_by_alike same context types locals ls c None all ts = tt
-plain_by_alike same context types locals ls c (Some m) all ts = with_opcode_alike same m.opcode (grammar.immediate_of context ls m.immediate ts) (grammar.immediate_of (with_types types locals context) ls m.immediate ts) (immediate_alike same context types locals ls c m.immediate ts)
+plain_by_alike same context types locals ls c (Some m) all ts = with_opcode_alike same m.opcode (grammar.immediate_of context ls m.immediate ts) (grammar.immediate_of (retyped types locals context) ls m.immediate ts) (immediate_alike same context types locals ls c m.immediate ts)
 
 plain_alike : (same : Bool) (context : Context) (types : Types) (locals ls : List Label) → Contexts same context types locals → (w : List ℕ) (ts : List Terminal)
-    → Follows (LikeInstruction same) (plain context ls (Word w ∷ ts)) (plain (with_types types locals context) ls (Word w ∷ ts))
+    → Follows (LikeInstruction same) (plain context ls (Word w ∷ ts)) (plain (retyped types locals context) ls (Word w ∷ ts))
 unfolding plain
 plain_alike same context types locals ls c w ts = plain_by_alike same context types locals ls c (found w mnemonics) (Word w ∷ ts) ts
 
@@ -276,7 +276,7 @@ given : {A : Type 0} (Like : A → A → Type 0) (p q : Result (A × List Termin
 given {A = A} Like p q a us f e = let K : Result (A × List Terminal) Fault → Type 0 = λ x. Follows Like x q in subst K e f
 
 all_alike : (same : Bool) (context : Context) (types : Types) (locals : List Label) → Contexts same context types locals → (ls : List Label) (folded : Bool) (ts : List Terminal) (is : List Instruction) (r : List Terminal) → Instructions context ls folded ts is r
-    → Found same (with_types types locals context) ls folded ts is r
+    → Found same (retyped types locals context) ls folded ts is r
 all_alike same context types locals c _ _ _ _ r grammar.by_none = record { js = []; spelled = grammar.by_none; like = (λ k. refl, refl) }
 all_alike same context types locals c _ _ _ _ r (grammar.by_plain {ls = ls} {w = w} {ts = ts} {us = us} {i = i} {is = is} s h more) =
     let (j, e, l) = given (LikeInstruction same) _ _ i us (plain_alike same context types locals ls c w ts) h in
@@ -334,7 +334,7 @@ pub more_types_keep : MoreTypesKeep
 more_types_keep context more ls folded ts is r h =
     let c : Contexts true context (and_more more context.types) context.locals = record { uses = uses_more context.types more; names = λ x n e. (n, e, λ k. refl) } in
     let f = all_alike true context (and_more more context.types) context.locals c ls folded ts is r h in
-    subst (λ x. Instructions (with_types (and_more more context.types) context.locals context) ls folded ts x r) (sym (f.like.0 refl)) f.spelled
+    subst (λ x. Instructions (retyped (and_more more context.types) context.locals context) ls folded ts x r) (sym (f.like.0 refl)) f.spelled
 
 pub unknown_types_bring : UnknownTypesBring
 unknown_types_bring context locals ls folded ts is r among h =

@@ -1,5 +1,5 @@
 -- WebAssembly 2.0 specification, 6.5 (text format, instructions): 6.5.1 labels, 6.5.2 control instructions, 6.5.2 to 6.5.9 plain instructions,
--- 6.5.10 folded instructions. Over the tokens that count. A rule takes tokens from a place on, and leaves the rest. What is spelled is a list of instructions as
+-- 6.5.10 folded instructions; and 6.6.3, type uses. Over the tokens that count. A rule takes tokens from a place on, and leaves the rest. What is spelled is a list of instructions as
 -- the binary format has them (5.4): `end` and `else` are among them, and a folded instruction comes after its operands.
 -- Which fault a text has that the grammar does not spell is no part of the standard: a rule of our own.
 use Rattle.std.specs.Prelude.{◌≡◌, ℕ, suc, Bool, true, false, List, [], ◌∷◌, ◌++◌, codes, Option, Some, None, Result, Ok, Err, bytes_eq, nat_lt, nat_le, ◌^◌, ◌*◌, ◌-◌, ◌==◌, ◌||◌, if◌then◌else◌, slice_get, ℤ, pos, ◌-ℤ◌, zero}
@@ -330,7 +330,7 @@ abbrev pub listed_use : Result (FunctionType × List Terminal) Fault → Result 
 listed_use (Ok (t, ts)) = Ok (unnamed_use None t, ts)
 listed_use (Err f) = Err f
 
--- the type of an index with what is listed, where these tokens begin with the index
+-- the type of an index, with what is listed; all these tokens begin with the index
 abbrev pub agreed : ℕ → FunctionType → List Terminal → Result (FunctionType × List Terminal) Fault → Result (UnnamedUse × List Terminal) Fault
 agreed i t all (Ok (u, ts)) = if list_nothing u.params u.results || same_type u t then Ok (unnamed_use (Some i) t, ts) else Err (OtherType, all)
 agreed i t all (Err f) = Err f
@@ -339,7 +339,7 @@ abbrev pub indexed_by : ℕ → Option FunctionType → List Terminal → List T
 indexed_by i None all ts = Err (UnknownName, all)
 indexed_by i (Some t) all ts = agreed i t all (lists_of ts)
 
--- the same where the types are not known: an index, which counts for nothing, and the type that is listed
+-- the same where the types are not known, which is so in no module: 0 stands for the index, whatever it is, and the type is the one that is listed
 abbrev pub assumed : Result (FunctionType × List Terminal) Fault → Result (UnnamedUse × List Terminal) Fault
 assumed (Ok (t, ts)) = Ok (unnamed_use (Some 0) t, ts)
 assumed (Err f) = Err f

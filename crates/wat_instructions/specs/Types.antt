@@ -15,8 +15,8 @@ pub record FunctionType : Type 0 where
 abbrev pub from_to : List ValueType → List ValueType → FunctionType
 from_to ps rs = record { params = ps; results = rs }
 
--- 6.1.3: the types of the context, by name and by index; and whether these are known, as they are in a module. Who seeks the types that type uses bring
--- (6.6.3) reads without them: any index is then taken, and is of the type that is listed.
+-- 6.1.3: the identifiers of types (I.types), and the types (I.typedefs). `are_known` is true in each module. Where it is false no type is looked up: any
+-- index is taken, with any lists. So the code reads to find the types that type uses bring (6.6.3).
 pub record Types : Type 0 where
   pub names : List Label
   pub types : List FunctionType
@@ -30,7 +30,7 @@ pub record UnnamedUse : Type 0 where
 abbrev pub unnamed_use : Option ℕ → FunctionType → UnnamedUse
 unnamed_use i t = record { index = i; type = t }
 
--- 6.6.3: the type that a type use brings: one without an index brings its own
+-- 6.6.3: the type that a type use brings: one without an index its own, and one with an index none
 abbrev pub brought_by : Option ℕ → FunctionType → List FunctionType
 brought_by None t = t ∷ []
 brought_by (Some i) t = []

@@ -18,13 +18,14 @@ argument_types a = []
 abbrev pub instruction_types : Instruction → List FunctionType
 instruction_types i = argument_types i.argument
 
--- the types that instructions bring, in their order, which is that of the binary format: a folded instruction comes after its operands, which 6.5.10 puts first
+-- the types that instructions bring, in their order: those of operands before that of their folded instruction (6.5.10), and a block's own before those of its
+-- body. Whether a folded instruction's type use or those of its operands are expanded first, 6.1.2 and 6.6.3 leave open: a choice of our own, that of `wat2wasm`.
 abbrev pub expression_types : List Instruction → List FunctionType
 expression_types is = flat_map instruction_types is
 
--- a context with other types and other names of local variables
-abbrev pub with_types : Types → List Label → Context → Context
-with_types types locals c = record { types = types; locals = locals; funcs = c.funcs; tables = c.tables; memories = c.memories; globals = c.globals; elems = c.elems; datas = c.datas }
+-- a context with other types, and other names of local variables
+abbrev pub retyped : Types → List Label → Context → Context
+retyped types locals c = record { types = types; locals = locals; funcs = c.funcs; tables = c.tables; memories = c.memories; globals = c.globals; elems = c.elems; datas = c.datas }
 
 -- types with more after them
 abbrev pub and_more : List FunctionType → Types → Types
@@ -33,7 +34,7 @@ and_more more types = record { names = types.names; types = types.types ++ more;
 -- What instructions are by the types of a context, they are with more types.
 abbrev pub MoreTypesKeep : Type 0
 MoreTypesKeep = (context : Context) (more : List FunctionType) (ls : List Label) (folded : Bool) (ts : List Terminal) (is : List Instruction) (r : List Terminal) → Instructions context ls folded ts is r
-    → Instructions (with_types (and_more more context.types) context.locals context) ls folded ts is r
+    → Instructions (retyped (and_more more context.types) context.locals context) ls folded ts is r
 
 -- types of which only the names are known
 abbrev pub unknown : Types → Types
@@ -49,7 +50,7 @@ pub record Alike (context : Context) (ls : List Label) (folded : Bool) (ts : Lis
   pub spelled : Instructions context ls folded ts others r
   pub brings : expression_types is ≡ expression_types others
 
--- Where instructions are spelled, they are also spelled without the types, and bring the same.
+-- Where instructions are spelled, they are also spelled without the types, with other local variables that have these names, and bring the same.
 abbrev pub UnknownTypesBring : Type 0
 UnknownTypesBring = (context : Context) (locals : List Label) (ls : List Label) (folded : Bool) (ts : List Terminal) (is : List Instruction) (r : List Terminal) → AreAmong context.locals locals → Instructions context ls folded ts is r
-    → Alike (with_types (unknown context.types) locals context) ls folded ts is r
+    → Alike (retyped (unknown context.types) locals context) ls folded ts is r

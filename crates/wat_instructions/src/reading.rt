@@ -22,7 +22,7 @@ use std::alloc::Global;
 pub struct Scope<'s, 'n> {
     pub type_names: &'s IndexedNames<'n>,
     pub types: &'s [FunctionType],
-    /// Whether these are all types. Where they are not, any index of a type is taken.
+    /// Whether types are looked up. Where not, any index of a type is taken.
     pub are_types_known: bool,
     pub locals: &'s IndexedNames<'n>,
     pub funcs: &'s IndexedNames<'n>,

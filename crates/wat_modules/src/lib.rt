@@ -32,7 +32,7 @@ use wat_sections::encode;
 
 /// The bytes of the module that a text spells.
 ///
-/// It answers bytes exactly where the text is one module of the grammar (`specs/Fields` of
+/// It answers bytes exactly where the text is one module of the grammar (`specs/Modules` of
 /// `wat_fields` says which), and these are its bytes by the standard's binary format. A module of
 /// more than `u32::MAX` bytes is refused at the text's start; any other text with the lexer's error
 /// or at the token that no rule takes. It may run out of memory.

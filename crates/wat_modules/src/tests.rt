@@ -682,6 +682,16 @@ fn refused_fields(rt: HostRuntime) -> Result<(), Fail> {
             20,
         ),
         (
+            "(module (func (type 0)) (func (param i32) frob))",
+            "unknown keyword",
+            42,
+        ),
+        (
+            "(module (type $t (func (param i32))) (func (type $t) (param i64)) (func frob))",
+            "mismatching type",
+            49,
+        ),
+        (
             "(module (func (type 0)) (func (param i32)) frob)",
             "unexpected token",
             43,

@@ -2,8 +2,9 @@
 -- section, 5.5.5 import section, 5.5.6 function section, 5.5.7 table section, 5.5.8 memory section, 5.5.9 global section, 5.5.10 export section, 5.5.11 start
 -- section, 5.5.12 element section, 5.5.13 code section, 5.5.14 data section, 5.5.15 data count section, 5.5.16 modules).
 -- What the standard leaves open is fixed: integers in their shortest form, runs of local variables of one type counted together, no section without
--- content, no custom section, a data count only where it has to be, an `else` where the text has one, a data segment of the memory 0 by the flags 0, and of the
--- bytes for valid element segments those that `wat2wasm` writes (elem_bytes). The order of exports and segments is that of the text: an inline one is where its field is.
+-- content, no custom section, a data count only where it has to be, an `else` where the text has one, the types that instructions bring in the order of these
+-- (Uses), a data segment of the memory 0 by the flags 0, and of the bytes for valid element segments those that `wat2wasm` writes (elem_bytes). The order of
+-- exports and segments is that of the text: an inline one is where its field is.
 use Rattle.std.specs.Prelude.{ℕ, suc, Bool, true, false, List, [], ◌∷◌, ◌++◌, length, map, Option, Some, None, ◌==◌, if◌then◌else◌, pos, ◌&&◌, ◌||◌}
 use Rattle.std.specs.Int.{w32, w64, to_le_bytes}
 use Rattle.std.specs.List.{flat_map, list_any}
@@ -39,7 +40,7 @@ variable_byte v = type_byte v.type
 unfoldable pub type_bytes : FunctionType → List ℕ
 type_bytes t = 0x60 ∷ (text_encoding (map type_byte t.params) ++ text_encoding (map type_byte t.results))
 
--- 6.6.3: the index of the type that is used, which is among them (Law): the one that is said, or the least
+-- 6.6.3: the index of the type that is used: the one that is said, at which that type is (TypeUseIs); or the least, at which it is too (Law)
 abbrev pub use_bytes : List FunctionType → TypeUse → List ℕ
 use_bytes types u = unsigned_leb128 (index_or u.index (type_index (used_type u) types))
 

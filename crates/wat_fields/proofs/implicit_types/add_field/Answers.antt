@@ -1,6 +1,6 @@
 use Rattle.std.proofs.Common.{map, ◌∙◌, ap, sym}
 use Rattle.std.specs.List.{flat_map}
-use Rattle.wat_fields.specs.ImplicitTypes.{mode_types, types_after, used_by}
+use Rattle.wat_fields.specs.ImplicitTypes.{mode_types, types_after, field_types}
 use Rattle.wat_instructions.specs.Uses.{expression_types}
 use Rattle.wat_fields.specs.Views.{field_of, items_of, mode_of}
 use Rattle.wat_fields.proofs.FunctionTypes.{after_more}
@@ -13,4 +13,4 @@ returns-in_ok-add_elements-in-Elem c =
     c.in_ok-add_elements-in-Elem.ensures
     ∙ ap (λ x. types_after c.add_mode.new.types (flat_map expression_types (map items_of x))) c.deref-in-Elem.ensures.value
     ∙ ap (λ x. types_after x (flat_map expression_types (map items_of elem.elements.items))) c.in_ok-add_mode-in-Elem.ensures
-    ∙ sym (after_more c.args.types.now uses (flat_map expression_types (map items_of elem.elements.items))) ∙ ap (λ f. types_after c.args.types.now (used_by (field_of f))) (sym c.in-Elem.is)
+    ∙ sym (after_more c.args.types.now uses (flat_map expression_types (map items_of elem.elements.items))) ∙ ap (λ f. types_after c.args.types.now (field_types (field_of f))) (sym c.in-Elem.is)
