@@ -31,9 +31,9 @@ REFUSALS = [
         "Err(EncodeError::Memory) => Err(Error::out_of_memory())",
         "of a variant that holds nothing, and is made of a refusal",
     ),
-    ("wat_fields/src/binary.rt", "refused", "{ AllocError }", "of a variant that holds nothing, and is made of a refusal"),
-    ("wat_fields/src/binary.rt", "sum", "None => Err(AllocError)", "of a size that no number says: a request for as many bytes is refused"),
-    ("wat_fields/src/segments.rt", "len_of", "return Err(AllocError)", "of more bytes than a `Vec` has: a request for them is refused"),
+    ("wat_sections/src/encode.rt", "refused", "{ AllocError }", "of a variant that holds nothing, and is made of a refusal"),
+    ("wat_sections/src/encode.rt", "sum", "None => Err(AllocError)", "of a size that no number says: a request for as many bytes is refused"),
+    ("wat_fields/src/strings.rt", "len_of", "return Err(AllocError)", "of more bytes than a `Vec` has: a request for them is refused"),
     (
         "wat_tokens/src/main.rt",
         "not_read",

@@ -70,12 +70,14 @@ PLACES = {
     "wat_instructions": ("", "crate::instructions"),
     "wat_pieces": ("", "crate::pieces"),
     "wat_fields": ("", "crate::fields"),
+    "wat_fields_read": ("", "crate::reading"),
+    "wat_sections": ("", "crate::sections"),
     "wat_modules": ("wat_modules::proved", "crate::proved"),
     "wat_imports": ("", "crate::imports"),
 }
 # Crates that are compiled together see each other as they see themselves.
 PROGRAM = {"wat_format", "wat_lines", "wat_lists", "wat_types", "wat_commands", "wat_tokens"}
-MODULES = {"wat_instructions", "wat_pieces", "wat_fields", "wat_modules"}
+MODULES = {"wat_instructions", "wat_pieces", "wat_fields", "wat_fields_read", "wat_sections", "wat_modules"}
 TOGETHER = [{"wat_words", "wat_floats", "wat_lexer_parser"}, {"wat_rows", "wat_parser_c"}, PROGRAM, MODULES]
 # Of a function that C calls, with a space between tokens: what C passes of a slice, and the statements that its body begins with.
 PASSED = re.compile(r"(\w+) : \* (const|mut) (\w+) , \1_len : usize")

@@ -30,6 +30,8 @@ MODULES = {
     "wat_instructions": "wat-modules/src/instructions",
     "wat_pieces": "wat-modules/src/pieces",
     "wat_fields": "wat-modules/src/fields",
+    "wat_fields_read": "wat-modules/src/reading",
+    "wat_sections": "wat-modules/src/sections",
     "wat_modules": "wat-modules/src/proved",
     "wat_imports": "wat-tokens/tests/requests/imports",
 }

@@ -1,15 +1,11 @@
--- Sections, and whether bytes are UTF-8.
-use denote.Ref.{Bor}
-use Rattle.std.proofs.Common.{◌≡◌, ◌<◌, ◌≤◌, ◌+◌, ◌∙◌, ℕ, zero, suc, take, get_or, Bool, true, false, List, [], ◌∷◌, ◌++◌, length, map, Result, Ok, Err, refl, sym, ap, arith}
+-- Sections by their items.
+use Rattle.std.proofs.Common.{◌≡◌, ◌∙◌, ℕ, suc, Bool, true, false, List, [], ◌∷◌, ◌++◌, length, map, Result, Ok, Err, refl, sym, ap, arith}
 use Rattle.std.specs.Prelude.{◌==◌, OnOk, if◌then◌else◌}
 use Rattle.std.specs.List.{flat_map}
-use Rattle.std.specs.Str.{IsUtf8, is_utf8}
-use Rattle.std.proofs.lemmas.List.{length-append, length-map}
-use Rattle.std.proofs.lemmas.Str.{IsUtf8-from_is_utf8, is_utf8-from_IsUtf8}
+use Rattle.std.proofs.lemmas.List.{length-map}
 use Rattle.std.proofs.lemmas.Bool.Decides.{Decides-eqb}
 use Rattle.wat_lex.specs.binary.Leb128.{unsigned_leb128}
 use Rattle.wat_sections.specs.Binary.{list_section, section}
-use Rattle.wat_fields.specs.Views.{text_of, together}
 use Rattle.wat_sections.specs.Views.{counted_section}
 
 not_zero : (n : ℕ) (b : Bool) → (suc n == 0) ≡ b → b ≡ false

@@ -18,13 +18,13 @@ use Rattle.wat_instructions.specs.declared.pieces.ReferenceType.TheVariants as r
 use Rattle.wat_instructions.specs.declared.pieces.Opcode.{Opcode}
 use Rattle.wat_instructions.specs.declared.pieces.Opcode.TheVariants.{Byte, Prefixed}
 use Rattle.wat_instructions.specs.declared.pieces.ValueType.{ValueType}
-use Rattle.wat_instructions.specs.Types.{FunctionType, UnnamedUse, index_or, reference_byte, same_type, type_byte}
+use Rattle.wat_instructions.specs.Types.{FunctionType, UnnamedUse, index_or, reference_byte, type_byte}
 use Rattle.wat_fields.specs.declared.fields.GlobalType.{GlobalType}
 use Rattle.wat_fields.specs.declared.fields.IndexSpace.{IndexSpace}
 use Rattle.wat_fields.specs.declared.fields.IndexSpace.TheVariants as space
 use Rattle.wat_fields.specs.declared.fields.Limits.{Limits}
 use Rattle.wat_fields.specs.declared.fields.TableType.{TableType}
-use Rattle.wat_fields.specs.Fields.{ExternType, FuncType, OfTable, OfMemory, OfGlobal, Field, Func, Table, Memory, Global, Start, Function, TypeUse, Variable, bindings_of, definition_type, definitions_of, extern_space, function_type, names_in, starts_of, ElemMode, Passive, Active, Declarative, Elements, Target, target}
+use Rattle.wat_fields.specs.Fields.{ExternType, FuncType, OfTable, OfMemory, OfGlobal, Field, Func, Table, Memory, Global, Start, Function, TypeUse, Variable, bindings_of, extern_space, names_in, starts_of, ElemMode, Passive, Active, Declarative, Elements, Target, target}
 use Rattle.wat_fields.specs.Fields as field
 use Rattle.wat_fields.specs.ImplicitTypes.{type_index, types_of, used_type}
 

@@ -1,16 +1,16 @@
 //! The bytes of a module.
-ghost use Rattle.std.specs.Prelude.{◌≡◌, ◌<◌, ◌≤◌, pos, ◌+◌, ◌++◌, ◌^◌, ◌∷◌, [], ℕ, List, OnOk, IfErr, IfOk, MatchOption, length, map, None, Some};
+ghost use Rattle.std.specs.Prelude.{◌≡◌, ◌<◌, ◌≤◌, pos, ◌+◌, ◌++◌, ◌^◌, ◌∷◌, [], OnOk, IfErr, IfOk, MatchOption, length, map, None, Some};
 ghost use Rattle.std.specs.List.{flat_map, list_any};
-ghost use Rattle.wat_fields.specs.ImplicitTypes as implicit;
-ghost use Rattle.wat_sections.specs.Binary as binary;
 ghost use Rattle.wat_fields.specs.Fields as grammar;
+ghost use Rattle.wat_fields.specs.ImplicitTypes as implicit;
 ghost use Rattle.wat_fields.specs.Views.{extern_of, field_of, fields_of, function_of, text_of, use_of, variable_of, items_of, mode_of, together};
-ghost use Rattle.wat_sections.specs.Views.{AreBelow, count, counted, counted_section, counts_of, export_of, exports_by, import_of, more, run_of, data_by, elem_place_of, element_segment_of, elements_by, place_of, section_head, segment_head, segment_of};
-ghost use Rattle.wat_lex.specs.binary.Encoding.{list_encoding, text_encoding};
-ghost use Rattle.wat_lex.specs.binary.Leb128.{signed_leb128, unsigned_leb128};
 ghost use Rattle.wat_instructions.specs.Types.{index_or, type_byte};
 ghost use Rattle.wat_instructions.specs.Views.{type_of};
 ghost use Rattle.wat_instructions.specs.Views as unnamed;
+ghost use Rattle.wat_lex.specs.binary.Encoding.{list_encoding, text_encoding};
+ghost use Rattle.wat_lex.specs.binary.Leb128.{signed_leb128, unsigned_leb128};
+ghost use Rattle.wat_sections.specs.Binary as binary;
+ghost use Rattle.wat_sections.specs.Views.{AreBelow, count, counted, counted_section, counts_of, export_of, exports_by, import_of, more, run_of, data_by, elem_place_of, element_segment_of, elements_by, place_of, section_head, segment_head, segment_of};
 
 use std::alloc::{AllocError, Global};
 use wat_fields::fields::{

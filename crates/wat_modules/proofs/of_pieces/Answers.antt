@@ -1,23 +1,23 @@
-use Rattle.std.proofs.Common.{rules, ◌≡◌, ◌<◌, ◌^◌, true, length, map, IfOk, List, None, Option, string_bytes, ℕ, ◌+◌, ◌-◌, ◌*◌, ◌≤◌, ◌/◌, ◌%◌, Bool, false, nat_eq, nat_lt, [], ◌∷◌, ◌++◌, slice_index_or, slice_set, bit_and, bit_or, w8, w32, w64, Bor, MutBor}
-use Rattle.wat_fields.specs.Fields.{Field}
-use Rattle.wat_instructions.specs.Terminals.{terminal}
-use Rattle.wat_lex.specs.declared.lexer.kinds.Token.{Token}
-use Rattle.wat_lex.specs.errors.Errors.{Custom, IsUnlessMemory, report_in}
-use Rattle.wat_lexer_parser.specs.declared.parser.fault.Fault.{Fault}
-use Rattle.wat_lexer_parser.specs.laws.Blanking.{TextShows}
-use Rattle.wat_lexer_parser.specs.names.RegisteredNames.{no_names}
-use Rattle.wat_lexer_parser.specs.parser.State.{Answers}
-use Rattle.wat_modules.specs.Compiling.{Fits, Spells, compiled, compiled_tokens, fitted}
-use Rattle.wat_modules.specs.Compiling as compiling
-use Rattle.wat_pieces.specs.Pieces.{plain, terminal_of}
-use Rattle.wat_pieces.specs.Values.{AreWithin, draft_terminals}
+use Rattle.std.proofs.Common.{◌≡◌, length, map, subst, sym}
+use Rattle.std.proofs.lemmas.List.{length-map}
+use Rattle.wat_fields.specs.Views.{fields_of}
+use Rattle.wat_fields_read.specs.Reading.{whole}
 use Rattle.wat_sections.specs.Binary.{module_bytes}
+use Rattle.wat_instructions.specs.declared.pieces.Refusal.TheVariants.{Text}
+use Rattle.wat_instructions.specs.Parts.{Faults}
+use Rattle.wat_instructions.specs.Terminals.{terminal}
+use Rattle.wat_modules.proofs.Answering.{of_bytes, of_fault}
 use Rattle.wat_modules.proofs.of_pieces.Goals as goal
 
--- src/lib.rt:84:1
 pub returns-in_ok-module_bytes-in-Ok : goal.returns-in_ok-module_bytes-in-Ok
-returns-in_ok-module_bytes-in-Ok c = ?
+returns-in_ok-module_bytes-in-Ok c = λ tokens h are.
+    let bytes = c.in_ok-module_bytes-in-Ok.field-0.items in
+    let is = subst (λ fields. bytes ≡ module_bytes (fields_of fields)) c.deref.ensures.value c.in_ok-module_bytes-in-Ok.ensures in
+    of_bytes c.reading_is_grammar.ensures c.args.text.now tokens (map terminal c.args.pieces.now) (fields_of c.in-Ok.fields.items) bytes c.fitting.result c.in-Ok.ensures.read is c.fitting.ensures are
 
--- src/lib.rt:84:1
 pub returns-in-Err-Text : goal.returns-in-Err-Text
-returns-in-Err-Text c = ?
+returns-in-Err-Text c = λ tokens h are.
+    let fault = c.in-Err-Text.fault in
+    let n = length fault.left.now in
+    let refused : Faults (whole (map terminal c.args.pieces.now)) (Text fault) = rw c.in-Err-Text.field-0-is at c.in-Err-Text.ensures.refused in
+    of_fault c.args.text.now tokens (map terminal c.args.pieces.now) fault.kind (map terminal fault.left.now) n c.fault_at.result refused (sym (length-map fault.left.now terminal)) (c.fault_at.ensures tokens h) are
