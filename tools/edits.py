@@ -34,7 +34,11 @@ KIT = pathlib.Path(os.path.realpath(shutil.which("rt") or "rt")).parent.parent
 PARTS = ("src", "specs", "proofs")
 TURNED = ROOT / "edits/constructors.txt"
 # The definitions whose data types have the rules of the grammar, and the enums of immediates, each with its file.
-RULES = {"Grammar": "crates/wat_instructions/specs/Grammar.antt", "Fields": "crates/wat_fields/specs/Fields.antt"}
+RULES = {
+    "Grammar": "crates/wat_instructions/specs/Grammar.antt",
+    "Fields": "crates/wat_fields/specs/Fields.antt",
+    "Modules": "crates/wat_fields/specs/Modules.antt",
+}
 KINDS = {"Immediate": "crates/wat_instructions/src/table.rt", "Argument": "crates/wat_instructions/src/pieces.rt"}
 ORDER = re.compile(r"name file fn clause( old new)+ breaks( family)?( must-fail)?( refused-in)?( note)?")
 NAME = re.compile(r"[a-z0-9]+(-[a-z0-9]+)*")

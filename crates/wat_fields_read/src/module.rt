@@ -131,7 +131,7 @@ fn types_without<'p, 'a>(
 
 /// Of two faults, the second by reading without the types: the one that more types do not mend.
 fn first_fault<'p, 'a>(fault: Fault<'p, 'a>, other: Fault<'p, 'a>) -> Fault<'p, 'a>
-    ensures { fault_of result ≡ reading.fault_of (fault_of fault) (fault_of other) }
+    ensures { fault_of result ≡ reading.fault_of (fault_of fault.entry) (fault_of other.entry) }
 {
     match fault.kind {
         FaultKind::UnknownName => other,
