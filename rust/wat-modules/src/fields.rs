@@ -1,14 +1,10 @@
 // Made by tools/erase from crates/wat_fields/src/lib.rt; do not edit.
 //! Modules of types, imports, functions, tables, memories, globals, exports, a start function,
-//! elements and data, from the tokens that count to bytes.
+//! elements and data: their fields, and their types with those that type uses bring.
 use wat_lex::shim::prelude::*;
-mod binary;
-mod elements;
 pub mod fields;
-mod header;
-mod indexed_types;
+pub mod implicit_types;
+pub mod indexed_types;
 pub mod laws;
-mod names;
-mod segments;
-mod types;
-mod uses;
+pub mod strings;
+pub mod variables;

@@ -34,7 +34,7 @@ macro_rules! made {
     )*};
 }
 
-made! { fields instructions pieces pub proved }
+made! { fields instructions pieces pub proved reading sections }
 
 use alloc::format;
 use alloc::vec::Vec;
@@ -43,9 +43,9 @@ pub use wat_lex::{Error, Span};
 
 /// The bytes of the module that a text spells, in WebAssembly's binary format.
 ///
-/// As yet a module is `(module $name? field..)`, or `field..` alone, of types, imports, functions, tables, memories, globals, exports, a start function, elements and data, with names,
-/// inline imports, exports, elements and data. Value types are `i32`, `i64`, `f32`, `f64`, `funcref` and `externref`. Instructions, plain, in blocks
-/// and folded, are those of WebAssembly 1.0 with the sign extensions, `ref.null`, `ref.is_null`, `ref.func`, and `select` with types.
+/// A module is `(module $name? field..)`, or `field..` alone, of types, imports, functions, tables, memories, globals, exports, a start function,
+/// elements and data, with names, inline imports, exports, elements and data. Value types and instructions, plain, in blocks and folded, are those of
+/// WebAssembly 2.0.
 ///
 /// Where the text is such a module the answer is its bytes; where it is none, an error: both are proved of the text that this function is made of. A
 /// text spells one module at most. That the module is valid is not promised: no type of an operand is checked. There is no section of names.

@@ -6,16 +6,17 @@ use wat_lex::shim::prelude::*;
 pub mod laws;
 
 use wat_lex::shim::alloc::Global;
-use crate::fields::fields;
+use crate::reading::module;
 use crate::instructions::pieces::{FaultKind, Piece, Refusal};
 use wat_parser::proved::Error;
 use wat_parser::proved::lexer::Token;
 use wat_parser::proved::token::Span;
 use crate::pieces::{Draft, ShownPieces, completed, shown_pieces, shown_tokens};
+use crate::sections::encode;
 
 /// The bytes of the module that a text spells.
 ///
-/// It answers bytes exactly where the text is one module of the grammar (`specs/Fields` of
+/// It answers bytes exactly where the text is one module of the grammar (`specs/Modules` of
 /// `wat_fields` says which), and these are its bytes by the standard's binary format. A module of
 /// more than `u32::MAX` bytes is refused at the text's start; any other text with the lexer's error
 /// or at the token that no rule takes. It may run out of memory.
@@ -45,7 +46,7 @@ use crate::pieces::{Draft, ShownPieces, completed, shown_pieces, shown_tokens};
 pub fn compile(alloc: Global, text: &str) -> Result<Vec<u8>, Error> {
     wat_lex::proved::laws::one_tiling();
     wat_parser::proved::laws::all_shown();
-    crate::fields::laws::reading_is_grammar();
+    crate::reading::laws::reading_is_grammar();
     has_tokens(text);
     let ShownPieces { draft, error } = shown_pieces(alloc, text)?;
     match error {
@@ -82,9 +83,9 @@ fn of_draft(alloc: Global, text: &str, draft: Draft<'_>) -> Result<Vec<u8>, Erro
 ///     Answers true (λ bytes. bytes.items) (compiled_tokens text.now tokens) result }
 /// ```
 fn of_pieces(alloc: Global, text: &str, pieces: &[Piece<'_>]) -> Result<Vec<u8>, Error> {
-    crate::fields::laws::reading_is_grammar();
-    match fields::compile(alloc, pieces) {
-        Ok(bytes) => fitting(alloc, text, bytes),
+    crate::reading::laws::reading_is_grammar();
+    match module::module(alloc, pieces) {
+        Ok(fields) => fitting(alloc, text, encode::module_bytes(alloc, &fields)?),
         Err(Refusal::Memory(refused)) => Err(Error::from(refused)),
         Err(Refusal::Text(fault)) => Err(fault_at(alloc, text, fault.kind, fault.left.len())),
     }

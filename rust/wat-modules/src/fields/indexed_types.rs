@@ -3,7 +3,7 @@
 
 use wat_lex::shim::prelude::*;
 use crate::fields::fields::{TypeUse, Variable};
-use crate::fields::uses::function_type;
+use crate::fields::variables::function_type;
 use wat_lex::shim::alloc::{AllocError, Global};
 use wat_lex::shim::collections::BTreeMap;
 
@@ -11,7 +11,7 @@ use crate::instructions::pieces::ValueType;
 use crate::instructions::types::{FunctionType, copied, same_type, type_byte};
 
 /// Function types, in the order of their indices.
-pub(crate) struct IndexedTypes {
+pub struct IndexedTypes {
     alloc: Global,
     types: Vec<FunctionType>,
     /// The least index of each, by its key.
@@ -44,8 +44,19 @@ impl IndexedTypes {
     /// ```text
     /// ensures { map type_of result.now ≡ self.now }
     /// ```
-    pub(crate) fn as_slice(&self) -> &[FunctionType] {
+    pub fn as_slice(&self) -> &[FunctionType] {
         &self.types
+    }
+
+    /// The types.
+    ///
+    /// # Proved
+    ///
+    /// ```text
+    /// ensures { map type_of result.items ≡ self }
+    /// ```
+    pub fn into_types(self) -> Vec<FunctionType> {
+        self.types
     }
 
     /// The least index of this type.
@@ -68,7 +79,7 @@ impl IndexedTypes {
     /// # Proved
     ///
     /// ```text
-    /// ensures { IfOk result (λ i. i ≡ found_type (binary.used_type (use_of uses.now)) self.now) }
+    /// ensures { IfOk result (λ i. i ≡ found_type (implicit.used_type (use_of uses.now)) self.now) }
     /// ```
     fn used_position(&self, uses: &TypeUse<'_>) -> Result<Option<usize>, AllocError> {
         if self.types.len() <= FEW {
@@ -83,10 +94,10 @@ impl IndexedTypes {
     /// # Proved
     ///
     /// ```text
-    /// ensures is { IfOk result (λ i. i ≡ binary.type_index (type_of of.now) self.now) }
+    /// ensures is { IfOk result (λ i. i ≡ implicit.type_index (type_of of.now) self.now) }
     /// ensures small { IfOk result (λ i. i < 2 ^ 63) }
     /// ```
-    pub(crate) fn index(&self, of: &FunctionType) -> Result<usize, AllocError> {
+    pub fn index(&self, of: &FunctionType) -> Result<usize, AllocError> {
         let position = self.position(of)?;
         Ok(position.unwrap_or(self.types.len()))
     }
@@ -96,9 +107,9 @@ impl IndexedTypes {
     /// # Proved
     ///
     /// ```text
-    /// ensures { IfOk result (λ i. i ≡ binary.type_index (binary.used_type (use_of uses.now)) self.now) }
+    /// ensures { IfOk result (λ i. i ≡ implicit.type_index (implicit.used_type (use_of uses.now)) self.now) }
     /// ```
-    pub(crate) fn used_index(&self, uses: &TypeUse<'_>) -> Result<usize, AllocError> {
+    pub fn used_index(&self, uses: &TypeUse<'_>) -> Result<usize, AllocError> {
         let position = self.used_position(uses)?;
         Ok(position.unwrap_or(self.types.len()))
     }
@@ -127,7 +138,7 @@ impl IndexedTypes {
     /// # Proved
     ///
     /// ```text
-    /// ensures { OnOk result (self.new ≡ binary.with_type self.old (type_of of.now)) }
+    /// ensures { OnOk result (self.new ≡ implicit.with_type self.old (type_of of.now)) }
     /// ```
     pub(crate) fn add(&mut self, of: &FunctionType) -> Result<(), AllocError> {
         if self.position(of)?.is_none() {
@@ -141,7 +152,7 @@ impl IndexedTypes {
     /// # Proved
     ///
     /// ```text
-    /// ensures { OnOk result (self.new ≡ binary.with_type self.old (binary.used_type (use_of uses.now))) }
+    /// ensures { OnOk result (self.new ≡ implicit.with_type self.old (implicit.used_type (use_of uses.now))) }
     /// ```
     pub(crate) fn add_used(&mut self, uses: &TypeUse<'_>) -> Result<(), AllocError> {
         if self.used_position(uses)?.is_none() {
@@ -172,7 +183,7 @@ fn first(types: &[FunctionType], of: &FunctionType) -> Option<usize> {
 /// # Proved
 ///
 /// ```text
-/// ensures { result ≡ found_type (binary.used_type (use_of uses.now)) (map type_of types.now) }
+/// ensures { result ≡ found_type (implicit.used_type (use_of uses.now)) (map type_of types.now) }
 /// ```
 fn first_used(types: &[FunctionType], uses: &TypeUse<'_>) -> Option<usize> {
     for (i, known) in types.iter().enumerate() {
@@ -188,7 +199,7 @@ fn first_used(types: &[FunctionType], uses: &TypeUse<'_>) -> Option<usize> {
 /// # Proved
 ///
 /// ```text
-/// ensures { result ≡ same_type (type_of of.now) (binary.used_type (use_of uses.now)) }
+/// ensures { result ≡ same_type (type_of of.now) (implicit.used_type (use_of uses.now)) }
 /// ```
 fn is_used(of: &FunctionType, uses: &TypeUse<'_>) -> bool {
     have_types(&of.params, &uses.params) && have_types(&of.results, &uses.results)
@@ -236,7 +247,7 @@ fn type_key(alloc: Global, of: &FunctionType) -> Result<Vec<u8>, AllocError> {
 /// # Proved
 ///
 /// ```text
-/// ensures { IfOk result (λ key. key.items ≡ type_key (binary.used_type (use_of uses.now))) }
+/// ensures { IfOk result (λ key. key.items ≡ type_key (implicit.used_type (use_of uses.now))) }
 /// ```
 fn use_key(alloc: Global, uses: &TypeUse<'_>) -> Result<Vec<u8>, AllocError> {
     let mut key = Vec::new(alloc);

@@ -2,21 +2,8 @@
 //! What holds of the definitions.
 
 use wat_lex::shim::prelude::*;
-/// What is read is what is spelled. The function does nothing: its contract is the law.
-///
-/// # Proved
-///
-/// ```text
-/// ensures { ReadingIsGrammar }
-/// ```
-pub fn reading_is_grammar() {
-    crate::instructions::laws::machine_is_grammar();
-    crate::instructions::laws::folded_is_grammar();
-    crate::instructions::laws::instructions_are_balanced();
-}
-
-/// Each function's type is among the types of its module, at its index. The function does nothing:
-/// its contract is the law.
+/// Each type that a type use without an index brings is among the types, at its least index. The
+/// function does nothing: its contract is the law.
 ///
 /// # Proved
 ///

@@ -29,3 +29,14 @@ pub fn folded_is_grammar() {}
 /// ensures taken { InstructionsTakeTokens }
 /// ```
 pub fn instructions_are_balanced() {}
+
+/// Instructions are the same by more types. Without the types they bring the same. The function does
+/// nothing.
+///
+/// # Proved
+///
+/// ```text
+/// ensures more { MoreTypesKeep }
+/// ensures unknown { UnknownTypesBring }
+/// ```
+pub fn types_are_looked_up() {}

@@ -18,6 +18,8 @@ use wat_lex::shim::alloc::Global;
 pub struct Scope<'s, 'n> {
     pub type_names: &'s IndexedNames<'n>,
     pub types: &'s [FunctionType],
+    /// Whether types are looked up. Where not, any index of a type is taken.
+    pub are_types_known: bool,
     pub locals: &'s IndexedNames<'n>,
     pub funcs: &'s IndexedNames<'n>,
     pub tables: &'s IndexedNames<'n>,

@@ -238,7 +238,7 @@ fn indexed_use<'p, 'a>(
     pieces: &'p [Piece<'a>],
 ) -> Result<(UnnamedUse, &'p [Piece<'a>]), Refusal<'p, 'a>> {
     let (index, rest) = index(scope.type_names, pieces)?;
-    closed_use(alloc, scope.types, index, pieces, rest)
+    closed_use(alloc, scope, index, pieces, rest)
 }
 
 /// A type use after the index of its type, with which all these tokens begin.
@@ -247,21 +247,46 @@ fn indexed_use<'p, 'a>(
 ///
 /// ```text
 /// ensures is { MatchResult result
-///     (λ r. grammar.closed_index (map type_of types.now) index (map terminal all.now) (map terminal pieces.now) ≡ Ok (use_of r.0, map terminal r.1.now))
-///     (λ e. Faults (grammar.closed_index (map type_of types.now) index (map terminal all.now) (map terminal pieces.now)) e) }
+///     (λ r. grammar.closed_index (scope_of scope.now).types index (map terminal all.now) (map terminal pieces.now) ≡ Ok (use_of r.0, map terminal r.1.now))
+///     (λ e. Faults (grammar.closed_index (scope_of scope.now).types index (map terminal all.now) (map terminal pieces.now)) e) }
 /// ensures small { IfOk result (λ r. spec.index_or r.0.index 0 < 2 ^ 63) }
 /// ```
 fn closed_use<'p, 'a>(
     alloc: Global,
-    types: &[FunctionType],
+    scope: &Scope<'_, '_>,
     index: usize,
     all: &'p [Piece<'a>],
     pieces: &'p [Piece<'a>],
 ) -> Result<(UnnamedUse, &'p [Piece<'a>]), Refusal<'p, 'a>> {
     match pieces {
-        [Piece::Close, rest @ ..] => typed_use(alloc, types, index, all, rest),
+        [Piece::Close, rest @ ..] => {
+            if scope.are_types_known {
+                typed_use(alloc, scope.types, index, all, rest)
+            } else {
+                assumed_use(alloc, rest)
+            }
+        }
         _ => Err(Refusal::Text(unexpected(pieces))),
     }
+}
+
+/// A type use after an index that counts for nothing: it is of the type that is listed.
+///
+/// # Proved
+///
+/// ```text
+/// ensures is { MatchResult result
+///     (λ r. grammar.assumed (grammar.lists_of (map terminal pieces.now)) ≡ Ok (use_of r.0, map terminal r.1.now))
+///     (λ e. Faults (grammar.assumed (grammar.lists_of (map terminal pieces.now))) e) }
+/// ensures small { IfOk result (λ r. spec.index_or r.0.index 0 < 2 ^ 63) }
+/// ```
+fn assumed_use<'p, 'a>(
+    alloc: Global,
+    pieces: &'p [Piece<'a>],
+) -> Result<(UnnamedUse, &'p [Piece<'a>]), Refusal<'p, 'a>> {
+    let (of, rest) = lists(alloc, pieces)?;
+    let index = Some(0);
+    Ok((UnnamedUse { index, of }, rest))
 }
 
 /// The type of an index.

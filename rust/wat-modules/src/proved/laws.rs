@@ -12,5 +12,5 @@ use wat_lex::shim::prelude::*;
 pub fn spelling_is_one() {
     wat_lex::proved::laws::one_tiling();
     wat_parser::proved::laws::all_shown();
-    crate::fields::laws::reading_is_grammar();
+    crate::reading::laws::reading_is_grammar();
 }

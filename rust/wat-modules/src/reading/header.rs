@@ -1,10 +1,11 @@
-// Made by tools/erase from crates/wat_fields/src/header.rt; do not edit.
+// Made by tools/erase from crates/wat_fields_read/src/header.rt; do not edit.
 //! Inline exports, and groups of parameters, results and local variables.
 
 use wat_lex::shim::prelude::*;
-use crate::fields::fields::{Left, Variable};
+use crate::reading::module::Left;
 use wat_lex::shim::alloc::{AllocError, Global};
 use core::str;
+use crate::fields::fields::Variable;
 use crate::instructions::pieces::{Fault, FaultKind, Name, Piece, Refusal, ValueType};
 use crate::instructions::reading::value_type;
 

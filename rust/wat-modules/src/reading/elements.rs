@@ -1,13 +1,14 @@
-// Made by tools/erase from crates/wat_fields/src/elements.rt; do not edit.
+// Made by tools/erase from crates/wat_fields_read/src/elements.rt; do not edit.
 //! Element segments, and tables that bring their elements.
 
 use wat_lex::shim::prelude::*;
-use crate::fields::fields::{Elem, ElemMode, Element, Field, Left, Limits, Table, TableType, Target};
-use crate::fields::header::{after, closed};
-use crate::fields::names::Names;
-use crate::fields::segments::{expression, used};
-use crate::fields::types::{table_type, twice_closed};
+use crate::reading::header::{after, closed};
+use crate::reading::module::Left;
+use crate::reading::names::Names;
+use crate::reading::segments::{expression, used};
+use crate::reading::types::{table_type, twice_closed};
 use wat_lex::shim::alloc::Global;
+use crate::fields::fields::{Elem, ElemMode, Element, Field, Limits, Table, TableType, Target};
 use crate::instructions::pieces::{Fault, FaultKind, Name, Piece, ReferenceType, Refusal};
 use crate::instructions::reading;
 

@@ -1,22 +1,21 @@
-// Made by tools/erase from crates/wat_fields/src/segments.rt; do not edit.
+// Made by tools/erase from crates/wat_fields_read/src/segments.rt; do not edit.
 //! Data segments, and what segments use.
 
 use wat_lex::shim::prelude::*;
-use crate::fields::elements::elem_at;
-use crate::fields::fields::{Data, Field, Left, Limits, Memory, Target, scope};
-use crate::fields::header::{after, closed};
-use crate::fields::names::Names;
-use crate::fields::types::{limits, twice_closed};
+use crate::reading::elements::elem_at;
+use crate::reading::header::{after, closed};
+use crate::reading::module::{Left, scope};
+use crate::reading::names::Names;
+use crate::reading::types::{limits, twice_closed};
 use wat_lex::shim::alloc::{AllocError, Global};
+use crate::fields::fields::{Data, Field, Limits, Memory, Target};
+use crate::fields::strings::len_of;
 use crate::instructions::names::IndexedNames;
 use crate::instructions::pieces::{Fault, FaultKind, Instruction, Name, Piece, Refusal};
 use crate::instructions::{machine, reading};
 
 /// The bytes of a page of a memory.
 const PAGE: usize = 0x1_0000;
-
-/// No slice has more bytes.
-const MOST: usize = isize::MAX as usize;
 
 /// Strings.
 ///
@@ -172,27 +171,6 @@ fn memory_of<'p, 'a>(
         }),
         rest,
     ))
-}
-
-/// How many bytes these strings have together. Out of memory where they are more than a `Vec` can
-/// have.
-///
-/// # Proved
-///
-/// ```text
-/// ensures is { IfOk result (λ len. len ≡ length (together strings.now)) }
-/// ensures small { IfOk result (λ len. len < 2 ^ 63) }
-/// ensures refused { IfErr result (λ e. 2 ^ 63 ≤ length (together strings.now)) }
-/// ```
-pub(crate) fn len_of(strings: &[&[u8]]) -> Result<usize, AllocError> {
-    let mut len = 0;
-    for string in strings {
-        len += string.len();
-        if len > MOST {
-            return Err(AllocError);
-        }
-    }
-    Ok(len)
 }
 
 /// How many pages hold the bytes of these strings.

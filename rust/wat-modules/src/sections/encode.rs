@@ -1,16 +1,17 @@
-// Made by tools/erase from crates/wat_fields/src/binary.rt; do not edit.
+// Made by tools/erase from crates/wat_sections/src/encode.rt; do not edit.
 //! The bytes of a module.
 
 use wat_lex::shim::prelude::*;
+use wat_lex::shim::alloc::{AllocError, Global};
 use crate::fields::fields::{
     ElemMode, Element, Export, ExternType, Field, Function, GlobalType, Import, IndexSpace, Limits,
     TableType, Target, TypeUse, Variable,
 };
+use crate::fields::implicit_types::types_of;
 use crate::fields::indexed_types::IndexedTypes;
-use crate::fields::segments::len_of;
-use wat_lex::shim::alloc::{AllocError, Global};
+use crate::fields::strings::len_of;
 use crate::instructions::pieces::{Argument, Instruction, Opcode, ReferenceType, ValueType};
-use crate::instructions::types::{FunctionType, UnnamedUse, copied, reference_byte, type_byte};
+use crate::instructions::types::{FunctionType, UnnamedUse, reference_byte, type_byte};
 use wat_lex::proved::encode::{Encode, EncodeError};
 
 /// The magic number and the version.
@@ -261,146 +262,6 @@ fn variable_bytes(alloc: Global, variables: &[Variable<'_>]) -> Result<Vec<u8>, 
     Ok(bytes)
 }
 
-/// The types that fields define.
-///
-/// # Proved
-///
-/// ```text
-/// ensures { IfOk result (λ types. types ≡ map grammar.definition_type (grammar.definitions_of (fields_of fields.now))) }
-/// ```
-fn defined_types(alloc: Global, fields: &[Field<'_>]) -> Result<IndexedTypes, AllocError> {
-    let mut types = IndexedTypes::none(alloc);
-    for field in fields {
-        if let Field::Type(definition) = field {
-            types.push(copied(alloc, &definition.of)?)?;
-        }
-    }
-    Ok(types)
-}
-
-/// The type use of an instruction, where it has one.
-///
-/// # Proved
-///
-/// ```text
-/// ensures { MatchOption result (binary.instruction_types instruction.now ≡ []) (λ u. binary.instruction_types instruction.now ≡ type_of u.now.of ∷ []) }
-/// ```
-fn instruction_use(instruction: &Instruction) -> Option<&UnnamedUse> {
-    match &instruction.argument {
-        Argument::Indirect(call) => Some(call.uses()),
-        Argument::BlockUse(uses) => Some(uses.uses()),
-        _ => None,
-    }
-}
-
-/// Appends the types that instructions use.
-///
-/// # Proved
-///
-/// ```text
-/// ensures { OnOk result (types.new ≡ binary.types_after types.old (flat_map binary.instruction_types all.now)) }
-/// ```
-fn add_instructions(types: &mut IndexedTypes, all: &[Instruction]) -> Result<(), AllocError> {
-    for instruction in all {
-        if let Some(uses) = instruction_use(instruction) {
-            types.add(&uses.of)?;
-        }
-    }
-    Ok(())
-}
-
-/// Appends the types that elements use.
-///
-/// # Proved
-///
-/// ```text
-/// ensures { OnOk result (types.new ≡ binary.types_after types.old (flat_map binary.expression_types (map items_of elements.now))) }
-/// ```
-fn add_elements(types: &mut IndexedTypes, elements: &[Element]) -> Result<(), AllocError> {
-    for element in elements {
-        add_element(types, element)?;
-    }
-    Ok(())
-}
-
-/// Appends the types that an element uses.
-///
-/// # Proved
-///
-/// ```text
-/// ensures { OnOk result (types.new ≡ binary.types_after types.old (binary.expression_types (items_of element.now))) }
-/// ```
-fn add_element(types: &mut IndexedTypes, element: &Element) -> Result<(), AllocError> {
-    match element {
-        Element::Function(_) => Ok(()),
-        Element::Expression(instructions) => add_instructions(types, instructions),
-    }
-}
-
-/// Appends the types that the offset of an active element segment uses.
-///
-/// # Proved
-///
-/// ```text
-/// ensures { OnOk result (types.new ≡ binary.types_after types.old (binary.mode_types (mode_of mode.now))) }
-/// ```
-fn add_mode(types: &mut IndexedTypes, mode: &ElemMode) -> Result<(), AllocError> {
-    match mode {
-        ElemMode::Active(target) => add_instructions(types, &target.offset),
-        ElemMode::Passive | ElemMode::Declarative => Ok(()),
-    }
-}
-
-/// Appends the types that a field uses.
-///
-/// # Proved
-///
-/// ```text
-/// ensures { OnOk result (types.new ≡ binary.types_after types.old (binary.used_by (field_of field.now))) }
-/// ```
-fn add_field(types: &mut IndexedTypes, field: &Field<'_>) -> Result<(), AllocError> {
-    match field {
-        Field::Func(function) => {
-            types.add_used(&function.uses)?;
-            add_instructions(types, &function.body)
-        }
-        Field::Import(import) => match &import.what {
-            ExternType::Func(uses) => types.add_used(uses),
-            ExternType::Table(_) | ExternType::Memory(_) | ExternType::Global(_) => Ok(()),
-        },
-        Field::Table(table) => match &table.elements {
-            Some(elements) => add_elements(types, elements),
-            None => Ok(()),
-        },
-        Field::Global(global) => add_instructions(types, &global.first),
-        Field::Elem(elem) => {
-            add_mode(types, &elem.mode)?;
-            add_elements(types, &elem.elements)?;
-            Ok(())
-        }
-        Field::Data(data) => match &data.target {
-            Some(target) => add_instructions(types, &target.offset),
-            None => Ok(()),
-        },
-        Field::Type(_) | Field::Memory(_) | Field::Export(_) | Field::Start(_) => Ok(()),
-    }
-}
-
-/// The types that fields define, and after them those that type uses bring, each once.
-///
-/// # Proved
-///
-/// ```text
-/// ensures { IfOk result (λ types. types ≡ binary.types_of (fields_of fields.now)) }
-/// ```
-fn types_of(alloc: Global, fields: &[Field<'_>]) -> Result<IndexedTypes, AllocError> {
-    let mut types = defined_types(alloc, fields)?;
-    for field in fields {
-        add_field(&mut types, field)?;
-    }
-    Ok(types)
-}
-
 /// The index of the type that an instruction uses.
 ///
 /// # Proved
@@ -421,7 +282,7 @@ fn unnamed_index(types: &IndexedTypes, uses: &UnnamedUse) -> Result<usize, Alloc
 /// # Proved
 ///
 /// ```text
-/// ensures { IfOk result (λ n. n ≡ index_or (use_of uses.now).index (binary.type_index (binary.used_type (use_of uses.now)) types.now)) }
+/// ensures { IfOk result (λ n. n ≡ index_or (use_of uses.now).index (implicit.type_index (implicit.used_type (use_of uses.now)) types.now)) }
 /// ```
 fn use_index(types: &IndexedTypes, uses: &TypeUse<'_>) -> Result<usize, AllocError> {
     if let Some(index) = uses.index {
@@ -1835,7 +1696,7 @@ fn put_data_count(
 /// ```text
 /// ensures { IfOk result (λ bytes. bytes.items ≡ binary.module_bytes (fields_of fields.now)) }
 /// ```
-pub(crate) fn module_bytes(alloc: Global, fields: &[Field<'_>]) -> Result<Vec<u8>, AllocError> {
+pub fn module_bytes(alloc: Global, fields: &[Field<'_>]) -> Result<Vec<u8>, AllocError> {
     let mut bytes = Vec::new(alloc);
     bytes.extend_from_slice(&HEADER)?;
     let types = types_of(alloc, fields)?;

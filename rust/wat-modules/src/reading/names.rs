@@ -1,12 +1,13 @@
-// Made by tools/erase from crates/wat_fields/src/names.rt; do not edit.
+// Made by tools/erase from crates/wat_fields_read/src/names.rt; do not edit.
 //! The items that fields define, before the fields are read; and whether names are distinct.
 
 use wat_lex::shim::prelude::*;
-use crate::fields::fields::{Definition, IndexSpace, Left, Variable};
-use crate::fields::header::{after, exports};
-use crate::fields::types::space_of;
-use crate::fields::uses::type_at;
+use crate::reading::header::{after, exports};
+use crate::reading::module::Left;
+use crate::reading::types::space_of;
+use crate::reading::uses::type_at;
 use wat_lex::shim::alloc::{AllocError, Global};
+use crate::fields::fields::{Definition, IndexSpace, Variable};
 use crate::instructions::names::IndexedNames;
 use crate::instructions::pieces::{Name, Piece, Refusal};
 use crate::instructions::reading::label;
@@ -36,6 +37,8 @@ pub(crate) struct Names<'p> {
     pub(crate) datas: IndexedNames<'p>,
     pub(crate) type_names: IndexedNames<'p>,
     pub(crate) types: Vec<FunctionType>,
+    /// Whether types are looked up. Where not, any index of a type is taken.
+    pub(crate) are_types_known: bool,
 }
 
 /// What the fields bring into the context, by the parentheses alone; None where two names in an
@@ -44,9 +47,9 @@ pub(crate) struct Names<'p> {
 /// # Proved
 ///
 /// ```text
-/// ensures context { IfOk result (λ found. IfSome found (λ names. context_of names ≡ grammar.context_of (grammar.types_in (flat_map reading.definition_at (reading.starts reading.Before [] (map terminal pieces.now)))) (flat_map reading.binding_at (reading.starts reading.Before [] (map terminal pieces.now))) (flat_map reading.elem_name_at (reading.starts reading.Before [] (map terminal pieces.now))) (flat_map reading.data_name_at (reading.starts reading.Before [] (map terminal pieces.now))))) }
-/// ensures types { IfOk result (λ found. IfSome found (λ names. types_of names ≡ grammar.types_in (flat_map reading.definition_at (reading.starts reading.Before [] (map terminal pieces.now))))) }
-/// ensures distinct { IfOk result (λ found. is_some found ≡ all_distinct (grammar.types_in (flat_map reading.definition_at (reading.starts reading.Before [] (map terminal pieces.now)))) (grammar.context_of (grammar.types_in (flat_map reading.definition_at (reading.starts reading.Before [] (map terminal pieces.now)))) (flat_map reading.binding_at (reading.starts reading.Before [] (map terminal pieces.now))) (flat_map reading.elem_name_at (reading.starts reading.Before [] (map terminal pieces.now))) (flat_map reading.data_name_at (reading.starts reading.Before [] (map terminal pieces.now))))) }
+/// ensures context { IfOk result (λ found. IfSome found (λ names. context_of names ≡ reading.context_by (reading.starts reading.Before [] (map terminal pieces.now)) (reading.defined_types (reading.starts reading.Before [] (map terminal pieces.now))))) }
+/// ensures types { IfOk result (λ found. IfSome found (λ names. types_of names ≡ reading.defined_types (reading.starts reading.Before [] (map terminal pieces.now)))) }
+/// ensures distinct { IfOk result (λ found. is_some found ≡ all_distinct (reading.defined_types (reading.starts reading.Before [] (map terminal pieces.now))) (reading.context_by (reading.starts reading.Before [] (map terminal pieces.now)) (reading.defined_types (reading.starts reading.Before [] (map terminal pieces.now))))) }
 /// ```
 pub(crate) fn names_of<'p, 'a>(
     alloc: Global,
@@ -85,7 +88,40 @@ pub(crate) fn names_of<'p, 'a>(
         datas,
         type_names,
         types,
+        are_types_known: true,
     }))
+}
+
+/// The same without knowing the types.
+///
+/// # Proved
+///
+/// ```text
+/// ensures types { types_of result ≡ unknown (types_of names.entry) }
+/// ensures context { context_of result ≡ retyped (unknown (types_of names.entry)) [] (context_of names.entry) }
+/// ```
+pub(crate) fn without_types<'p>(alloc: Global, names: Names<'p>) -> Names<'p> {
+    Names {
+        types: Vec::new(alloc),
+        are_types_known: false,
+        ..names
+    }
+}
+
+/// The same by these types.
+///
+/// # Proved
+///
+/// ```text
+/// ensures types { types_of result ≡ record { names = (types_of names.entry).names; types = map type_of types.items; are_known = true } }
+/// ensures context { context_of result ≡ retyped (record { names = (types_of names.entry).names; types = map type_of types.items; are_known = true }) [] (context_of names.entry) }
+/// ```
+pub(crate) fn with_types<'p>(types: Vec<FunctionType>, names: Names<'p>) -> Names<'p> {
+    Names {
+        types,
+        are_types_known: true,
+        ..names
+    }
 }
 
 /// Whether two index spaces are the same.

@@ -1,47 +1,16 @@
-// Made by tools/erase from crates/wat_fields/src/uses.rt; do not edit.
+// Made by tools/erase from crates/wat_fields_read/src/uses.rt; do not edit.
 //! Function types, and their uses.
 
 use wat_lex::shim::prelude::*;
-use crate::fields::fields::{Definition, TypeUse, Variable};
-use crate::fields::header::{after, closed, unnamed, variables};
-use crate::fields::names::Names;
-use crate::fields::types::twice_closed;
+use crate::reading::header::{after, closed, unnamed, variables};
+use crate::reading::names::Names;
+use crate::reading::types::twice_closed;
 use wat_lex::shim::alloc::{AllocError, Global};
-use crate::instructions::pieces::{Fault, FaultKind, Name, Piece, Refusal, ValueType};
+use crate::fields::fields::{Definition, TypeUse, Variable};
+use crate::fields::variables::function_type;
+use crate::instructions::pieces::{Fault, FaultKind, Name, Piece, Refusal};
 use crate::instructions::reading;
 use crate::instructions::types::{FunctionType, same_type};
-
-/// The types of variables.
-///
-/// # Proved
-///
-/// ```text
-/// ensures { IfOk result (λ types. types.items ≡ map grammar.type_of (map variable_of variables.now)) }
-/// ```
-fn value_types(alloc: Global, variables: &[Variable<'_>]) -> Result<Vec<ValueType>, AllocError> {
-    let mut types = Vec::new(alloc);
-    for variable in variables {
-        types.push(variable.of)?;
-    }
-    Ok(types)
-}
-
-/// The type of parameters and results.
-///
-/// # Proved
-///
-/// ```text
-/// ensures { IfOk result (λ of. type_of of ≡ grammar.function_type (map variable_of params.now) (map variable_of results.now)) }
-/// ```
-pub(crate) fn function_type(
-    alloc: Global,
-    params: &[Variable<'_>],
-    results: &[Variable<'_>],
-) -> Result<FunctionType, AllocError> {
-    let params = value_types(alloc, params)?;
-    let results = value_types(alloc, results)?;
-    Ok(FunctionType { params, results })
-}
 
 /// A type use.
 ///
@@ -105,13 +74,63 @@ fn indexed_use<'p, 'a>(
 ) -> Result<(TypeUse<'p>, &'p [Piece<'a>]), Refusal<'p, 'a>> {
     let (index, rest) = reading::index(&names.type_names, pieces)?;
     let rest = closed(rest)?;
+    if names.are_types_known {
+        known_use(alloc, names, index, pieces, rest)
+    } else {
+        assumed_use(alloc, index, rest)
+    }
+}
+
+/// A type use after the index of its type, with which all these tokens begin.
+///
+/// # Proved
+///
+/// ```text
+/// ensures { MatchResult result
+/// (λ r. reading.lists_after index (slice_get (types_of names.now).types index) (map terminal all.now) (map terminal pieces.now) ≡ Ok (use_of r.0, map terminal r.1.now))
+/// (λ e. Faults (reading.lists_after index (slice_get (types_of names.now).types index) (map terminal all.now) (map terminal pieces.now)) e) }
+/// ```
+fn known_use<'p, 'a>(
+    alloc: Global,
+    names: &Names<'p>,
+    index: usize,
+    all: &'p [Piece<'a>],
+    pieces: &'p [Piece<'a>],
+) -> Result<(TypeUse<'p>, &'p [Piece<'a>]), Refusal<'p, 'a>> {
     match type_at_index(&names.types, index) {
-        Some(of) => lists(alloc, index, of, pieces, rest),
+        Some(of) => lists(alloc, index, of, all, pieces),
         None => Err(Refusal::Text(Fault {
             kind: FaultKind::UnknownName,
-            left: pieces,
+            left: all,
         })),
     }
+}
+
+/// A type use after an index of any type, where the types are not known.
+///
+/// # Proved
+///
+/// ```text
+/// ensures { MatchResult result
+/// (λ r. reading.assumed_use index (map terminal pieces.now) ≡ Ok (use_of r.0, map terminal r.1.now))
+/// (λ e. Faults (reading.assumed_use index (map terminal pieces.now)) e) }
+/// ```
+fn assumed_use<'p, 'a>(
+    alloc: Global,
+    index: usize,
+    pieces: &'p [Piece<'a>],
+) -> Result<(TypeUse<'p>, &'p [Piece<'a>]), Refusal<'p, 'a>> {
+    let (params, rest) = variables(alloc, "param", true, pieces)?;
+    let (results, rest) = variables(alloc, "result", false, rest)?;
+    let index = Some(index);
+    Ok((
+        TypeUse {
+            index,
+            params,
+            results,
+        },
+        rest,
+    ))
 }
 
 /// The type of an index.

@@ -1,9 +1,9 @@
-// Made by tools/erase from crates/wat_fields/src/types.rt; do not edit.
+// Made by tools/erase from crates/wat_fields_read/src/types.rt; do not edit.
 //! Limits, types of tables and globals, and index spaces.
 
 use wat_lex::shim::prelude::*;
+use crate::reading::header::closed;
 use crate::fields::fields::{GlobalType, IndexSpace, Limits, TableType};
-use crate::fields::header::closed;
 use crate::instructions::pieces::{Fault, FaultKind, Piece, ReferenceType, Sign, ValueType};
 use crate::instructions::reading::{self, value_type};
 
