@@ -42,10 +42,12 @@ LEFT_OUT = {
 
 # What the program takes and `wat2wasm` refuses.
 CONDITIONS = "of an `if` with more conditions than one, which wat2wasm refuses"
+UNFOUND = "of the number of a type that a use brings, which wat2wasm does not find"
 STOPPED = "of a segment with a label's name or a type use, at which an assertion of wat2wasm fails"
 
 # Of what both make other bytes.
 SHORT = "of a block of `(type x)`, which wat2wasm writes short"
+UNTYPED = "of a block of the number of a type that a use brings, which wat2wasm writes as one without a type"
 EMPTY = "of an element without instructions, which wat2wasm leaves out"
 OUTSIDE = "of a type use outside of functions, which wat2wasm does not look for"
 COUNT = "of a data count, which wat2wasm leaves out of no segments and writes for other expressions"
@@ -84,11 +86,12 @@ def other_bytes(makers, rng, tokens, ours, theirs):
     names, short = [], tokens_of.shortened(tokens)
     if short != tokens and (answer := makers[0](short, laid(rng, short))[0]) is not None:
         names, tokens, ours = [SHORT], short, answer
+    bare = tokens_of.untyped(tokens)
+    if bare != tokens and (answer := makers[0](bare, laid(rng, bare))[0]) is not None:
+        names, tokens, ours = names + [UNTYPED], bare, answer
     spelled, said = differences(contents(ours), contents(theirs)), differences(meaning(ours), meaning(theirs))
     if DATA_COUNT in spelled and is_other_count(tokens, ours, theirs):
         names, spelled, said = names + [COUNT], spelled - {DATA_COUNT}, said - {DATA_COUNT}
-    if spelled and not said and not names and tokens_of.has_brought_type(tokens):
-        names, spelled = [SHORT], set()
     if spelled and not said and is_long(makers, rng, tokens):
         names, spelled = names + [LONG], set()
     if not spelled:
@@ -106,6 +109,8 @@ def departures(makers, without, rng, tokens, ours, theirs):
         name = NO_TYPE if theirs[0] is not None and is_no_type(tokens, ours[1], theirs[0]) else refusal(without, tokens, ours[1])
     elif "Assertion" in theirs[1]:
         name = STOPPED
+    elif "invalid func type index" in theirs[1]:
+        name = UNFOUND
     else:
         name = CONDITIONS if tokens_of.has_more_conditions(tokens) and "expected" in theirs[1] else None
     return [name] if name else []

@@ -152,7 +152,7 @@ class Expressions(Reader):
 
 def types_of(found):
     """The bytes of the parameters and the results of each type, by their counts."""
-    reader = Reader(found.get(1, b"\0"))
+    reader = Reader(found.get(TYPES, b"\0"))
     made = []
     for _ in range(reader.number()):
         if reader.byte() != 0x60:

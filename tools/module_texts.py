@@ -511,8 +511,8 @@ def laid(rng, tokens):
 
 
 def with_type(rng, tokens):
-    """The tokens with the index of a type, which a type use may bring, in a function, a block or a call."""
-    heads = [at for at, token in enumerate(tokens) if token in {"func", "block", "loop", "if", "call_indirect"}]
+    """The tokens with the index of a type, which a type use may bring, in a function or a call. `wat2wasm` does not find it in a block."""
+    heads = [at for at, token in enumerate(tokens) if token in {"func", "call_indirect"}]
     if not heads:
         return tokens
     at = rng.choice(heads) + 1

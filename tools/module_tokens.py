@@ -96,24 +96,35 @@ def type_of(types, index):
     return types[number] if 0 <= number < len(types) else None
 
 
+def block_uses(tokens):
+    """Where the type use of each block begins that says the index of a type."""
+    for at, token in enumerate(tokens):
+        if token in BLOCKS:
+            at += 2 if tokens[at + 1 : at + 2] and tokens[at + 1].startswith("$") else 1
+            if len(group_at(tokens, at, "type") or []) == 1:
+                yield at
+
+
 def shortened(tokens):
     """The tokens with the lists of its type in the place of each `(type x)` of a block, where the type has a short form."""
-    types, made, at = defined_types(tokens), [], 0
-    while at < len(tokens):
-        token = tokens[at]
-        made.append(token)
-        at += 1
-        if token not in BLOCKS:
-            continue
-        if tokens[at : at + 1] and tokens[at].startswith("$"):
-            made.append(tokens[at])
-            at += 1
-        group = group_at(tokens, at, "type")
-        of = type_of(types, group[0]) if group and len(group) == 1 else None
+    types, made, last = defined_types(tokens), [], 0
+    for at in block_uses(tokens):
+        of = type_of(types, tokens[at + 2])
         if of and not of[1] and len(of[2]) < 2:
-            at = lists_at(tokens, after_group(tokens, at))[2]
-            made += ["(", "result"] + of[2] + [")"]
-    return made
+            made += tokens[last:at] + ["(", "result"] + of[2] + [")"]
+            last = lists_at(tokens, after_group(tokens, at))[2]
+    return made + tokens[last:]
+
+
+def untyped(tokens):
+    """The tokens without the number of a type in a block, where no field defines this type and nothing is listed."""
+    types, made, last = defined_types(tokens), [], 0
+    for at in block_uses(tokens):
+        end = after_group(tokens, at)
+        if number_of(tokens[at + 2]) >= len(types) and lists_at(tokens, end)[:2] == ([], []):
+            made += tokens[last:at]
+            last = end
+    return made + tokens[last:]
 
 
 def with_tables(tokens):
@@ -161,9 +172,9 @@ def with_words_in(field, has_offset):
     while at < len(field):
         end = after_group(field, at) if field[at] == "(" else at + 1
         group = field[at:end]
-        if group[:1] == ["("] and group[1] not in ("offset", "item") and has_word(BLOCKS, group):
+        if group[:1] == ["("] and group[1:2] not in (["offset"], ["item"]) and has_word(BLOCKS, group):
             group = ["(", "item" if has_offset else "offset"] + group + [")"]
-        has_offset = has_offset or field[at] in REFERENCES | {"func"} or group[:1] == ["("] and group[1] not in ("table", "memory")
+        has_offset = has_offset or field[at] in REFERENCES | {"func"} or group[:1] == ["("] and group[1:2] not in (["table"], ["memory"])
         made += group
         at = end
     return made
@@ -263,11 +274,6 @@ def type_numbers(tokens):
     """The numbers of types that type uses say."""
     uses = (tokens[at + 2] for at in range(len(tokens) - 3) if tokens[at : at + 2] == ["(", "type"] and tokens[at + 3] == ")")
     return [number_of(use) for use in uses]
-
-
-def has_brought_type(tokens):
-    """Whether a type use says a number that no field `type` has."""
-    return any(number >= len(types_of(tokens)) for number in type_numbers(tokens))
 
 
 def has_bare_use(tokens):
