@@ -12,7 +12,7 @@ use wat_lex::proved::lexer::{Lexer, TokenKind};
 use wat_lex::shim::alloc::{AllocError, AllocFailed, Global};
 use wat_lex::shim::borrow::{CowSlice, CowStr};
 use wat_lex::shim::boxed::Box;
-use wat_lex::shim::collections::BTreeMap;
+use wat_lex::shim::collections::{BTreeMap, Key};
 use wat_lex::shim::fast_float::Numeral;
 use wat_lex::shim::smallvec::SmallVec;
 use wat_lex::shim::string::{JoinIn, String};
@@ -248,7 +248,7 @@ fn a_small_vector_takes_memory_past_its_own_room() {
 #[test]
 fn a_map_is_as_it_was_where_a_pair_is_refused() {
     let mut map = without_memory(|| BTreeMap::new(Global));
-    for (key, value) in [(2, "two"), (1, "one"), (3, "three"), (5, "five")] {
+    for (key, value) in [(2u64, "two"), (1, "one"), (3, "three"), (5, "five")] {
         assert_eq!(map.insert(key, value), Ok(None));
     }
     assert_eq!(without_memory(|| map.insert(2, "zwei")), Ok(Some("two")));
@@ -267,12 +267,26 @@ fn a_map_is_as_it_was_where_a_pair_is_refused() {
 #[test]
 fn a_map_answers_as_that_of_rust() {
     for keys in [3, 12, 200, 5_000] {
-        compare_maps(keys);
+        compare_maps(keys, |key| key);
+        compare_maps(keys, |key| text(&format!("{key}")));
+        compare_maps(keys, |key| text(&format!("function_{:08}", key / 3)[..key as usize % 18]));
+        compare_maps(keys, |key| text(&"\0".repeat(key as usize % 12)));
+        compare_maps(keys, |key| vec_of_bytes(&key.to_le_bytes()[..key as usize % 9]));
     }
 }
 
+fn text(text: &str) -> String {
+    String::from_str(Global, text).unwrap()
+}
+
+fn vec_of_bytes(bytes: &[u8]) -> Vec<u8> {
+    let mut all = Vec::new(Global);
+    all.extend_from_slice(bytes).unwrap();
+    all
+}
+
 /// Changes maps at random, by so many keys.
-fn compare_maps(keys: u64) {
+fn compare_maps<K: Key + std::fmt::Debug>(keys: u64, key_of: impl Fn(u64) -> K) {
     let (mut ours, mut theirs) = (BTreeMap::new(Global), StdMap::new());
     let mut random = 1u64;
     for step in 0..50_000u64 {
@@ -280,14 +294,19 @@ fn compare_maps(keys: u64) {
             .wrapping_mul(6_364_136_223_846_793_005)
             .wrapping_add(1);
         let key = (random >> 40) % keys;
+        let (key, again) = (key_of(key), key_of(key));
         match random >> 33 & 3 {
             0 => assert_eq!(ours.remove(&key), theirs.remove(&key)),
             1 => assert_eq!(ours.get_mut(&key), theirs.get_mut(&key)),
-            _ => assert_eq!(ours.insert(key, step).unwrap(), theirs.insert(key, step)),
+            _ => {
+                let key = key_of((random >> 40) % keys);
+                let second = key_of((random >> 40) % keys);
+                assert_eq!(ours.insert(key, step).unwrap(), theirs.insert(second, step));
+            }
         }
         assert_eq!(
-            (ours.len(), ours.get(&key)),
-            (theirs.len(), theirs.get(&key))
+            (ours.len(), ours.get(&again)),
+            (theirs.len(), theirs.get(&again))
         );
     }
     assert!(ours.keys().eq(theirs.keys()));

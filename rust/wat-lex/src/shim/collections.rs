@@ -1,113 +1,273 @@
 //! Maps.
 use crate::shim::alloc::{AllocError, Global};
+use crate::shim::string::String;
 use crate::shim::vec::Vec;
 use core::borrow::Borrow;
 
-/// A map by the order of its keys, which answers a refused request for memory, and is then as it was.
-// Rust's map can't answer a refusal. Its pairs are in sorted vectors here, one after the other: to insert or to remove a pair moves those after it in
-// its vector.
-#[derive(Debug)]
-pub struct BTreeMap<K, V> {
-    pairs: Vec<(K, V)>,
-    /// What comes after them, in vectors that are not empty.
-    more: Vec<Vec<(K, V)>>,
+/// A key of a map, of which most are told apart by one number.
+pub trait Key: Ord {
+    /// How many bytes two keys have in common at their beginning.
+    fn shared(&self, other: &Self) -> usize;
+
+    /// Whether two keys have so many bytes in common at their beginning.
+    fn agrees(&self, other: &Self, count: usize) -> bool;
+
+    /// The eight bytes after so many, the first of them the highest, with zeros after the key's end. Of two keys that have these bytes in common
+    /// the lesser has no greater number.
+    fn lead(&self, skip: usize) -> u64;
+}
+
+impl Key for [u8] {
+    fn shared(&self, other: &[u8]) -> usize {
+        self.iter().zip(other).take_while(|(a, b)| a == b).count()
+    }
+
+    #[inline]
+    fn agrees(&self, other: &[u8], count: usize) -> bool {
+        matches!((self.get(..count), other.get(..count)), (Some(a), Some(b)) if a == b)
+    }
+
+    #[inline]
+    fn lead(&self, skip: usize) -> u64 {
+        let after = self.get(skip..).unwrap_or_default();
+        if let Some(bytes) = after.first_chunk() {
+            return u64::from_be_bytes(*bytes);
+        }
+        let number = after.iter().fold(0, |number, byte| number << 8 | u64::from(*byte));
+        number.checked_shl(8 * (8 - after.len() as u32)).unwrap_or(0)
+    }
+}
+
+/// Keys that are ordered by their bytes.
+macro_rules! by_bytes {
+    ($($key:ty: $bytes:ident)*) => {$(
+        impl Key for $key {
+            fn shared(&self, other: &$key) -> usize {
+                self.$bytes().shared(other.$bytes())
+            }
+
+            #[inline]
+            fn agrees(&self, other: &$key, count: usize) -> bool {
+                self.$bytes().agrees(other.$bytes(), count)
+            }
+
+            #[inline]
+            fn lead(&self, skip: usize) -> u64 {
+                self.$bytes().lead(skip)
+            }
+        }
+    )*};
+}
+
+by_bytes! { str: as_bytes &str: as_bytes String: as_bytes Vec<u8>: as_slice }
+
+impl Key for u64 {
+    fn shared(&self, _: &u64) -> usize {
+        0
+    }
+
+    fn agrees(&self, _: &u64, count: usize) -> bool {
+        count == 0
+    }
+
+    fn lead(&self, _: usize) -> u64 {
+        *self
+    }
 }
 
 /// How many pairs are looked through one after the other.
 const FEW: usize = 8;
 
-/// How many pairs a vector has at most.
+/// How many pairs a part has at most.
 const MOST: usize = 512;
 
-impl<K: Ord, V> BTreeMap<K, V> {
+/// Pairs in the order of their keys.
+#[derive(Debug)]
+struct Part<K, V> {
+    pairs: Vec<(K, V)>,
+    /// How many bytes all keys have in common at their beginning.
+    skip: usize,
+    /// What comes after these, of each key.
+    leads: Vec<u64>,
+}
+
+impl<K: Key, V> Part<K, V> {
+    const fn new(alloc: Global) -> Part<K, V> {
+        Part {
+            pairs: Vec::new(alloc),
+            skip: 0,
+            leads: Vec::new(alloc),
+        }
+    }
+
+    /// The place of a key, or where it would be.
+    fn place<Q: Key + ?Sized>(&self, key: &Q) -> Result<usize, usize>
+    where
+        K: Borrow<Q>,
+    {
+        // Texts of other lengths differ at once.
+        if self.pairs.len() <= FEW {
+            if let Some(place) = self.pairs.iter().position(|(k, _)| k.borrow() == key) {
+                return Ok(place);
+            }
+        }
+        let (mut begin, mut end) = (0, self.pairs.len());
+        if self.pairs.first().is_some_and(|(first, _)| first.borrow().agrees(key, self.skip)) {
+            let lead = key.lead(self.skip);
+            begin = self.leads.partition_point(|other| *other < lead);
+            end = self.after_lead(begin, lead);
+        }
+        let found = self.pairs[begin..end].binary_search_by(|(k, _)| k.borrow().cmp(key));
+        found.map_or_else(|place| Err(begin + place), |place| Ok(begin + place))
+    }
+
+    /// The place after all keys with this lead, the first of which would be there.
+    fn after_lead(&self, begin: usize, lead: u64) -> usize {
+        let same = |place| self.leads.get(place) == Some(&lead);
+        if !same(begin) || !same(begin + 1) {
+            return begin + usize::from(same(begin));
+        }
+        begin + self.leads[begin..].partition_point(|other| *other == lead)
+    }
+
+    /// Puts a pair at the place where it would be.
+    fn insert(&mut self, place: usize, key: K, value: V) -> Result<(), AllocError> {
+        self.pairs.reserve(1)?;
+        self.leads.insert(place, 0)?;
+        let shared = self.pairs.first().map_or(0, |(k, _)| k.shared(&key));
+        self.pairs.insert(place, (key, value))?;
+        if shared < self.skip || self.pairs.len() == 2 {
+            self.lead_after(shared);
+        } else {
+            self.leads[place] = self.pairs[place].0.lead(self.skip);
+        }
+        Ok(())
+    }
+
+    /// Notes what keys begin with after so many bytes, which they have in common.
+    fn lead_after(&mut self, skip: usize) {
+        self.skip = skip;
+        for ((key, _), lead) in self.pairs.iter().zip(self.leads.iter_mut()) {
+            *lead = key.lead(skip);
+        }
+    }
+
+    /// Takes the second half away.
+    fn halve(&mut self) -> Result<Part<K, V>, AllocError> {
+        let mut after = Part {
+            pairs: Vec::with_capacity(Global, MOST)?,
+            skip: 0,
+            leads: Vec::with_capacity(Global, MOST)?,
+        };
+        while self.pairs.len() > MOST / 2 {
+            let Some(pair) = self.pairs.pop() else { break };
+            after.pairs.push(pair)?;
+            after.leads.push(self.leads.pop().unwrap_or_default())?;
+        }
+        after.pairs.reverse();
+        self.lead_after_shared();
+        after.lead_after_shared();
+        Ok(after)
+    }
+
+    /// The same after all bytes that the first key and the last have in common.
+    fn lead_after_shared(&mut self) {
+        if let [(first, _), .., (last, _)] = self.pairs.as_slice() {
+            self.lead_after(first.shared(last));
+        }
+    }
+
+    fn remove(&mut self, place: usize) -> V {
+        self.leads.remove(place);
+        self.pairs.remove(place).1
+    }
+}
+
+/// A map by the order of its keys, which answers a refused request for memory, and is then as it was.
+// Rust's map can't answer a refusal. Its pairs are in sorted parts here, one after the other: to insert or to remove a pair moves those after it in
+// its part.
+#[derive(Debug)]
+pub struct BTreeMap<K, V> {
+    first: Part<K, V>,
+    /// What comes after them, in parts that are not empty.
+    more: Vec<Part<K, V>>,
+}
+
+impl<K: Key, V> BTreeMap<K, V> {
     /// A map of no pairs. It takes no memory.
     pub const fn new(alloc: Global) -> BTreeMap<K, V> {
         BTreeMap {
-            pairs: Vec::new(alloc),
+            first: Part::new(alloc),
             more: Vec::new(alloc),
         }
     }
 
     /// How many pairs there are.
     pub fn len(&self) -> usize {
-        self.pairs.len() + self.more.iter().map(|pairs| pairs.len()).sum::<usize>()
+        self.first.pairs.len() + self.more.iter().map(|part| part.pairs.len()).sum::<usize>()
     }
 
     /// Whether there are none.
     pub fn is_empty(&self) -> bool {
-        self.pairs.is_empty() && self.more.is_empty()
+        self.first.pairs.is_empty() && self.more.is_empty()
     }
 
     /// The keys, in order.
     pub fn keys(&self) -> impl Iterator<Item = &K> {
-        let more = self.more.iter().flat_map(|pairs| pairs.iter());
-        self.pairs.iter().chain(more).map(|(key, _)| key)
+        let more = self.more.iter().flat_map(|part| part.pairs.iter());
+        self.first.pairs.iter().chain(more).map(|(key, _)| key)
     }
 
-    /// How many vectors of `more` begin with this key or one before it.
-    fn begun<Q: Ord + ?Sized>(&self, key: &Q) -> usize
+    /// How many parts of `more` begin with this key or one before it.
+    fn begun<Q: Key + ?Sized>(&self, key: &Q) -> usize
     where
         K: Borrow<Q>,
     {
         self.more
-            .partition_point(|pairs| pairs[0].0.borrow() <= key)
+            .partition_point(|part| part.pairs[0].0.borrow() <= key)
     }
 
-    /// The place of a key in the vector that has it if one does.
-    fn place<Q: Ord + ?Sized>(pairs: &[(K, V)], key: &Q) -> Result<usize, usize>
-    where
-        K: Borrow<Q>,
-    {
-        // Texts of other lengths differ at once.
-        if pairs.len() <= FEW {
-            if let Some(place) = pairs.iter().position(|(other, _)| other.borrow() == key) {
-                return Ok(place);
-            }
-        }
-        pairs.binary_search_by(|(other, _)| other.borrow().cmp(key))
-    }
-
-    /// The vector that has a key if one does.
-    fn vector<Q: Ord + ?Sized>(&mut self, key: &Q) -> &mut Vec<(K, V)>
+    /// The part that has a key if one does.
+    fn part<Q: Key + ?Sized>(&mut self, key: &Q) -> &mut Part<K, V>
     where
         K: Borrow<Q>,
     {
         match self.begun(key) {
-            0 => &mut self.pairs,
+            0 => &mut self.first,
             begun => &mut self.more[begun - 1],
         }
     }
 
     /// The value of a key.
-    pub fn get<Q: Ord + ?Sized>(&self, key: &Q) -> Option<&V>
+    pub fn get<Q: Key + ?Sized>(&self, key: &Q) -> Option<&V>
     where
         K: Borrow<Q>,
     {
-        let pairs = match self.begun(key) {
-            0 => &self.pairs,
+        let part = match self.begun(key) {
+            0 => &self.first,
             begun => &self.more[begun - 1],
         };
-        let place = BTreeMap::place(pairs, key).ok()?;
-        Some(&pairs[place].1)
+        let place = part.place(key).ok()?;
+        Some(&part.pairs[place].1)
     }
 
     /// The value of a key, to be changed.
-    pub fn get_mut<Q: Ord + ?Sized>(&mut self, key: &Q) -> Option<&mut V>
+    pub fn get_mut<Q: Key + ?Sized>(&mut self, key: &Q) -> Option<&mut V>
     where
         K: Borrow<Q>,
     {
-        let pairs = self.vector(key);
-        let place = BTreeMap::place(pairs, key).ok()?;
-        Some(&mut pairs[place].1)
+        let part = self.part(key);
+        let place = part.place(key).ok()?;
+        Some(&mut part.pairs[place].1)
     }
 
     /// Gives a key a value, and answers the one that it had.
     pub fn insert(&mut self, key: K, value: V) -> Result<Option<V>, AllocError> {
-        let pairs = self.vector(&key);
-        match BTreeMap::place(pairs, &key) {
-            Ok(place) => Ok(Some(core::mem::replace(&mut pairs[place].1, value))),
-            Err(place) if pairs.len() < MOST => {
-                pairs.insert(place, (key, value))?;
+        let part = self.part(&key);
+        match part.place(&key) {
+            Ok(place) => Ok(Some(core::mem::replace(&mut part.pairs[place].1, value))),
+            Err(place) if part.pairs.len() < MOST => {
+                part.insert(place, key, value)?;
                 Ok(None)
             }
             Err(_) => {
@@ -117,31 +277,25 @@ impl<K: Ord, V> BTreeMap<K, V> {
         }
     }
 
-    /// Moves the second half of the full vector of a key into one of its own.
+    /// Moves the second half of the full part of a key into one of its own.
     fn halve(&mut self, key: &K) -> Result<(), AllocError> {
         let begun = self.begun(key);
-        let mut after = Vec::with_capacity(Global, MOST)?;
         self.more.reserve(1)?;
-        let pairs = self.vector(key);
-        while pairs.len() > MOST / 2 {
-            let Some(pair) = pairs.pop() else { break };
-            after.push(pair)?;
-        }
-        after.reverse();
+        let after = self.part(key).halve()?;
         self.more.insert(begun, after)?;
         Ok(())
     }
 
     /// Takes a key away, and answers the value that it had.
-    pub fn remove<Q: Ord + ?Sized>(&mut self, key: &Q) -> Option<V>
+    pub fn remove<Q: Key + ?Sized>(&mut self, key: &Q) -> Option<V>
     where
         K: Borrow<Q>,
     {
         let begun = self.begun(key);
-        let pairs = self.vector(key);
-        let place = BTreeMap::place(pairs, key).ok()?;
-        let (_, value) = pairs.remove(place);
-        if pairs.is_empty() && begun > 0 {
+        let part = self.part(key);
+        let place = part.place(key).ok()?;
+        let value = part.remove(place);
+        if part.pairs.is_empty() && begun > 0 {
             self.more.remove(begun - 1);
         }
         Some(value)
