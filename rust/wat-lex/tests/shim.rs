@@ -269,10 +269,19 @@ fn a_map_answers_as_that_of_rust() {
     for keys in [3, 12, 200, 5_000] {
         compare_maps(keys, |key| key);
         compare_maps(keys, |key| text(&format!("{key}")));
-        compare_maps(keys, |key| text(&format!("function_{:08}", key / 3)[..key as usize % 18]));
-        compare_maps(keys, |key| text(&"\0".repeat(key as usize % 12)));
-        compare_maps(keys, |key| vec_of_bytes(&key.to_le_bytes()[..key as usize % 9]));
+        compare_maps(keys, |key| {
+            text(&format!("function_{:08}", key / 3)[..below(18, key)])
+        });
+        compare_maps(keys, |key| text(&"\0".repeat(below(12, key))));
+        compare_maps(keys, |key| {
+            vec_of_bytes(&key.to_le_bytes()[..below(9, key)])
+        });
     }
+}
+
+/// A number below another one, by a key.
+fn below(most: u64, key: u64) -> usize {
+    usize::try_from(key % most).unwrap()
 }
 
 fn text(text: &str) -> String {

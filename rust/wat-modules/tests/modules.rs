@@ -70,7 +70,19 @@ fn modules_have_their_bytes() {
 
 #[test]
 fn fields_have_their_bytes() {
-    let rows: [(&str, &[u8]); 8] = [
+    let rows: [(&str, &[u8]); 11] = [
+        (
+            "(module (func (type 0)) (func (param i32)))",
+            b"\x01\x05\x01\x60\x01\x7f\x00\x03\x03\x02\x00\x00\x0a\x07\x02\x02\x00\x0b\x02\x00\x0b",
+        ),
+        (
+            "(module (func (type 0) (local $y i64) local.get $y) (func (param i32 i32)))",
+            b"\x01\x06\x01\x60\x02\x7f\x7f\x00\x03\x03\x02\x00\x00\x0a\x0b\x02\x06\x01\x01\x7e\x20\x02\x0b\x02\x00\x0b",
+        ),
+        (
+            "(module (func block (type 0) end))",
+            b"\x01\x04\x01\x60\x00\x00\x03\x02\x01\x00\x0a\x07\x01\x05\x00\x02\x00\x0b\x0b",
+        ),
         (
             "(module (func (param i32)) (type (func)) (type (func (param i32))))",
             b"\x01\x08\x02\x60\x00\x00\x60\x01\x7f\x00\x03\x02\x01\x01\x0a\x04\x01\x02\x00\x0b",
@@ -119,6 +131,11 @@ fn refusals_have_their_place() {
         ("(module (func nop)", "unexpected token", 18),
         ("(module (data 0))", "unexpected token", 14),
         ("(module (func (type 5)))", "unknown identifier", 20),
+        (
+            "(module (func (type 0)) (func (param i32) frob))",
+            "unknown keyword",
+            42,
+        ),
         (
             "(module (func) (import \"m\" \"n\" (func)))",
             "import after a definition",

@@ -33,8 +33,9 @@ impl Key for [u8] {
         if let Some(bytes) = after.first_chunk() {
             return u64::from_be_bytes(*bytes);
         }
-        let number = after.iter().fold(0, |number, byte| number << 8 | u64::from(*byte));
-        number.checked_shl(8 * (8 - after.len() as u32)).unwrap_or(0)
+        (0..8).fold(0, |number, at| {
+            number << 8 | u64::from(after.get(at).copied().unwrap_or_default())
+        })
     }
 }
 
@@ -112,7 +113,11 @@ impl<K: Key, V> Part<K, V> {
             }
         }
         let (mut begin, mut end) = (0, self.pairs.len());
-        if self.pairs.first().is_some_and(|(first, _)| first.borrow().agrees(key, self.skip)) {
+        if self
+            .pairs
+            .first()
+            .is_some_and(|(first, _)| first.borrow().agrees(key, self.skip))
+        {
             let lead = key.lead(self.skip);
             begin = self.leads.partition_point(|other| *other < lead);
             end = self.after_lead(begin, lead);
