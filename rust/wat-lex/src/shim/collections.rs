@@ -88,7 +88,7 @@ struct Part<K, V> {
     pairs: Vec<(K, V)>,
     /// How many bytes all keys have in common at their beginning.
     skip: usize,
-    /// What comes after these, of each key.
+    /// What comes after these, of each key; nothing where there are few.
     leads: Vec<u64>,
 }
 
@@ -113,11 +113,7 @@ impl<K: Key, V> Part<K, V> {
             }
         }
         let (mut begin, mut end) = (0, self.pairs.len());
-        if self
-            .pairs
-            .first()
-            .is_some_and(|(first, _)| first.borrow().agrees(key, self.skip))
-        {
+        if !self.leads.is_empty() && self.pairs[0].0.borrow().agrees(key, self.skip) {
             let lead = key.lead(self.skip);
             begin = self.leads.partition_point(|other| *other < lead);
             end = self.after_lead(begin, lead);
@@ -138,15 +134,28 @@ impl<K: Key, V> Part<K, V> {
     /// Puts a pair at the place where it would be.
     fn insert(&mut self, place: usize, key: K, value: V) -> Result<(), AllocError> {
         self.pairs.reserve(1)?;
-        self.leads.insert(place, 0)?;
-        let shared = self.pairs.first().map_or(0, |(k, _)| k.shared(&key));
+        let count = self.pairs.len() + 1;
+        if !self.leads.is_empty() {
+            self.leads.insert(place, key.lead(self.skip))?;
+        } else if count > FEW {
+            self.leads.reserve(count)?;
+        }
         self.pairs.insert(place, (key, value))?;
-        if shared < self.skip || self.pairs.len() == 2 {
-            self.lead_after(shared);
-        } else {
-            self.leads[place] = self.pairs[place].0.lead(self.skip);
+        if !self.leads.is_empty() && self.shared() < self.skip {
+            self.lead_after(self.shared());
+        } else if self.leads.is_empty() && count > FEW {
+            self.leads.extend_from_slice(&[0; FEW + 1])?;
+            self.lead_after(self.shared());
         }
         Ok(())
+    }
+
+    /// How many bytes all keys have in common at their beginning.
+    fn shared(&self) -> usize {
+        match self.pairs.as_slice() {
+            [(first, _), .., (last, _)] => first.shared(last),
+            _ => 0,
+        }
     }
 
     /// Notes what keys begin with after so many bytes, which they have in common.
@@ -170,20 +179,15 @@ impl<K: Key, V> Part<K, V> {
             after.leads.push(self.leads.pop().unwrap_or_default())?;
         }
         after.pairs.reverse();
-        self.lead_after_shared();
-        after.lead_after_shared();
+        self.lead_after(self.shared());
+        after.lead_after(after.shared());
         Ok(after)
     }
 
-    /// The same after all bytes that the first key and the last have in common.
-    fn lead_after_shared(&mut self) {
-        if let [(first, _), .., (last, _)] = self.pairs.as_slice() {
-            self.lead_after(first.shared(last));
-        }
-    }
-
     fn remove(&mut self, place: usize) -> V {
-        self.leads.remove(place);
+        if !self.leads.is_empty() {
+            self.leads.remove(place);
+        }
         self.pairs.remove(place).1
     }
 }
