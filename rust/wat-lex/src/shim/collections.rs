@@ -4,7 +4,7 @@ use crate::shim::string::String;
 use crate::shim::vec::Vec;
 use core::borrow::Borrow;
 
-/// A key of a map, of which most are told apart by one number.
+/// A key of a map, most of which one number distinguishes.
 pub trait Key: Ord {
     /// How many bytes two keys have in common at their beginning.
     fn shared(&self, other: &Self) -> usize;
