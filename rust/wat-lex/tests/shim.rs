@@ -265,6 +265,25 @@ fn a_map_is_as_it_was_where_a_pair_is_refused() {
 }
 
 #[test]
+fn a_map_is_as_it_was_where_any_of_its_requests_is_refused() {
+    for count in [0u64, 8, 16, 32, 512] {
+        for granted in 0..4 {
+            let mut map = BTreeMap::new(Global);
+            for key in 0..count {
+                map.insert(2 * key, key).unwrap();
+            }
+            let (answer, _) = granting(granted, || map.insert(1, 7));
+            assert!(answer.is_err() || map.get(&1) == Some(&7));
+            let len = usize::try_from(count).unwrap() + usize::from(answer.is_ok());
+            assert_eq!((map.len(), map.keys().count()), (len, len));
+            assert!((0..count).all(|key| map.get(&(2 * key)) == Some(&key)));
+            assert_eq!(map.insert(3, 9), Ok(None));
+            assert_eq!(map.get(&3), Some(&9));
+        }
+    }
+}
+
+#[test]
 fn a_map_answers_as_that_of_rust() {
     for keys in [3, 12, 200, 5_000] {
         compare_maps(keys, |key| key);
