@@ -1,20 +1,20 @@
 -- Function types that are the same are equal, and each is among those of its module.
 use Rattle.std.proofs.Common.{◌≡◌, ◌<◌, ◌∙◌, ℕ, zero, suc, Bool, true, false, List, [], ◌∷◌, ◌++◌, length, map, drop, get_or, ◌+◌, Some, refl, sym, ap, subst, arith}
-use Rattle.std.specs.Prelude.{◌==◌, ◌&&◌, if◌then◌else◌, slice_get, slice_index_or}
+use Rattle.std.specs.Prelude.{◌==◌, ◌&&◌, Vec, if◌then◌else◌, slice_get, slice_index_or}
 use Rattle.std.proofs.lemmas.Bool.Decides.{Decides-eqb}
+use Rattle.wat_instructions.specs.declared.pieces.Instruction.{Instruction}
 use Rattle.wat_instructions.specs.declared.pieces.ReferenceType.{ReferenceType}
 use Rattle.wat_instructions.specs.declared.pieces.ReferenceType.TheVariants as reference
 use Rattle.wat_instructions.specs.declared.pieces.ValueType.{ValueType}
 use Rattle.wat_instructions.specs.declared.pieces.ValueType.TheVariants as value
 use Rattle.std.specs.List.{flat_map}
 use Rattle.std.proofs.lemmas.List.{drop_more}
-use Rattle.wat_fields.specs.declared.fields.Element.{Element}
 use Rattle.wat_fields.specs.declared.fields.Field as declared
-use Rattle.wat_fields.specs.Views.{field_of, items_of}
+use Rattle.wat_fields.specs.Views.{expression_of, field_of}
 use Rattle.wat_instructions.specs.Types.{FunctionType, reference_byte, same_type, same_values, type_byte}
 use Rattle.wat_fields.specs.ImplicitTypes.{has_type, type_index, types_after, types_of, field_types, with_type}
 use Rattle.wat_instructions.specs.Uses.{expression_types}
-use Rattle.wat_fields.specs.Fields.{definition_type, definitions_of}
+use Rattle.wat_fields.specs.Fields.{definition_type, definitions_of, ref_func}
 use Rattle.wat_fields.specs.Law.{TypesAreThere}
 
 both : (a b : Bool) → a && b ≡ true → (a ≡ true) × (b ≡ true)
@@ -152,11 +152,16 @@ field_used fields f d i all before after h l e k =
     let rest = flat_map field_types (map field_of (drop (i + 1) fields)) in
     h ∙ ap (λ xs. types_after before (flat_map field_types (map field_of xs))) (drop_more fields i d l) ∙ ap (λ x. types_after before (field_types (field_of x) ++ rest)) (sym e) ∙ after_more before (field_types (field_of f)) rest ∙ ap (λ x. types_after x rest) (sym k)
 
--- one element on
-pub element_used : (elements : List Element) (e d : Element) (i : ℕ) (all before after : List FunctionType) → all ≡ types_after before (flat_map expression_types (map items_of (drop i elements))) → i < length elements → e ≡ get_or elements i d → after ≡ types_after before (expression_types (items_of e)) → all ≡ types_after after (flat_map expression_types (map items_of (drop (i + 1) elements)))
-element_used elements e d i all before after h l k a =
-    let rest = flat_map expression_types (map items_of (drop (i + 1) elements)) in
-    h ∙ ap (λ xs. types_after before (flat_map expression_types (map items_of xs))) (drop_more elements i d l) ∙ ap (λ x. types_after before (expression_types (items_of x) ++ rest)) (sym k) ∙ after_more before (expression_types (items_of e)) rest ∙ ap (λ x. types_after x rest) (sym a)
+-- one expression on
+pub expression_used : {G : Type 0} (all : List (Vec Instruction G)) (e d : Vec Instruction G) (i : ℕ) (types before after : List FunctionType) → types ≡ types_after before (flat_map expression_types (map expression_of (drop i all))) → i < length all → e ≡ get_or all i d → after ≡ types_after before (expression_types (expression_of e)) → types ≡ types_after after (flat_map expression_types (map expression_of (drop (i + 1) all)))
+expression_used all e d i types before after h l k a =
+    let rest = flat_map expression_types (map expression_of (drop (i + 1) all)) in
+    h ∙ ap (λ xs. types_after before (flat_map expression_types (map expression_of xs))) (drop_more all i d l) ∙ ap (λ x. types_after before (expression_types (expression_of x) ++ rest)) (sym k) ∙ after_more before (expression_types (expression_of e)) rest ∙ ap (λ x. types_after x rest) (sym a)
+
+-- functions by their indices bring no type
+pub functions_bring_none : (xs : List ℕ) → flat_map expression_types (map ref_func xs) ≡ []
+functions_bring_none [] = refl
+functions_bring_none (x ∷ xs) = functions_bring_none xs
 
 pub types_are_there : TypesAreThere
 unfolding types_of

@@ -14,7 +14,7 @@ use Rattle.wat_instructions.specs.declared.pieces.ValueType.{ValueType}
 use Rattle.wat_instructions.specs.Grammar.{Body, Context, Folded, label_of, position, reference_type, value_type}
 use Rattle.wat_instructions.specs.Names.{are_distinct}
 use Rattle.wat_instructions.specs.Terminals.{Terminal, Open, Close, Word, Id, Integer, Text, Label}
-use Rattle.wat_instructions.specs.Types.{FunctionType, Types, from_to}
+use Rattle.wat_instructions.specs.Types.{FunctionType, Types, UnnamedUse, from_to, unnamed_use}
 use Rattle.wat_fields.specs.declared.fields.GlobalType.{GlobalType}
 use Rattle.wat_fields.specs.declared.fields.IndexSpace.{IndexSpace}
 use Rattle.wat_fields.specs.declared.fields.IndexSpace.TheVariants as space
@@ -51,17 +51,21 @@ pub record TypeUse : Type 0 where
 abbrev pub type_use : Option ℕ → List Variable → List Variable → TypeUse
 type_use i ps rs = record { index = i; params = ps; results = rs }
 
--- a function: its name, the names under which it is exported, its type, its local variables and its instructions
+-- 2.5.3: a function has types; the names of its parameters and local variables are in the context alone (6.1.3)
+abbrev pub without_names : TypeUse → UnnamedUse
+without_names u = unnamed_use u.index (function_type u.params u.results)
+
+-- a function: its name, the names under which it is exported, its type, the types of its local variables, and its instructions
 pub record Function : Type 0 where
   pub name : Label
   pub exports : List (List ℕ)
-  pub uses : TypeUse
-  pub locals : List Variable
+  pub uses : UnnamedUse
+  pub locals : List ValueType
   pub body : List Instruction
 
 -- 6.6.4: what is imported
 pub data ExternType : Type 0 where
-  FuncType : TypeUse → ExternType
+  FuncType : UnnamedUse → ExternType
   OfTable : TableType → ExternType
   OfMemory : Limits → ExternType
   OfGlobal : GlobalType → ExternType
@@ -308,7 +312,7 @@ all_distinct types context = are_distinct types.names && are_distinct context.fu
 
 -- 6.4.7 to 6.4.9, 6.6.3: what is imported, after its name
 pub data ExternIs (types : Types) : IndexSpace → List Terminal → ExternType → List Terminal → Type 0 where
-  by_type_use : {ts us : List Terminal} {u : TypeUse} → TypeUseIs types ts u us → are_distinct (map name_of u.params) ≡ true → ExternIs types space.Func ts (FuncType u) us
+  by_type_use : {ts us : List Terminal} {u : TypeUse} → TypeUseIs types ts u us → are_distinct (map name_of u.params) ≡ true → ExternIs types space.Func ts (FuncType (without_names u)) us
   by_table_type : {ts us : List Terminal} {v : List ℕ} {limits : Limits} {t : ReferenceType} → LimitsAre ts limits (Word v ∷ us) → reference_type v ≡ Some t → ExternIs types space.Table ts (OfTable (record { limits = limits; element = t })) us
   by_memory_type : {ts us : List Terminal} {limits : Limits} → LimitsAre ts limits us → ExternIs types space.Mem ts (OfMemory limits) us
   by_global_type : {ts us : List Terminal} {t : GlobalType} → GlobalTypeIs ts t us → ExternIs types space.Global ts (OfGlobal t) us
@@ -370,7 +374,7 @@ pub data FieldIs (types : Types) (context : Context) : List Terminal → List Fi
   by_func : {w : List ℕ} {ts hs bs ds r : List Terminal} {names : List (List ℕ)} {u : TypeUse} {locals : List Variable} {is : List Instruction}
       → w ≡ codes "func" → Many InlineExport (label_of ts).1 names hs → TypeUseIs types hs u bs → Many (Group (codes "local") true) bs locals ds
       → are_distinct (map name_of (u.params ++ locals)) ≡ true → Body (with_locals context (u.params ++ locals)) ds is r
-      → FieldIs types context (Open ∷ Word w ∷ ts) (Func (record { name = (label_of ts).0; exports = names; uses = u; locals = locals; body = is }) ∷ []) r
+      → FieldIs types context (Open ∷ Word w ∷ ts) (Func (record { name = (label_of ts).0; exports = names; uses = without_names u; locals = map type_of locals; body = is }) ∷ []) r
   -- 6.6.6, 6.4.8: table = `(` table id? export* limits reftype `)`
   by_table : {w v : List ℕ} {ts hs r : List Terminal} {names : List (List ℕ)} {limits : Limits} {t : ReferenceType}
       → w ≡ codes "table" → Many InlineExport (label_of ts).1 names hs → LimitsAre hs limits (Word v ∷ Close ∷ r) → reference_type v ≡ Some t

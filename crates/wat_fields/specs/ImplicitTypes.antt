@@ -2,9 +2,9 @@
 -- without an index bring.
 use Rattle.std.specs.Prelude.{ℕ, suc, Bool, true, false, List, [], ◌∷◌, ◌++◌, map, Option, Some, None, if◌then◌else◌}
 use Rattle.std.specs.List.{flat_map}
-use Rattle.wat_instructions.specs.Types.{FunctionType, brought_by, same_type}
+use Rattle.wat_instructions.specs.Types.{FunctionType, brought, same_type}
 use Rattle.wat_instructions.specs.Uses.{expression_types}
-use Rattle.wat_fields.specs.Fields.{ExternType, FuncType, OfTable, OfMemory, OfGlobal, Field, Func, Table, Memory, Global, Start, TypeUse, definition_type, definitions_of, function_type, ElemMode, Passive, Active, Declarative, Elements, Target}
+use Rattle.wat_fields.specs.Fields.{ExternType, FuncType, OfTable, OfMemory, OfGlobal, Field, Func, Table, Memory, Global, Start, definition_type, definitions_of, ElemMode, Passive, Active, Declarative, Elements, Target}
 use Rattle.wat_fields.specs.Fields as field
 
 -- 6.6.3: the least index of a type among these; how many there are, where it is not
@@ -20,17 +20,10 @@ has_type t (u ∷ us) = if same_type u t then true else has_type t us
 abbrev pub with_type : List FunctionType → FunctionType → List FunctionType
 with_type ts t = if has_type t ts then ts else ts ++ t ∷ []
 
-abbrev pub used_type : TypeUse → FunctionType
-used_type u = function_type u.params u.results
-
 -- these types, and after them each of the others that is not there yet, in their order (6.1.2, 6.6.3)
 abbrev pub types_after : List FunctionType → List FunctionType → List FunctionType
 types_after ts [] = ts
 types_after ts (u ∷ us) = types_after (with_type ts u) us
-
--- the type that a type use brings, where it says no index
-abbrev pub use_types : TypeUse → List FunctionType
-use_types u = brought_by u.index (used_type u)
 
 abbrev pub target_types : Option Target → List FunctionType
 target_types None = []
@@ -46,7 +39,7 @@ mode_types Passive = []
 mode_types Declarative = []
 
 abbrev pub extern_types : ExternType → List FunctionType
-extern_types (FuncType u) = use_types u
+extern_types (FuncType u) = brought u
 extern_types (OfTable t) = []
 extern_types (OfMemory l) = []
 extern_types (OfGlobal t) = []
@@ -55,7 +48,7 @@ extern_types (OfGlobal t) = []
 abbrev pub field_types : Field → List FunctionType
 field_types (field.TypeField l t) = []
 field_types (field.Import m n l ns t) = extern_types t
-field_types (Func f) = use_types f.uses ++ expression_types f.body
+field_types (Func f) = brought f.uses ++ expression_types f.body
 field_types (Table l ns t es) = elements_types es
 field_types (Memory l ns t bytes) = []
 field_types (Global l ns t is) = expression_types is

@@ -1,28 +1,23 @@
--- What the code's variables are in the definitions.
+-- What the code's fields are in the definitions.
 use denote.Ref.{Bor}
 use Rattle.std.specs.Prelude.{ℕ, List, map, Option, Some, None, Vec}
 use Rattle.wat_instructions.specs.Terminals.{label}
-use Rattle.wat_instructions.specs.Views.{type_of}
-use Rattle.wat_fields.specs.declared.fields.Variable as declared_variable
+use Rattle.wat_instructions.specs.Views.{type_of, use_of}
 use Rattle.wat_fields.specs.declared.fields.Definition as declared_definition
 use Rattle.wat_fields.specs.declared.fields.ExternType as declared_extern
 use Rattle.wat_fields.specs.declared.fields.ExternType.TheVariants as externs
-use Rattle.wat_fields.specs.declared.fields.TypeUse as declared_use
 use Rattle.wat_fields.specs.declared.fields.Function as declared_function
 use Rattle.wat_fields.specs.declared.fields.Field as declared_field
 use Rattle.wat_fields.specs.declared.fields.Field.TheVariants as fields
 use Rattle.wat_fields.specs.declared.fields.Target as declared_target
-use Rattle.wat_fields.specs.declared.fields.Element.{Element}
-use Rattle.wat_fields.specs.declared.fields.Element.TheVariants as elements
+use Rattle.wat_fields.specs.declared.fields.Elements as declared_elements
+use Rattle.wat_fields.specs.declared.fields.Elements.TheVariants as elements
 use Rattle.wat_fields.specs.declared.fields.ElemMode as declared_mode
 use Rattle.wat_fields.specs.declared.fields.ElemMode.TheVariants as modes
 use Rattle.wat_instructions.specs.declared.pieces.Instruction.{Instruction}
 use Rattle.std.specs.List.{flat_map}
-use Rattle.wat_fields.specs.Fields.{ExternType, FuncType, OfTable, OfMemory, OfGlobal, Field, TypeField, Import, Func, Table, Memory, Global, Start, Definition, Function, TypeUse, Variable, definition, type_use, variable, Data, Elem, ElemMode, Passive, Active, Declarative, Elements, Target, ref_func, target}
+use Rattle.wat_fields.specs.Fields.{ExternType, FuncType, OfTable, OfMemory, OfGlobal, Field, TypeField, Import, Func, Table, Memory, Global, Start, Definition, Function, definition, Data, Elem, ElemMode, Passive, Active, Declarative, Elements, Target, ref_func, target}
 use Rattle.wat_fields.specs.Fields as field
-
-abbrev pub variable_of : declared_variable.Variable → Variable
-variable_of v = variable (label v.name) v.of
 
 -- the bytes of a string
 abbrev pub text_of : Bor (List ℕ) → List ℕ
@@ -32,15 +27,12 @@ text_of n = n.now
 abbrev pub together : List (Bor (List ℕ)) → List ℕ
 together strings = flat_map text_of strings
 
-abbrev pub use_of : declared_use.TypeUse → TypeUse
-use_of u = type_use u.index (map variable_of u.params.items) (map variable_of u.results.items)
-
 abbrev pub function_of : declared_function.Function → Function
 function_of f = record {
   name = label f.name;
   exports = map text_of f.exports.items;
   uses = use_of f.uses;
-  locals = map variable_of f.locals.items;
+  locals = f.locals.items;
   body = f.body.items;
 }
 
@@ -61,13 +53,16 @@ abbrev pub target_of : Option declared_target.Target → Option Target
 target_of (Some t) = Some (target t.index t.offset.items)
 target_of None = None
 
--- the instructions of an element
-abbrev pub items_of : Element → List Instruction
-items_of (elements.Function x) = ref_func x
-items_of (elements.Expression v) = v.items
+abbrev pub expression_of : {G : Type 0} → Vec Instruction G → List Instruction
+expression_of v = v.items
 
-abbrev pub inline_elements : {G : Type 0} → Option (Vec Element G) → Option Elements
-inline_elements (Some v) = Some (map items_of v.items)
+-- the instructions of each element
+abbrev pub items_of : declared_elements.Elements → Elements
+items_of (elements.Functions v) = map ref_func v.items
+items_of (elements.Expressions v) = map expression_of v.items
+
+abbrev pub inline_elements : Option declared_elements.Elements → Option Elements
+inline_elements (Some es) = Some (items_of es)
 inline_elements None = None
 
 abbrev pub mode_of : declared_mode.ElemMode → ElemMode
@@ -85,7 +80,7 @@ field_of (fields.Global g) = Global (label g.name) (map text_of g.exports.items)
 field_of (fields.Export e) = field.Export e.name.now e.space e.index
 field_of (fields.Start i) = Start i
 field_of (fields.Data d) = Data (label d.name) (target_of d.target) (together d.strings.items)
-field_of (fields.Elem e) = Elem (label e.name) (mode_of e.mode) e.of (map items_of e.elements.items)
+field_of (fields.Elem e) = Elem (label e.name) (mode_of e.mode) e.of (items_of e.elements)
 
 abbrev pub fields_of : List declared_field.Field → List Field
 fields_of fs = map field_of fs

@@ -1,13 +1,9 @@
 //! The fields of a module.
-use wat_instructions::pieces::{Instruction, Name, ReferenceType, ValueType};
-use wat_instructions::types::FunctionType;
+ghost use Rattle.std.specs.Prelude.{◌≡◌, ◌<◌, ◌^◌, length};
+ghost use Rattle.wat_fields.specs.Views.{items_of};
 
-/// A parameter, a result or a local variable.
-#[derive(Clone, Copy)]
-pub struct Variable<'p> {
-    pub name: Name<'p>,
-    pub of: ValueType,
-}
+use wat_instructions::pieces::{Instruction, Name, ReferenceType, ValueType};
+use wat_instructions::types::{FunctionType, UnnamedUse};
 
 /// A type that a field defines.
 #[derive(Drop)]
@@ -16,21 +12,13 @@ pub struct Definition<'p> {
     pub of: FunctionType,
 }
 
-/// A type use: the index of its type, where it says one; and its parameters and results.
-#[derive(Drop)]
-pub struct TypeUse<'p> {
-    pub index: Option<usize>,
-    pub params: Vec<Variable<'p>>,
-    pub results: Vec<Variable<'p>>,
-}
-
-/// A function.
+/// A function. Its parameters and local variables have no names.
 #[derive(Drop)]
 pub struct Function<'p> {
     pub name: Name<'p>,
     pub exports: Vec<&'p [u8]>,
-    pub uses: TypeUse<'p>,
-    pub locals: Vec<Variable<'p>>,
+    pub uses: UnnamedUse,
+    pub locals: Vec<ValueType>,
     pub body: Vec<Instruction>,
 }
 
@@ -64,12 +52,25 @@ pub struct GlobalType {
     pub value: ValueType,
 }
 
-/// An element: a function by its index, which is an expression of `ref.func` alone; or any
-/// expression, by its instructions.
+/// Elements: functions by their indices, each of which is an expression of `ref.func` alone; or
+/// any expressions, by their instructions.
 #[derive(Drop)]
-pub enum Element {
-    Function(usize),
-    Expression(Vec<Instruction>),
+pub enum Elements {
+    Functions(Vec<usize>),
+    Expressions(Vec<Vec<Instruction>>),
+}
+
+impl Elements {
+    /// How many there are.
+    pub fn len(&self) -> usize
+        ensures is { result ≡ length (items_of self.now) }
+        ensures small { result < 2 ^ 63 }
+    {
+        match self {
+            Elements::Functions(functions) => functions.len(),
+            Elements::Expressions(expressions) => expressions.len(),
+        }
+    }
 }
 
 /// A table, and the elements that it brings with it, if any.
@@ -78,7 +79,7 @@ pub struct Table<'p> {
     pub name: Name<'p>,
     pub exports: Vec<&'p [u8]>,
     pub of: TableType,
-    pub elements: Option<Vec<Element>>,
+    pub elements: Option<Elements>,
 }
 
 /// A memory, and the strings of the bytes that it brings with it, if any.
@@ -111,7 +112,7 @@ pub struct Elem<'p> {
     pub name: Name<'p>,
     pub mode: ElemMode,
     pub of: ReferenceType,
-    pub elements: Vec<Element>,
+    pub elements: Elements,
 }
 
 /// A data segment: passive, or put where its target says; and the strings of its bytes.
@@ -133,8 +134,8 @@ pub struct GlobalVariable<'p> {
 
 /// What is imported.
 #[derive(Drop)]
-pub enum ExternType<'p> {
-    Func(TypeUse<'p>),
+pub enum ExternType {
+    Func(UnnamedUse),
     Table(TableType),
     Memory(Limits),
     Global(GlobalType),
@@ -147,7 +148,7 @@ pub struct Import<'p> {
     pub item: &'p [u8],
     pub name: Name<'p>,
     pub exports: Vec<&'p [u8]>,
-    pub what: ExternType<'p>,
+    pub what: ExternType,
 }
 
 /// An export of the item of an index.

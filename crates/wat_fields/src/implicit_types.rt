@@ -3,13 +3,12 @@ ghost use Rattle.std.specs.Prelude.{◌≡◌, ◌∷◌, [], IfOk, OnOk, MatchO
 ghost use Rattle.std.specs.List.{flat_map};
 ghost use Rattle.wat_fields.specs.Fields as grammar;
 ghost use Rattle.wat_fields.specs.ImplicitTypes as implicit;
-ghost use Rattle.wat_fields.specs.Views.{field_of, fields_of, items_of, mode_of};
-ghost use Rattle.wat_fields.specs.Views as fields;
+ghost use Rattle.wat_fields.specs.Views.{expression_of, field_of, fields_of, items_of, mode_of};
 ghost use Rattle.wat_instructions.specs.Types.{brought};
 ghost use Rattle.wat_instructions.specs.Uses.{expression_types, instruction_types};
 ghost use Rattle.wat_instructions.specs.Views.{type_of, use_of};
 
-use crate::fields::{ElemMode, Element, ExternType, Field, TypeUse};
+use crate::fields::{ElemMode, Elements, ExternType, Field};
 use crate::indexed_types::IndexedTypes;
 use std::alloc::{AllocError, Global};
 use wat_instructions::pieces::{Argument, Instruction};
@@ -62,23 +61,27 @@ fn add_instructions(types: &mut IndexedTypes, all: &[Instruction]) -> Result<(),
 }
 
 /// Appends the types that elements bring.
-fn add_elements(types: &mut IndexedTypes, elements: &[Element]) -> Result<(), AllocError>
-    ensures { OnOk result (types.new ≡ implicit.types_after types.old (flat_map expression_types (map items_of elements.now))) }
+#[tactic(auto, using(crate::proofs::FunctionTypes::functions_bring_none))]
+fn add_elements(types: &mut IndexedTypes, elements: &Elements) -> Result<(), AllocError>
+    ensures { OnOk result (types.new ≡ implicit.types_after types.old (flat_map expression_types (items_of elements.now))) }
 {
-    for element in elements {
-        add_element(types, element)?;
+    match elements {
+        Elements::Functions(_) => Ok(()),
+        Elements::Expressions(expressions) => add_expressions(types, expressions),
     }
-    Ok(())
 }
 
-/// Appends the types that an element brings.
-fn add_element(types: &mut IndexedTypes, element: &Element) -> Result<(), AllocError>
-    ensures { OnOk result (types.new ≡ implicit.types_after types.old (expression_types (items_of element.now))) }
+/// Appends the types that expressions bring.
+fn add_expressions(
+    types: &mut IndexedTypes,
+    expressions: &[Vec<Instruction>],
+) -> Result<(), AllocError>
+    ensures { OnOk result (types.new ≡ implicit.types_after types.old (flat_map expression_types (map expression_of expressions.now))) }
 {
-    match element {
-        Element::Function(_) => Ok(()),
-        Element::Expression(instructions) => add_instructions(types, instructions),
+    for expression in expressions {
+        add_instructions(types, expression)?;
     }
+    Ok(())
 }
 
 /// Appends the types that the offset of an active element segment brings.
@@ -92,11 +95,11 @@ fn add_mode(types: &mut IndexedTypes, mode: &ElemMode) -> Result<(), AllocError>
 }
 
 /// Appends the type of a type use that says no index.
-fn add_use(types: &mut IndexedTypes, uses: &TypeUse<'_>) -> Result<(), AllocError>
-    ensures { OnOk result (types.new ≡ implicit.types_after types.old (implicit.use_types (fields.use_of uses.now))) }
+fn add_use(types: &mut IndexedTypes, uses: &UnnamedUse) -> Result<(), AllocError>
+    ensures { OnOk result (types.new ≡ implicit.types_after types.old (brought (use_of uses.now))) }
 {
     if uses.index.is_none() {
-        types.add_used(uses)?;
+        types.add(&uses.of)?;
     }
     Ok(())
 }

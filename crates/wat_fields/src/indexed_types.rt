@@ -1,14 +1,10 @@
 //! Function types and their indices.
 ghost use Rattle.std.specs.Prelude.{◌≡◌, ◌<◌, ◌^◌, ◌++◌, ◌∷◌, [], IfOk, OnOk, map};
 ghost use Rattle.wat_fields.specs.ImplicitTypes as implicit;
-ghost use Rattle.wat_fields.specs.Fields as grammar;
 ghost use Rattle.wat_fields.specs.Indices.{AreIndices, found_type, type_key};
-ghost use Rattle.wat_fields.specs.Views.{use_of, variable_of};
-ghost use Rattle.wat_instructions.specs.Types.{same_type, same_values, type_byte};
+ghost use Rattle.wat_instructions.specs.Types.{type_byte};
 ghost use Rattle.wat_instructions.specs.Views.{type_of};
 
-use crate::fields::{TypeUse, Variable};
-use crate::variables::function_type;
 use std::alloc::{AllocError, Global};
 use std::collections::BTreeMap;
 use std::marker::Model;
@@ -77,31 +73,12 @@ impl IndexedTypes {
         Ok(self.indices.get(&key).copied())
     }
 
-    /// The least index of the type of a type use.
-    fn used_position(&self, uses: &TypeUse<'_>) -> Result<Option<usize>, AllocError>
-        ensures { IfOk result (λ i. i ≡ found_type (implicit.used_type (use_of uses.now)) self.now) }
-    {
-        if self.types.len() <= FEW {
-            return Ok(first_used(&self.types, uses));
-        }
-        let key = use_key(self.alloc, uses)?;
-        Ok(self.indices.get(&key).copied())
-    }
-
     /// The least index of this type; where it is not among them, how many there are.
     pub fn index(&self, of: &FunctionType) -> Result<usize, AllocError>
         ensures is { IfOk result (λ i. i ≡ implicit.type_index (type_of of.now) self.now) }
         ensures small { IfOk result (λ i. i < 2 ^ 63) }
     {
         let position = self.position(of)?;
-        Ok(position.unwrap_or(self.types.len()))
-    }
-
-    /// The same of the type of a type use.
-    pub fn used_index(&self, uses: &TypeUse<'_>) -> Result<usize, AllocError>
-        ensures { IfOk result (λ i. i ≡ implicit.type_index (implicit.used_type (use_of uses.now)) self.now) }
-    {
-        let position = self.used_position(uses)?;
         Ok(position.unwrap_or(self.types.len()))
     }
 
@@ -129,16 +106,6 @@ impl IndexedTypes {
         }
         Ok(())
     }
-
-    /// The same of the type of a type use.
-    pub(crate) fn add_used(&mut self, uses: &TypeUse<'_>) -> Result<(), AllocError>
-        ensures { OnOk result (self.new ≡ implicit.with_type self.old (implicit.used_type (use_of uses.now))) }
-    {
-        if self.used_position(uses)?.is_none() {
-            self.push(function_type(self.alloc, &uses.params, &uses.results)?)?;
-        }
-        Ok(())
-    }
 }
 
 /// The first of these types that is this one.
@@ -151,40 +118,6 @@ fn first(types: &[FunctionType], of: &FunctionType) -> Option<usize>
         }
     }
     None
-}
-
-/// The first of these types that is that of a type use.
-fn first_used(types: &[FunctionType], uses: &TypeUse<'_>) -> Option<usize>
-    ensures { result ≡ found_type (implicit.used_type (use_of uses.now)) (map type_of types.now) }
-{
-    for (i, known) in types.iter().enumerate() {
-        if is_used(known, uses) {
-            return Some(i);
-        }
-    }
-    None
-}
-
-/// Whether it is the type of a type use.
-fn is_used(of: &FunctionType, uses: &TypeUse<'_>) -> bool
-    ensures { result ≡ same_type (type_of of.now) (implicit.used_type (use_of uses.now)) }
-{
-    have_types(&of.params, &uses.params) && have_types(&of.results, &uses.results)
-}
-
-/// Whether these are the types of variables.
-fn have_types(types: &[ValueType], variables: &[Variable<'_>]) -> bool
-    ensures { result ≡ same_values types.now (map grammar.type_of (map variable_of variables.now)) }
-{
-    if types.len() != variables.len() {
-        return false;
-    }
-    for (i, of) in types.iter().enumerate() {
-        if type_byte(*of) != type_byte(variables[i].of) {
-            return false;
-        }
-    }
-    true
 }
 
 /// A byte that no value type has.
@@ -201,33 +134,12 @@ fn type_key(alloc: Global, of: &FunctionType) -> Result<Vec<u8>, AllocError>
     Ok(key)
 }
 
-/// The same of the type of a type use.
-fn use_key(alloc: Global, uses: &TypeUse<'_>) -> Result<Vec<u8>, AllocError>
-    ensures { IfOk result (λ key. key.items ≡ type_key (implicit.used_type (use_of uses.now))) }
-{
-    let mut key = Vec::new(alloc);
-    push_variables(&mut key, &uses.params)?;
-    key.push(BETWEEN)?;
-    push_variables(&mut key, &uses.results)?;
-    Ok(key)
-}
-
 /// Appends the bytes of value types.
 fn push_values(key: &mut Vec<u8>, types: &[ValueType]) -> Result<(), AllocError>
     ensures { OnOk result (key.new.items ≡ key.old.items ++ map type_byte types.now) }
 {
     for of in types {
         key.push(type_byte(*of))?;
-    }
-    Ok(())
-}
-
-/// Appends the bytes of the types of variables.
-fn push_variables(key: &mut Vec<u8>, variables: &[Variable<'_>]) -> Result<(), AllocError>
-    ensures { OnOk result (key.new.items ≡ key.old.items ++ map type_byte (map grammar.type_of (map variable_of variables.now))) }
-{
-    for variable in variables {
-        key.push(type_byte(variable.of))?;
     }
     Ok(())
 }

@@ -7,4 +7,3 @@ pub mod implicit_types;
 pub mod indexed_types;
 pub mod laws;
 pub mod strings;
-pub mod variables;

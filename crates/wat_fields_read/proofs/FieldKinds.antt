@@ -14,7 +14,7 @@ use Rattle.wat_fields.specs.declared.fields.TableType.{TableType}
 use Rattle.wat_instructions.specs.Types.{FunctionType, Types, same_type}
 use Rattle.wat_instructions.specs.declared.pieces.ReferenceType.{ReferenceType}
 use Rattle.wat_instructions.specs.declared.pieces.ReferenceType.TheVariants as reference
-use Rattle.wat_fields.specs.Fields.{Many, Group, InlineExport, IndexIs, by_number, by_identifier, LimitsAre, TypeUseIs, by_lists, by_index, by_both, by_unknown, ExternIs, by_type_use, by_table_type, by_memory_type, by_global_type, Variable, TypeUse, type_use, function_type, ExternType, FuncType, OfTable, OfMemory, OfGlobal, extern_space, Definition, definition, Field, TypeField, Import, Func, Table, Memory, Global, Export, Start, FieldIs, by_type, by_import, by_inline_import, by_func, by_table, by_memory, by_global, by_export, by_start, name_of, names_of, unnamed, with_locals, space_of, Data, StringIs, target, Elem, Passive, Active, Declarative, Elements, table_of, is_u32, by_table_items, by_table_functions, by_passive_elem, by_declarative_elem, by_active_elem, by_function_elem, by_memory_data, by_passive_data, by_active_data}
+use Rattle.wat_fields.specs.Fields.{Many, Group, InlineExport, IndexIs, by_number, by_identifier, LimitsAre, TypeUseIs, by_lists, by_index, by_both, by_unknown, ExternIs, by_type_use, by_table_type, by_memory_type, by_global_type, Variable, TypeUse, type_use, function_type, ExternType, FuncType, OfTable, OfMemory, OfGlobal, extern_space, Definition, definition, Field, TypeField, Import, Func, Table, Memory, Global, Export, Start, FieldIs, by_type, by_import, by_inline_import, by_func, by_table, by_memory, by_global, by_export, by_start, name_of, names_of, unnamed, with_locals, without_names, space_of, Data, StringIs, target, Elem, Passive, Active, Declarative, Elements, table_of, is_u32, by_table_items, by_table_functions, by_passive_elem, by_declarative_elem, by_active_elem, by_function_elem, by_memory_data, by_passive_data, by_active_data}
 use Rattle.wat_instructions.specs.Names.{are_distinct}
 use Rattle.wat_fields_read.specs.Reading.{and_then, after, all, closed, closing, utf8_text, export, export_item, group_item, group, function, func_at, locals, instructions, agreed, lists_after, assumed_use, either_use, listed_use, indexed_use, use_by, use_at, limits_at, table_type_at, table_limits, table_open, table_by, table_at, elem_at, memory_type, memory_by, memory_at, segment_at, data_at, global_type_at, global_at, defined, import_names, func_type, extern_at, imported, inline_import, item_by, item_at, import_by, import_word, import_open, import_at, type_by, type_at, type_field, twice_closed, external_by, external_word, external_at, export_at, start_at, field_by, field, field_item}
 use Rattle.wat_fields_read.proofs.SameTypes.{type_is, type_same}
@@ -144,8 +144,8 @@ ends_use v a b c types _ _ us (by_unknown {w = w} {ts = ts} q e k x y) h = other
 
 -- What is imported.
 
-func_type_sound : (types : Types) (ts us : List Terminal) (u : TypeUse) (t : ExternType) (r : List Terminal) (b : Bool) → TypeUseIs types ts u us → are_distinct (map name_of u.params) ≡ b → Gives (if b then Ok (FuncType u, us) else Err (Duplicate, ts)) t r → ExternIs types space.Func ts t r
-func_type_sound types ts us u t r true k d g = subst (λ x. ExternIs types space.Func ts x r) g.0 (subst (λ x. ExternIs types space.Func ts (FuncType u) x) g.1 (by_type_use k d))
+func_type_sound : (types : Types) (ts us : List Terminal) (u : TypeUse) (t : ExternType) (r : List Terminal) (b : Bool) → TypeUseIs types ts u us → are_distinct (map name_of u.params) ≡ b → Gives (if b then Ok (FuncType (without_names u), us) else Err (Duplicate, ts)) t r → ExternIs types space.Func ts t r
+func_type_sound types ts us u t r true k d g = subst (λ x. ExternIs types space.Func ts x r) g.0 (subst (λ x. ExternIs types space.Func ts (FuncType (without_names u)) x) g.1 (by_type_use k d))
 func_type_sound types ts us u t r false k d g = absurd g
 
 extern_sound : (types : Types) (s : IndexSpace) (ts : List Terminal) (t : ExternType) (us : List Terminal) → Gives (extern_at types s ts) t us → ExternIs types s ts t us
@@ -167,7 +167,7 @@ no_use us = record { lists = record { no_param = refl; no_result = refl }; no_ty
 extern_complete : (types : Types) (s : IndexSpace) (ts : List Terminal) (t : ExternType) (us vs : List Terminal) → us ≡ Close ∷ vs → ExternIs types s ts t us → extern_at types s ts ≡ Ok (t, us)
 unfolding extern_at
 extern_complete types _ ts _ us vs c (by_type_use {u = u} k d) =
-    ap (λ q. and_then q (λ u us. func_type u ts us)) (use_complete types ts u us k (subst (λ x. NoUse x) (sym c) (no_use vs))) ∙ ap (λ (b : Bool). if b then Ok (FuncType u, us) else Err (Duplicate, ts)) d
+    ap (λ q. and_then q (λ u us. func_type u ts us)) (use_complete types ts u us k (subst (λ x. NoUse x) (sym c) (no_use vs))) ∙ ap (λ (b : Bool). if b then Ok (FuncType (without_names u), us) else Err (Duplicate, ts)) d
 extern_complete types _ ts _ us vs c (by_table_type {v = v} {limits = l} {t = t} a b) =
     let k : IsTableType ts (record { limits = l; element = t }) us = record { v = v; limits = a; element = b } in ap (λ q. and_then q (λ t us. Ok (OfTable t, us))) (table_type_complete ts (record { limits = l; element = t }) us k)
 extern_complete types _ ts _ us vs c (by_memory_type {limits = l} a) =

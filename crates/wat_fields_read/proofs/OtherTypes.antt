@@ -10,11 +10,11 @@ use Rattle.wat_instructions.specs.declared.pieces.ValueType.{ValueType}
 use Rattle.wat_instructions.specs.Grammar.{Context, Folded, by_group, Instructions, is_name, label_of, past, position}
 use Rattle.wat_instructions.specs.Names.{are_distinct}
 use Rattle.wat_instructions.specs.Terminals.{Terminal, Open, Close, Word, Label}
-use Rattle.wat_instructions.specs.Types.{FunctionType, Types}
+use Rattle.wat_instructions.specs.Types.{FunctionType, Types, brought}
 use Rattle.wat_instructions.specs.Uses.{AreAmong, MoreTypesKeep, UnknownTypesBring, and_more, expression_types, unknown, retyped}
 use Rattle.wat_fields.specs.declared.fields.IndexSpace.{IndexSpace}
-use Rattle.wat_fields.specs.Fields.{Variable, TypeUse, type_use, unnamed, name_of, ExternType, FuncType, Elements, Target, target, Many, by_none, by_more, TypeUseIs, by_lists, by_index, by_both, by_unknown, ExternIs, by_type_use, by_table_type, by_memory_type, by_global_type, ExpressionIs, by_word_expression, by_instruction, ItemIs, by_item, FunctionIs, by_function, ElementsAre, by_items, by_functions, Field, Function, Func, Import, Global, Table, Elem, ElemMode, Passive, Active, Declarative, Data, is_u32, table_of, FieldIs, by_type, by_import, by_inline_import, by_func, by_table, by_table_items, by_table_functions, by_memory, by_memory_data, by_global, by_export, by_start, by_passive_elem, by_declarative_elem, by_active_elem, by_function_elem, by_passive_data, by_active_data}
-use Rattle.wat_fields.specs.ImplicitTypes.{extern_types, use_types, field_types}
+use Rattle.wat_fields.specs.Fields.{Variable, TypeUse, type_use, unnamed, name_of, type_of, without_names, ExternType, FuncType, Elements, Target, target, Many, by_none, by_more, TypeUseIs, by_lists, by_index, by_both, by_unknown, ExternIs, by_type_use, by_table_type, by_memory_type, by_global_type, ExpressionIs, by_word_expression, by_instruction, ItemIs, by_item, FunctionIs, by_function, ElementsAre, by_items, by_functions, Field, Function, Func, Import, Global, Table, Elem, ElemMode, Passive, Active, Declarative, Data, is_u32, table_of, FieldIs, by_type, by_import, by_inline_import, by_func, by_table, by_table_items, by_table_functions, by_memory, by_memory_data, by_global, by_export, by_start, by_passive_elem, by_declarative_elem, by_active_elem, by_function_elem, by_passive_data, by_active_data}
+use Rattle.wat_fields.specs.ImplicitTypes.{extern_types, field_types}
 
 never : {A : Type 0} (same : Bool) → same ≡ false → same ≡ true → A
 never true e k = cc
@@ -62,7 +62,7 @@ record LikeUse (same : Bool) (others : Types) (ts : List Terminal) (u : TypeUse)
   v : TypeUse
   spelled : TypeUseIs others ts v us
   equal : same ≡ true → u ≡ v
-  brings : use_types u ≡ use_types v
+  brings : brought (without_names u) ≡ brought (without_names v)
   params : LikeParams same u.params v.params
 
 get_more : (ts more : List FunctionType) (i : ℕ) (t : FunctionType) → slice_get ts i ≡ Some t → slice_get (ts ++ more) i ≡ Some t
@@ -132,7 +132,7 @@ record LikeExtern (same : Bool) (others : Types) (s : IndexSpace) (ts : List Ter
 
 extern_like : (same : Bool) (context : Context) (others : Types) → Change same context others → (s : IndexSpace) (ts : List Terminal) (t : ExternType) (us : List Terminal) → ExternIs context.types s ts t us → LikeExtern same others s ts t us
 extern_like same context others c _ _ _ us (by_type_use {ts = ts} {u = u} h d) =
-    let l = c.uses ts u us h in record { u = FuncType l.v; spelled = by_type_use l.spelled (alone_distinct same u.params l.v.params l.params d); equal = λ k. ap (λ x. FuncType x) (l.equal k); brings = l.brings }
+    let l = c.uses ts u us h in record { u = FuncType (without_names l.v); spelled = by_type_use l.spelled (alone_distinct same u.params l.v.params l.params d); equal = λ k. ap (λ x. FuncType (without_names x)) (l.equal k); brings = l.brings }
 extern_like same context others c _ _ _ us (by_table_type a b) = record { u = _; spelled = by_table_type a b; equal = λ k. refl; brings = refl }
 extern_like same context others c _ _ _ us (by_memory_type a) = record { u = _; spelled = by_memory_type a; equal = λ k. refl; brings = refl }
 extern_like same context others c _ _ _ us (by_global_type a) = record { u = _; spelled = by_global_type a; equal = λ k. refl; brings = refl }
@@ -191,7 +191,7 @@ record LikeFields (same : Bool) (others : Types) (context : Context) (ts : List 
   brings : flat_map field_types fs ≡ flat_map field_types gs
 
 abbrev function : Label → List (List ℕ) → List Variable → TypeUse → List Instruction → Function
-function l ns ls u is = record { name = l; exports = ns; uses = u; locals = ls; body = is }
+function l ns ls u is = record { name = l; exports = ns; uses = without_names u; locals = map type_of ls; body = is }
 
 one : (f g : Field) → field_types f ≡ field_types g → flat_map field_types (f ∷ []) ≡ flat_map field_types (g ∷ [])
 one f g e = ap (λ x. x ++ []) e
@@ -213,7 +213,7 @@ field_like same context others c _ _ r (by_func {ts = ts} {hs = hs} {bs = bs} {d
       gs = Func (function (label_of ts).0 ns ls l.v m.js) ∷ [];
       spelled = by_func e k l.spelled a (params_distinct same u.params l.v.params ls l.params d) m.spelled;
       equal = λ k. ap (λ x. Func (function (label_of ts).0 ns ls x is) ∷ []) (l.equal k) ∙ ap (λ x. Func (function (label_of ts).0 ns ls l.v x) ∷ []) (m.equal k);
-      brings = one (Func (function (label_of ts).0 ns ls u is)) (Func (function (label_of ts).0 ns ls l.v m.js)) (ap (λ x. x ++ expression_types is) l.brings ∙ ap (λ x. use_types l.v ++ x) m.brings);
+      brings = one (Func (function (label_of ts).0 ns ls u is)) (Func (function (label_of ts).0 ns ls l.v m.js)) (ap (λ x. x ++ expression_types is) l.brings ∙ ap (λ x. brought (without_names l.v) ++ x) m.brings);
     }
 field_like same context others c _ _ r (by_table a b d e) = kept same others context _ _ r (by_table a b d e)
 field_like same context others c _ _ r (by_table_items {ts = ts} {hs = hs} {names = ns} {t = t} {es = es} e a k b m low) =

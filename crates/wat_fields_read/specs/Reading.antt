@@ -16,7 +16,7 @@ use Rattle.wat_fields.specs.declared.fields.IndexSpace.{IndexSpace}
 use Rattle.wat_fields.specs.declared.fields.IndexSpace.TheVariants as space
 use Rattle.wat_fields.specs.declared.fields.Limits.{Limits}
 use Rattle.wat_fields.specs.declared.fields.TableType.{TableType}
-use Rattle.wat_fields.specs.Fields.{Field, Func, Table, Memory, Global, Export, Import, TypeField, Start, Function, TypeUse, ExternType, FuncType, OfTable, OfMemory, OfGlobal, Definition, Binding, Variable, binding, definition, definition_type, function_type, type_use, variable, unnamed, name_of, names_of, context_of, types_in, with_locals, all_distinct, imports_first, space_of, starts_of, Data, Elem, ElemMode, Passive, Active, Declarative, Elements, ref_func, table_of, Target, target, is_u32, pages_of}
+use Rattle.wat_fields.specs.Fields.{Field, Func, Table, Memory, Global, Export, Import, TypeField, Start, Function, TypeUse, ExternType, FuncType, OfTable, OfMemory, OfGlobal, Definition, Binding, Variable, binding, definition, definition_type, function_type, type_use, variable, unnamed, name_of, names_of, context_of, type_of, types_in, with_locals, without_names, all_distinct, imports_first, space_of, starts_of, Data, Elem, ElemMode, Passive, Active, Declarative, Elements, ref_func, table_of, Target, target, is_u32, pages_of}
 use Rattle.wat_instructions.specs.Names.{are_distinct}
 use Rattle.wat_instructions.specs.Uses.{unknown}
 use Rattle.wat_fields.specs.ImplicitTypes.{types_of}
@@ -154,7 +154,7 @@ unfoldable pub use_at : Types → List Terminal → Read TypeUse
 use_at types ts = use_by types (after (codes "type") ts) ts
 
 abbrev pub function : Label → List (List ℕ) → TypeUse → List Variable → List Instruction → Function
-function l ns u ls is = record { name = l; exports = ns; uses = u; locals = ls; body = is }
+function l ns u ls is = record { name = l; exports = ns; uses = without_names u; locals = map type_of ls; body = is }
 
 -- the instructions after parameters and local variables
 unfoldable pub instructions : Context → List Variable → List Variable → List Terminal → Read (List Instruction)
@@ -318,7 +318,7 @@ unfoldable pub import_names : List Terminal → Read (List ℕ × List ℕ)
 import_names ts = and_then (utf8_text ts) (λ m us. and_then (utf8_text us) (λ n vs. Ok ((m, n), vs)))
 
 abbrev pub func_type : TypeUse → List Terminal → List Terminal → Read ExternType
-func_type u all ts = if are_distinct (map name_of u.params) then Ok (FuncType u, ts) else Err (Duplicate, all)
+func_type u all ts = if are_distinct (map name_of u.params) then Ok (FuncType (without_names u), ts) else Err (Duplicate, all)
 
 -- what is imported, after its name
 unfoldable pub extern_at : Types → IndexSpace → List Terminal → Read ExternType
@@ -615,7 +615,7 @@ abbrev pub fault_of : Fault → Fault → Fault
 fault_of (UnknownName, ts) g = g
 fault_of f g = f
 
--- by the types that fields define and type uses bring, which these fields tell that were read without the types; or the fault
+-- by the types that fields define and type uses bring, as the fields have them that were read without the types; or the fault
 abbrev pub fields_again : Bool → List (List Terminal) → List Terminal → Fault → Read (List Field) → Result (List Field) Fault
 fields_again enclosed ss ts f (Ok (fs, us)) = fields_by enclosed ss (all_types ss fs) ts
 fields_again enclosed ss ts f (Err g) = Err (fault_of f g)

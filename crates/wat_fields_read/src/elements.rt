@@ -2,7 +2,7 @@
 ghost use Rattle.std.specs.Prelude.{◌≡◌, [], ◌∷◌, Ok, Err, Some, codes, map, MatchOption, MatchResult};
 ghost use Rattle.wat_fields.specs.Fields as grammar;
 ghost use Rattle.wat_fields_read.specs.Reading as reading;
-ghost use Rattle.wat_fields.specs.Views.{field_of, items_of, mode_of, text_of};
+ghost use Rattle.wat_fields.specs.Views.{expression_of, field_of, items_of, mode_of, text_of};
 ghost use Rattle.wat_fields_read.specs.Views.{IsItem, ItemFaults, NoItem, context_of};
 ghost use Rattle.wat_instructions.specs.Grammar.{label_of, reference_type};
 ghost use Rattle.wat_instructions.specs.Parts.{Faults, fault_of};
@@ -14,18 +14,20 @@ use crate::names::Names;
 use crate::segments::{expression, used};
 use crate::types::{table_type, twice_closed};
 use std::alloc::Global;
-use wat_fields::fields::{Elem, ElemMode, Element, Field, Limits, Table, TableType, Target};
-use wat_instructions::pieces::{Fault, FaultKind, Name, Piece, ReferenceType, Refusal};
+use wat_fields::fields::{Elem, ElemMode, Elements, Field, Limits, Table, TableType, Target};
+use wat_instructions::pieces::{
+    Fault, FaultKind, Instruction, Name, Piece, ReferenceType, Refusal,
+};
 use wat_instructions::reading;
 
 /// Elements by their instructions.
 fn items<'p, 'a>(
     alloc: Global,
-    names: &Names<'p>,
+    names: &Names<'a>,
     pieces: &'p [Piece<'a>],
-) -> Result<(Vec<Element>, &'p [Piece<'a>]), Refusal<'p, 'a>>
+) -> Result<(Vec<Vec<Instruction>>, &'p [Piece<'a>]), Refusal<'p, 'a>>
     ensures { MatchResult result
-        (λ r. reading.all (reading.element_item (context_of names.now)) (map terminal pieces.now) ≡ Ok (map items_of r.0.items, map terminal r.1.now))
+        (λ r. reading.all (reading.element_item (context_of names.now)) (map terminal pieces.now) ≡ Ok (map expression_of r.0.items, map terminal r.1.now))
         (λ e. Faults (reading.all (reading.element_item (context_of names.now)) (map terminal pieces.now)) e) }
 {
     wat_instructions::laws::machine_is_grammar();
@@ -48,20 +50,20 @@ fn items<'p, 'a>(
 #[tactic(auto, unfolding(crate::specs::Reading::element_item))]
 fn next_item<'p, 'a>(
     alloc: Global,
-    names: &Names<'p>,
-    found: &mut Vec<Element>,
+    names: &Names<'a>,
+    found: &mut Vec<Vec<Instruction>>,
     left: Left<'p, 'a>,
 ) -> Result<Option<Left<'p, 'a>>, Refusal<'p, 'a>>
     ensures { MatchResult result
         (λ o. MatchOption o
-        (NoItem (reading.element_item (context_of names.now) (map terminal left.entry.pieces.now)) (map items_of found.old.items) (map items_of found.new.items))
-        (λ l. IsItem (reading.element_item (context_of names.now) (map terminal left.entry.pieces.now)) (map items_of found.old.items) (map items_of found.new.items) (map terminal l.pieces.now)))
+        (NoItem (reading.element_item (context_of names.now) (map terminal left.entry.pieces.now)) (map expression_of found.old.items) (map expression_of found.new.items))
+        (λ l. IsItem (reading.element_item (context_of names.now) (map terminal left.entry.pieces.now)) (map expression_of found.old.items) (map expression_of found.new.items) (map terminal l.pieces.now)))
         (λ e. ItemFaults (reading.element_item (context_of names.now) (map terminal left.entry.pieces.now)) e) }
 {
     match left.pieces {
         [Piece::Open, ..] => match expression(alloc, names, "item", left.pieces) {
             Ok((element, pieces)) => {
-                found.push(Element::Expression(element))?;
+                found.push(element)?;
                 Ok(Some(Left { pieces }))
             }
             Err(refusal) => Err(refusal),
@@ -73,11 +75,11 @@ fn next_item<'p, 'a>(
 /// Elements by their functions.
 fn functions<'p, 'a>(
     alloc: Global,
-    names: &Names<'p>,
+    names: &Names<'a>,
     pieces: &'p [Piece<'a>],
-) -> Result<(Vec<Element>, &'p [Piece<'a>]), Refusal<'p, 'a>>
+) -> Result<(Vec<usize>, &'p [Piece<'a>]), Refusal<'p, 'a>>
     ensures { MatchResult result
-        (λ r. reading.all (reading.function_item (context_of names.now)) (map terminal pieces.now) ≡ Ok (map items_of r.0.items, map terminal r.1.now))
+        (λ r. reading.all (reading.function_item (context_of names.now)) (map terminal pieces.now) ≡ Ok (map grammar.ref_func r.0.items, map terminal r.1.now))
         (λ e. Faults (reading.all (reading.function_item (context_of names.now)) (map terminal pieces.now)) e) }
 {
     wat_instructions::laws::machine_is_grammar();
@@ -99,20 +101,20 @@ fn functions<'p, 'a>(
 /// One of them, where there is one.
 #[tactic(auto, unfolding(crate::specs::Reading::function_item))]
 fn next_function<'p, 'a>(
-    names: &Names<'p>,
-    found: &mut Vec<Element>,
+    names: &Names<'a>,
+    found: &mut Vec<usize>,
     left: Left<'p, 'a>,
 ) -> Result<Option<Left<'p, 'a>>, Refusal<'p, 'a>>
     ensures { MatchResult result
         (λ o. MatchOption o
-        (NoItem (reading.function_item (context_of names.now) (map terminal left.entry.pieces.now)) (map items_of found.old.items) (map items_of found.new.items))
-        (λ l. IsItem (reading.function_item (context_of names.now) (map terminal left.entry.pieces.now)) (map items_of found.old.items) (map items_of found.new.items) (map terminal l.pieces.now)))
+        (NoItem (reading.function_item (context_of names.now) (map terminal left.entry.pieces.now)) (map grammar.ref_func found.old.items) (map grammar.ref_func found.new.items))
+        (λ l. IsItem (reading.function_item (context_of names.now) (map terminal left.entry.pieces.now)) (map grammar.ref_func found.old.items) (map grammar.ref_func found.new.items) (map terminal l.pieces.now)))
         (λ e. ItemFaults (reading.function_item (context_of names.now) (map terminal left.entry.pieces.now)) e) }
 {
     match left.pieces {
         [Piece::Integer(_, _) | Piece::Id(_), ..] => {
             let (index, pieces) = reading::index(&names.funcs, left.pieces)?;
-            found.push(Element::Function(index))?;
+            found.push(index)?;
             Ok(Some(Left { pieces }))
         }
         _ => Ok(None),
@@ -123,16 +125,22 @@ fn next_function<'p, 'a>(
 #[tactic(auto, unfolding(crate::specs::Reading::either_at))]
 fn either<'p, 'a>(
     alloc: Global,
-    names: &Names<'p>,
+    names: &Names<'a>,
     pieces: &'p [Piece<'a>],
-) -> Result<(Vec<Element>, &'p [Piece<'a>]), Refusal<'p, 'a>>
+) -> Result<(Elements, &'p [Piece<'a>]), Refusal<'p, 'a>>
     ensures { MatchResult result
-        (λ r. reading.either_at (context_of names.now) (map terminal pieces.now) ≡ Ok (map items_of r.0.items, map terminal r.1.now))
+        (λ r. reading.either_at (context_of names.now) (map terminal pieces.now) ≡ Ok (items_of r.0, map terminal r.1.now))
         (λ e. Faults (reading.either_at (context_of names.now) (map terminal pieces.now)) e) }
 {
     match pieces {
-        [Piece::Open, ..] => items(alloc, names, pieces),
-        _ => functions(alloc, names, pieces),
+        [Piece::Open, ..] => {
+            let (expressions, rest) = items(alloc, names, pieces)?;
+            Ok((Elements::Expressions(expressions), rest))
+        }
+        _ => {
+            let (functions, rest) = functions(alloc, names, pieces)?;
+            Ok((Elements::Functions(functions), rest))
+        }
     }
 }
 
@@ -140,11 +148,11 @@ fn either<'p, 'a>(
 #[tactic(auto, unfolding(crate::specs::Reading::table_at))]
 pub(crate) fn table_at<'p, 'a>(
     alloc: Global,
-    names: &Names<'p>,
-    name: Name<'p>,
-    exports: Vec<&'p [u8]>,
+    names: &Names<'a>,
+    name: Name<'a>,
+    exports: Vec<&'a [u8]>,
     pieces: &'p [Piece<'a>],
-) -> Result<(Field<'p>, &'p [Piece<'a>]), Refusal<'p, 'a>>
+) -> Result<(Field<'a>, &'p [Piece<'a>]), Refusal<'p, 'a>>
     ensures { MatchResult result
         (λ r. reading.table_at (context_of names.now) (label name.entry) (map text_of exports.entry.items) (map terminal pieces.now) ≡ Ok (field_of r.0 ∷ [], map terminal r.1.now))
         (λ e. Faults (reading.table_at (context_of names.now) (label name.entry) (map text_of exports.entry.items) (map terminal pieces.now)) e) }
@@ -173,10 +181,10 @@ pub(crate) fn table_at<'p, 'a>(
 
 /// A table that brings no elements.
 fn table_limits<'p, 'a>(
-    name: Name<'p>,
-    exports: Vec<&'p [u8]>,
+    name: Name<'a>,
+    exports: Vec<&'a [u8]>,
     pieces: &'p [Piece<'a>],
-) -> Result<(Field<'p>, &'p [Piece<'a>]), Fault<'p, 'a>>
+) -> Result<(Field<'a>, &'p [Piece<'a>]), Fault<'p, 'a>>
     ensures { MatchResult result
         (λ r. reading.table_limits (label name.entry) (map text_of exports.entry.items) (map terminal pieces.now) ≡ Ok (field_of r.0 ∷ [], map terminal r.1.now))
         (λ f. reading.table_limits (label name.entry) (map text_of exports.entry.items) (map terminal pieces.now) ≡ Err (fault_of f)) }
@@ -197,12 +205,12 @@ fn table_limits<'p, 'a>(
 /// A table after the type of its elements.
 fn table_open<'p, 'a>(
     alloc: Global,
-    names: &Names<'p>,
-    name: Name<'p>,
-    exports: Vec<&'p [u8]>,
+    names: &Names<'a>,
+    name: Name<'a>,
+    exports: Vec<&'a [u8]>,
     of: ReferenceType,
     pieces: &'p [Piece<'a>],
-) -> Result<(Field<'p>, &'p [Piece<'a>]), Refusal<'p, 'a>>
+) -> Result<(Field<'a>, &'p [Piece<'a>]), Refusal<'p, 'a>>
     ensures { MatchResult result
         (λ r. reading.table_by (context_of names.now) (label name.entry) (map text_of exports.entry.items) (Some of) (map terminal pieces.now) (map terminal pieces.now) ≡ Ok (field_of r.0 ∷ [], map terminal r.1.now))
         (λ e. Faults (reading.table_by (context_of names.now) (label name.entry) (map text_of exports.entry.items) (Some of) (map terminal pieces.now) (map terminal pieces.now)) e) }
@@ -219,12 +227,12 @@ fn table_open<'p, 'a>(
 /// The same after `(elem`.
 fn table_elements<'p, 'a>(
     alloc: Global,
-    names: &Names<'p>,
-    name: Name<'p>,
-    exports: Vec<&'p [u8]>,
+    names: &Names<'a>,
+    name: Name<'a>,
+    exports: Vec<&'a [u8]>,
     of: ReferenceType,
     pieces: &'p [Piece<'a>],
-) -> Result<(Field<'p>, &'p [Piece<'a>]), Refusal<'p, 'a>>
+) -> Result<(Field<'a>, &'p [Piece<'a>]), Refusal<'p, 'a>>
     ensures { MatchResult result
         (λ r. reading.table_elements (context_of names.now) (label name.entry) (map text_of exports.entry.items) of (map terminal pieces.now) ≡ Ok (field_of r.0 ∷ [], map terminal r.1.now))
         (λ e. Faults (reading.table_elements (context_of names.now) (label name.entry) (map text_of exports.entry.items) of (map terminal pieces.now)) e) }
@@ -236,16 +244,16 @@ fn table_elements<'p, 'a>(
 
 /// A table of as many elements as these, which it brings.
 fn table_with<'p, 'a>(
-    name: Name<'p>,
-    exports: Vec<&'p [u8]>,
+    name: Name<'a>,
+    exports: Vec<&'a [u8]>,
     of: ReferenceType,
     all: &'p [Piece<'a>],
-    elements: Vec<Element>,
+    elements: Elements,
     rest: &'p [Piece<'a>],
-) -> Result<(Field<'p>, &'p [Piece<'a>]), Fault<'p, 'a>>
+) -> Result<(Field<'a>, &'p [Piece<'a>]), Fault<'p, 'a>>
     ensures { MatchResult result
-        (λ r. reading.table_with (label name.entry) (map text_of exports.entry.items) of (map terminal all.now) (map items_of elements.items) (map terminal rest.now) ≡ Ok (field_of r.0 ∷ [], map terminal r.1.now))
-        (λ f. reading.table_with (label name.entry) (map text_of exports.entry.items) of (map terminal all.now) (map items_of elements.items) (map terminal rest.now) ≡ Err (fault_of f)) }
+        (λ r. reading.table_with (label name.entry) (map text_of exports.entry.items) of (map terminal all.now) (items_of elements) (map terminal rest.now) ≡ Ok (field_of r.0 ∷ [], map terminal r.1.now))
+        (λ f. reading.table_with (label name.entry) (map text_of exports.entry.items) of (map terminal all.now) (items_of elements) (map terminal rest.now) ≡ Err (fault_of f)) }
 {
     if elements.len() >= 0x1_0000_0000 {
         return Err(Fault {
@@ -275,11 +283,11 @@ fn table_with<'p, 'a>(
 #[tactic(auto, unfolding(crate::specs::Reading::elements_at))]
 fn elements<'p, 'a>(
     alloc: Global,
-    names: &Names<'p>,
+    names: &Names<'a>,
     pieces: &'p [Piece<'a>],
-) -> Result<((ReferenceType, Vec<Element>), &'p [Piece<'a>]), Refusal<'p, 'a>>
+) -> Result<((ReferenceType, Elements), &'p [Piece<'a>]), Refusal<'p, 'a>>
     ensures { MatchResult result
-        (λ r. reading.elements_at (context_of names.now) (map terminal pieces.now) ≡ Ok ((r.0.0, map items_of r.0.1.items), map terminal r.1.now))
+        (λ r. reading.elements_at (context_of names.now) (map terminal pieces.now) ≡ Ok ((r.0.0, items_of r.0.1), map terminal r.1.now))
         (λ e. Faults (reading.elements_at (context_of names.now) (map terminal pieces.now)) e) }
 {
     match pieces {
@@ -294,24 +302,24 @@ fn elements<'p, 'a>(
 /// The same after its word, with which all these tokens begin.
 fn elements_after<'p, 'a>(
     alloc: Global,
-    names: &Names<'p>,
+    names: &Names<'a>,
     word: &str,
     all: &'p [Piece<'a>],
     pieces: &'p [Piece<'a>],
-) -> Result<((ReferenceType, Vec<Element>), &'p [Piece<'a>]), Refusal<'p, 'a>>
+) -> Result<((ReferenceType, Elements), &'p [Piece<'a>]), Refusal<'p, 'a>>
     ensures { MatchResult result
-        (λ r. reading.elements_by (context_of names.now) word.now (reference_type word.now) (map terminal all.now) (map terminal pieces.now) ≡ Ok ((r.0.0, map items_of r.0.1.items), map terminal r.1.now))
+        (λ r. reading.elements_by (context_of names.now) word.now (reference_type word.now) (map terminal all.now) (map terminal pieces.now) ≡ Ok ((r.0.0, items_of r.0.1), map terminal r.1.now))
         (λ e. Faults (reading.elements_by (context_of names.now) word.now (reference_type word.now) (map terminal all.now) (map terminal pieces.now)) e) }
 {
     match reading::reference_type(word) {
         Some(of) => {
-            let (elements, rest) = items(alloc, names, pieces)?;
-            Ok(((of, elements), rest))
+            let (expressions, rest) = items(alloc, names, pieces)?;
+            Ok(((of, Elements::Expressions(expressions)), rest))
         }
         None => {
             if word == "func" {
-                let (elements, rest) = functions(alloc, names, pieces)?;
-                Ok(((ReferenceType::Func, elements), rest))
+                let (functions, rest) = functions(alloc, names, pieces)?;
+                Ok(((ReferenceType::Func, Elements::Functions(functions)), rest))
             } else {
                 Err(Refusal::Text(Fault {
                     kind: FaultKind::UnknownWord,
@@ -325,11 +333,11 @@ fn elements_after<'p, 'a>(
 /// A list of elements, and `)`.
 fn elem_list<'p, 'a>(
     alloc: Global,
-    names: &Names<'p>,
-    name: Name<'p>,
+    names: &Names<'a>,
+    name: Name<'a>,
     mode: ElemMode,
     pieces: &'p [Piece<'a>],
-) -> Result<(Field<'p>, &'p [Piece<'a>]), Refusal<'p, 'a>>
+) -> Result<(Field<'a>, &'p [Piece<'a>]), Refusal<'p, 'a>>
     ensures { MatchResult result
         (λ r. reading.elem_list (context_of names.now) (label name.entry) (mode_of mode) (map terminal pieces.now) ≡ Ok (field_of r.0 ∷ [], map terminal r.1.now))
         (λ e. Faults (reading.elem_list (context_of names.now) (label name.entry) (mode_of mode) (map terminal pieces.now)) e) }
@@ -350,23 +358,23 @@ fn elem_list<'p, 'a>(
 /// Functions that are elements, and `)`.
 fn functions_list<'p, 'a>(
     alloc: Global,
-    names: &Names<'p>,
-    name: Name<'p>,
+    names: &Names<'a>,
+    name: Name<'a>,
     mode: ElemMode,
     pieces: &'p [Piece<'a>],
-) -> Result<(Field<'p>, &'p [Piece<'a>]), Refusal<'p, 'a>>
+) -> Result<(Field<'a>, &'p [Piece<'a>]), Refusal<'p, 'a>>
     ensures { MatchResult result
         (λ r. reading.functions_list (context_of names.now) (label name.entry) (mode_of mode) (map terminal pieces.now) ≡ Ok (field_of r.0 ∷ [], map terminal r.1.now))
         (λ e. Faults (reading.functions_list (context_of names.now) (label name.entry) (mode_of mode) (map terminal pieces.now)) e) }
 {
-    let (elements, rest) = functions(alloc, names, pieces)?;
+    let (functions, rest) = functions(alloc, names, pieces)?;
     let rest = closed(rest)?;
     Ok((
         Field::Elem(Elem {
             name,
             mode,
             of: ReferenceType::Func,
-            elements,
+            elements: Elements::Functions(functions),
         }),
         rest,
     ))
@@ -376,11 +384,11 @@ fn functions_list<'p, 'a>(
 #[tactic(auto, unfolding(crate::specs::Reading::first_table))]
 fn first_table<'p, 'a>(
     alloc: Global,
-    names: &Names<'p>,
-    name: Name<'p>,
+    names: &Names<'a>,
+    name: Name<'a>,
     mode: ElemMode,
     pieces: &'p [Piece<'a>],
-) -> Result<(Field<'p>, &'p [Piece<'a>]), Refusal<'p, 'a>>
+) -> Result<(Field<'a>, &'p [Piece<'a>]), Refusal<'p, 'a>>
     ensures { MatchResult result
         (λ r. reading.first_table (context_of names.now) (label name.entry) (mode_of mode) (map terminal pieces.now) ≡ Ok (field_of r.0 ∷ [], map terminal r.1.now))
         (λ e. Faults (reading.first_table (context_of names.now) (label name.entry) (mode_of mode) (map terminal pieces.now)) e) }
@@ -394,10 +402,10 @@ fn first_table<'p, 'a>(
 /// Elements of the table that is said.
 fn said_table<'p, 'a>(
     alloc: Global,
-    names: &Names<'p>,
-    name: Name<'p>,
+    names: &Names<'a>,
+    name: Name<'a>,
     pieces: &'p [Piece<'a>],
-) -> Result<(Field<'p>, &'p [Piece<'a>]), Refusal<'p, 'a>>
+) -> Result<(Field<'a>, &'p [Piece<'a>]), Refusal<'p, 'a>>
     ensures { MatchResult result
         (λ r. reading.said_table (context_of names.now) (label name.entry) (map terminal pieces.now) ≡ Ok (field_of r.0 ∷ [], map terminal r.1.now))
         (λ e. Faults (reading.said_table (context_of names.now) (label name.entry) (map terminal pieces.now)) e) }
@@ -411,10 +419,10 @@ fn said_table<'p, 'a>(
 /// Elements of a table.
 fn active_elem<'p, 'a>(
     alloc: Global,
-    names: &Names<'p>,
-    name: Name<'p>,
+    names: &Names<'a>,
+    name: Name<'a>,
     pieces: &'p [Piece<'a>],
-) -> Result<(Field<'p>, &'p [Piece<'a>]), Refusal<'p, 'a>>
+) -> Result<(Field<'a>, &'p [Piece<'a>]), Refusal<'p, 'a>>
     ensures { MatchResult result
         (λ r. reading.active_elem (context_of names.now) (label name.entry) (reading.after (codes "table") (map terminal pieces.now)) (map terminal pieces.now) ≡ Ok (field_of r.0 ∷ [], map terminal r.1.now))
         (λ e. Faults (reading.active_elem (context_of names.now) (label name.entry) (reading.after (codes "table") (map terminal pieces.now)) (map terminal pieces.now)) e) }
@@ -438,9 +446,9 @@ fn active_elem<'p, 'a>(
 /// An element segment, after its word.
 pub(crate) fn elem_at<'p, 'a>(
     alloc: Global,
-    names: &Names<'p>,
+    names: &Names<'a>,
     pieces: &'p [Piece<'a>],
-) -> Result<(Field<'p>, &'p [Piece<'a>]), Refusal<'p, 'a>>
+) -> Result<(Field<'a>, &'p [Piece<'a>]), Refusal<'p, 'a>>
     ensures { MatchResult result
         (λ r. reading.elem_at (context_of names.now) (label_of (map terminal pieces.now)) ≡ Ok (field_of r.0 ∷ [], map terminal r.1.now))
         (λ e. Faults (reading.elem_at (context_of names.now) (label_of (map terminal pieces.now))) e) }
@@ -453,10 +461,10 @@ pub(crate) fn elem_at<'p, 'a>(
 #[tactic(auto, unfolding(crate::specs::Reading::elem_after))]
 fn elem_after<'p, 'a>(
     alloc: Global,
-    names: &Names<'p>,
-    name: Name<'p>,
+    names: &Names<'a>,
+    name: Name<'a>,
     pieces: &'p [Piece<'a>],
-) -> Result<(Field<'p>, &'p [Piece<'a>]), Refusal<'p, 'a>>
+) -> Result<(Field<'a>, &'p [Piece<'a>]), Refusal<'p, 'a>>
     ensures { MatchResult result
         (λ r. reading.elem_after (context_of names.now) (label name.entry) (map terminal pieces.now) ≡ Ok (field_of r.0 ∷ [], map terminal r.1.now))
         (λ e. Faults (reading.elem_after (context_of names.now) (label name.entry) (map terminal pieces.now)) e) }
@@ -475,12 +483,12 @@ fn elem_after<'p, 'a>(
 /// begin.
 fn elem_word<'p, 'a>(
     alloc: Global,
-    names: &Names<'p>,
-    name: Name<'p>,
+    names: &Names<'a>,
+    name: Name<'a>,
     word: &str,
     all: &'p [Piece<'a>],
     pieces: &'p [Piece<'a>],
-) -> Result<(Field<'p>, &'p [Piece<'a>]), Refusal<'p, 'a>>
+) -> Result<(Field<'a>, &'p [Piece<'a>]), Refusal<'p, 'a>>
     ensures { MatchResult result
         (λ r. reading.elem_word (context_of names.now) (label name.entry) word.now (map terminal all.now) (map terminal pieces.now) ≡ Ok (field_of r.0 ∷ [], map terminal r.1.now))
         (λ e. Faults (reading.elem_word (context_of names.now) (label name.entry) word.now (map terminal all.now) (map terminal pieces.now)) e) }

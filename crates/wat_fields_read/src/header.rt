@@ -1,17 +1,17 @@
 //! Inline exports, and groups of parameters, results and local variables.
-ghost use Rattle.std.specs.Prelude.{◌≡◌, [], ◌∷◌, Ok, Err, map, true, false, codes, IfOk, None, Some, MatchOption, MatchResult};
+ghost use Rattle.std.specs.Prelude.{◌≡◌, [], ◌++◌, ◌∷◌, Ok, Err, map, true, false, codes, IfOk, OnOk, None, Some, MatchOption, MatchResult};
 ghost use Rattle.std.specs.Str.{is_utf8};
 ghost use Rattle.wat_fields.specs.Fields.{unnamed};
 ghost use Rattle.wat_fields_read.specs.Reading as reading;
-ghost use Rattle.wat_fields.specs.Views.{text_of, variable_of};
-ghost use Rattle.wat_fields_read.specs.Views.{IsItem, ItemFaults, NoItem};
+ghost use Rattle.wat_fields.specs.Views.{text_of};
+ghost use Rattle.wat_fields_read.specs.Views.{IsItem, ItemFaults, NoItem, variable_of};
 ghost use Rattle.wat_instructions.specs.Parts.{Faults, fault_of};
 ghost use Rattle.wat_instructions.specs.Terminals.{terminal};
 
 use crate::module::Left;
+use crate::variables::Variable;
 use std::alloc::{AllocError, Global};
 use std::str;
-use wat_fields::fields::Variable;
 use wat_instructions::pieces::{Fault, FaultKind, Name, Piece, Refusal, ValueType};
 use wat_instructions::reading::value_type;
 
@@ -19,7 +19,7 @@ use wat_instructions::reading::value_type;
 pub(crate) fn exports<'p, 'a>(
     alloc: Global,
     pieces: &'p [Piece<'a>],
-) -> Result<(Vec<&'p [u8]>, &'p [Piece<'a>]), Refusal<'p, 'a>>
+) -> Result<(Vec<&'a [u8]>, &'p [Piece<'a>]), Refusal<'p, 'a>>
     ensures { MatchResult result
         (λ r. reading.all reading.export_item (map terminal pieces.now) ≡ Ok (map text_of r.0.items, map terminal r.1.now))
         (λ e. Faults (reading.all reading.export_item (map terminal pieces.now)) e) }
@@ -43,7 +43,7 @@ pub(crate) fn variables<'p, 'a>(
     word: &str,
     may_have_name: bool,
     pieces: &'p [Piece<'a>],
-) -> Result<(Vec<Variable<'p>>, &'p [Piece<'a>]), Refusal<'p, 'a>>
+) -> Result<(Vec<Variable<'a>>, &'p [Piece<'a>]), Refusal<'p, 'a>>
     ensures { MatchResult result
         (λ r. reading.all (reading.group_item word.now may_have_name) (map terminal pieces.now) ≡ Ok (map variable_of r.0.items, map terminal r.1.now))
         (λ e. Faults (reading.all (reading.group_item word.now may_have_name) (map terminal pieces.now)) e) }
@@ -131,7 +131,7 @@ fn is_utf8(bytes: &[u8]) -> bool
 /// A string that is UTF-8.
 pub(crate) fn utf8_text<'p, 'a>(
     pieces: &'p [Piece<'a>],
-) -> Result<(&'p [u8], &'p [Piece<'a>]), Fault<'p, 'a>>
+) -> Result<(&'a [u8], &'p [Piece<'a>]), Fault<'p, 'a>>
     ensures { MatchResult result
         (λ r. reading.utf8_text (map terminal pieces.now) ≡ Ok (r.0.now, map terminal r.1.now))
         (λ f. reading.utf8_text (map terminal pieces.now) ≡ Err (fault_of f)) }
@@ -156,7 +156,7 @@ pub(crate) fn utf8_text<'p, 'a>(
 
 /// The name of an export, and `)`.
 #[tactic(auto, unfolding(crate::specs::Reading::export))]
-fn export<'p, 'a>(pieces: &'p [Piece<'a>]) -> Result<(&'p [u8], &'p [Piece<'a>]), Fault<'p, 'a>>
+fn export<'p, 'a>(pieces: &'p [Piece<'a>]) -> Result<(&'a [u8], &'p [Piece<'a>]), Fault<'p, 'a>>
     ensures { MatchResult result
         (λ r. reading.export (map terminal pieces.now) ≡ Ok (r.0.now ∷ [], map terminal r.1.now))
         (λ f. reading.export (map terminal pieces.now) ≡ Err (fault_of f)) }
@@ -169,7 +169,7 @@ fn export<'p, 'a>(pieces: &'p [Piece<'a>]) -> Result<(&'p [u8], &'p [Piece<'a>])
 /// One export, where there is one.
 #[tactic(auto, unfolding(crate::specs::Reading::export_item))]
 fn next_export<'p, 'a>(
-    found: &mut Vec<&'p [u8]>,
+    found: &mut Vec<&'a [u8]>,
     left: Left<'p, 'a>,
 ) -> Result<Option<Left<'p, 'a>>, Refusal<'p, 'a>>
     ensures { MatchResult result
@@ -194,7 +194,7 @@ fn next_group<'p, 'a>(
     alloc: Global,
     word: &str,
     may_have_name: bool,
-    found: &mut Vec<Variable<'p>>,
+    found: &mut Vec<Variable<'a>>,
     left: Left<'p, 'a>,
 ) -> Result<Option<Left<'p, 'a>>, Refusal<'p, 'a>>
     ensures { MatchResult result
@@ -206,13 +206,27 @@ fn next_group<'p, 'a>(
     match after(word, left.pieces) {
         Some(rest) => match group(alloc, may_have_name, rest) {
             Ok((variables, pieces)) => {
-                found.extend_from_slice(&variables)?;
+                put_variables(found, variables)?;
                 Ok(Some(Left { pieces }))
             }
             Err(refusal) => Err(refusal),
         },
         None => Ok(None),
     }
+}
+
+/// Appends variables. The first are moved, since most groups are alone.
+fn put_variables<'a>(
+    found: &mut Vec<Variable<'a>>,
+    variables: Vec<Variable<'a>>,
+) -> Result<(), AllocError>
+    ensures { OnOk result (map variable_of found.new.items ≡ map variable_of found.old.items ++ map variable_of variables.entry.items) }
+{
+    if found.is_empty() {
+        *found = variables;
+        return Ok(());
+    }
+    found.extend_from_slice(&variables)
 }
 
 /// One value type, where there is a word.
@@ -248,7 +262,7 @@ fn group<'p, 'a>(
     alloc: Global,
     may_have_name: bool,
     pieces: &'p [Piece<'a>],
-) -> Result<(Vec<Variable<'p>>, &'p [Piece<'a>]), Refusal<'p, 'a>>
+) -> Result<(Vec<Variable<'a>>, &'p [Piece<'a>]), Refusal<'p, 'a>>
     ensures { MatchResult result
         (λ r. reading.group may_have_name (map terminal pieces.now) ≡ Ok (map variable_of r.0.items, map terminal r.1.now))
         (λ e. Faults (reading.group may_have_name (map terminal pieces.now)) e) }
@@ -256,7 +270,7 @@ fn group<'p, 'a>(
     match pieces {
         [Piece::Id(name), rest @ ..] => {
             if may_have_name {
-                named_one(alloc, name, rest)
+                named_one(alloc, *name, rest)
             } else {
                 Err(Refusal::Text(Fault {
                     kind: FaultKind::Unexpected,
@@ -271,9 +285,9 @@ fn group<'p, 'a>(
 /// After a name: its type, and `)`.
 fn named_one<'p, 'a>(
     alloc: Global,
-    name: &'p str,
+    name: &'a str,
     pieces: &'p [Piece<'a>],
-) -> Result<(Vec<Variable<'p>>, &'p [Piece<'a>]), Refusal<'p, 'a>>
+) -> Result<(Vec<Variable<'a>>, &'p [Piece<'a>]), Refusal<'p, 'a>>
     ensures { MatchResult result
         (λ r. reading.named_one name.now (map terminal pieces.now) ≡ Ok (map variable_of r.0.items, map terminal r.1.now))
         (λ e. Faults (reading.named_one name.now (map terminal pieces.now)) e) }
@@ -296,10 +310,10 @@ fn named_one<'p, 'a>(
 /// After a name and its type: `)`.
 fn named_type<'p, 'a>(
     alloc: Global,
-    name: &'p str,
+    name: &'a str,
     of: ValueType,
     pieces: &'p [Piece<'a>],
-) -> Result<(Vec<Variable<'p>>, &'p [Piece<'a>]), Refusal<'p, 'a>>
+) -> Result<(Vec<Variable<'a>>, &'p [Piece<'a>]), Refusal<'p, 'a>>
     ensures { MatchResult result
         (λ r. reading.named_type name.now (Some of) (map terminal pieces.now) (map terminal pieces.now) ≡ Ok (map variable_of r.0.items, map terminal r.1.now))
         (λ e. Faults (reading.named_type name.now (Some of) (map terminal pieces.now) (map terminal pieces.now)) e) }
@@ -316,7 +330,7 @@ fn named_type<'p, 'a>(
 fn listed<'p, 'a>(
     alloc: Global,
     pieces: &'p [Piece<'a>],
-) -> Result<(Vec<Variable<'p>>, &'p [Piece<'a>]), Refusal<'p, 'a>>
+) -> Result<(Vec<Variable<'a>>, &'p [Piece<'a>]), Refusal<'p, 'a>>
     ensures { MatchResult result
         (λ r. reading.listed (map terminal pieces.now) ≡ Ok (map variable_of r.0.items, map terminal r.1.now))
         (λ e. Faults (reading.listed (map terminal pieces.now)) e) }
@@ -328,13 +342,13 @@ fn listed<'p, 'a>(
 }
 
 /// Variables without names.
-pub(crate) fn unnamed<'p>(
+pub(crate) fn unnamed<'a>(
     alloc: Global,
     types: &[ValueType],
-) -> Result<Vec<Variable<'p>>, AllocError>
+) -> Result<Vec<Variable<'a>>, AllocError>
     ensures { IfOk result (λ variables. map variable_of variables.items ≡ map unnamed types.now) }
 {
-    let mut variables = Vec::new(alloc);
+    let mut variables = Vec::with_capacity(alloc, types.len())?;
     let name = Name::Absent;
     for of in types {
         variables.push(Variable { name, of: *of })?;

@@ -10,3 +10,4 @@ mod names;
 mod segments;
 mod types;
 mod uses;
+mod variables;

@@ -4,8 +4,8 @@ ghost use Rattle.wat_fields.specs.Fields as grammar;
 ghost use Rattle.wat_fields.specs.ImplicitTypes as implicit;
 ghost use Rattle.wat_fields.specs.Modules.{Module};
 ghost use Rattle.wat_fields_read.specs.Reading as reading;
-ghost use Rattle.wat_fields.specs.Views.{extern_of, field_of, fields_of, text_of, use_of, variable_of};
-ghost use Rattle.wat_fields_read.specs.Views.{IsItem, ItemFaults, NoItem, context_of, types_of, with_names};
+ghost use Rattle.wat_fields.specs.Views.{extern_of, field_of, fields_of, text_of};
+ghost use Rattle.wat_fields_read.specs.Views.{IsItem, ItemFaults, NoItem, context_of, types_of, use_of, variable_of, with_names};
 ghost use Rattle.wat_instructions.specs.Grammar.{label_of};
 ghost use Rattle.wat_instructions.specs.Parts.{Faults, IsMemory, fault_of, scope_of};
 ghost use Rattle.wat_instructions.specs.Terminals.{Terminal, label, terminal};
@@ -18,10 +18,9 @@ use crate::names::{Names, names_in, names_of, variable_names, with_types, withou
 use crate::segments::{memory_at, segment};
 use crate::types::{global_type, limits, space_of, table_type, twice_closed};
 use crate::uses::{type_at, type_use};
+use crate::variables::{TypeUse, Variable, value_types, without_names};
 use std::alloc::Global;
-use wat_fields::fields::{
-    Export, ExternType, Field, Function, GlobalVariable, Import, IndexSpace, TypeUse, Variable,
-};
+use wat_fields::fields::{Export, ExternType, Field, Function, GlobalVariable, Import, IndexSpace};
 use wat_fields::implicit_types;
 use wat_instructions::machine;
 use wat_instructions::names::IndexedNames;
@@ -38,11 +37,11 @@ pub(crate) struct Left<'p, 'a> {
 /// The fields of a module.
 ///
 /// It answers fields exactly where the grammar spells a module, and they are its fields; any other
-/// refusal is the first fault, or out of memory.
+/// refusal is a fault with its place, or out of memory. What is borrowed lives as long as the text.
 pub fn module<'p, 'a>(
     alloc: Global,
     pieces: &'p [Piece<'a>],
-) -> Result<Vec<Field<'p>>, Refusal<'p, 'a>>
+) -> Result<Vec<Field<'a>>, Refusal<'p, 'a>>
     ensures read { IfOk result (λ fields. Module (map terminal pieces.now) (fields_of fields.items)) }
     ensures spelled { (fs : List grammar.Field) → Module (map terminal pieces.now) fs →
         MatchResult result (λ fields. fields_of fields.items ≡ fs) IsMemory }
@@ -54,7 +53,7 @@ pub fn module<'p, 'a>(
 
 /// The same, by what is read.
 #[tactic(auto, unfolding(crate::specs::Reading::whole))]
-fn whole<'p, 'a>(alloc: Global, pieces: &'p [Piece<'a>]) -> Result<Vec<Field<'p>>, Refusal<'p, 'a>>
+fn whole<'p, 'a>(alloc: Global, pieces: &'p [Piece<'a>]) -> Result<Vec<Field<'a>>, Refusal<'p, 'a>>
     ensures { MatchResult result
         (λ fs. reading.whole (map terminal pieces.now) ≡ Ok (fields_of fs.items))
         (λ e. Faults (reading.whole (map terminal pieces.now)) e) }
@@ -73,7 +72,7 @@ fn module_fields<'p, 'a>(
     alloc: Global,
     enclosed: bool,
     pieces: &'p [Piece<'a>],
-) -> Result<Vec<Field<'p>>, Refusal<'p, 'a>>
+) -> Result<Vec<Field<'a>>, Refusal<'p, 'a>>
     ensures { MatchResult result
         (λ fs. reading.fields_at enclosed (map terminal pieces.now) ≡ Ok (fields_of fs.items))
         (λ e. Faults (reading.fields_at enclosed (map terminal pieces.now)) e) }
@@ -95,10 +94,10 @@ fn module_fields<'p, 'a>(
 fn fields_again<'p, 'a>(
     alloc: Global,
     enclosed: bool,
-    names: Names<'p>,
+    names: Names<'a>,
     fault: Fault<'p, 'a>,
     pieces: &'p [Piece<'a>],
-) -> Result<Vec<Field<'p>>, Refusal<'p, 'a>>
+) -> Result<Vec<Field<'a>>, Refusal<'p, 'a>>
     ensures { (ss : List (List Terminal)) → types_of names.entry ≡ reading.defined_types ss → context_of names.entry ≡ reading.context_by ss (reading.defined_types ss) → MatchResult result
         (λ fs. reading.fields_again enclosed ss (map terminal pieces.now) (fault_of fault.entry) (reading.all_by ss (unknown (reading.defined_types ss)) (map terminal pieces.now)) ≡ Ok (fields_of fs.items))
         (λ e. Faults (reading.fields_again enclosed ss (map terminal pieces.now) (fault_of fault.entry) (reading.all_by ss (unknown (reading.defined_types ss)) (map terminal pieces.now))) e) }
@@ -117,7 +116,7 @@ fn fields_again<'p, 'a>(
 /// All types, from fields that are read without knowing them. The fields take memory until then.
 fn types_without<'p, 'a>(
     alloc: Global,
-    names: &Names<'p>,
+    names: &Names<'a>,
     pieces: &'p [Piece<'a>],
 ) -> Result<Vec<FunctionType>, Refusal<'p, 'a>>
     ensures { MatchResult result
@@ -143,9 +142,9 @@ fn first_fault<'p, 'a>(fault: Fault<'p, 'a>, other: Fault<'p, 'a>) -> Fault<'p, 
 fn fields_by<'p, 'a>(
     alloc: Global,
     enclosed: bool,
-    names: &Names<'p>,
+    names: &Names<'a>,
     pieces: &'p [Piece<'a>],
-) -> Result<Vec<Field<'p>>, Refusal<'p, 'a>>
+) -> Result<Vec<Field<'a>>, Refusal<'p, 'a>>
     ensures { MatchResult result
         (λ fs. reading.ordered (map terminal pieces.now) (reading.ended_by enclosed (reading.all (reading.field_item (types_of names.now) (context_of names.now)) (map terminal pieces.now))) ≡ Ok (fields_of fs.items))
         (λ e. Faults (reading.ordered (map terminal pieces.now) (reading.ended_by enclosed (reading.all (reading.field_item (types_of names.now) (context_of names.now)) (map terminal pieces.now)))) e) }
@@ -269,9 +268,9 @@ fn starts(fields: &[Field<'_>]) -> usize
 /// All fields.
 fn fields<'p, 'a>(
     alloc: Global,
-    names: &Names<'p>,
+    names: &Names<'a>,
     pieces: &'p [Piece<'a>],
-) -> Result<(Vec<Field<'p>>, &'p [Piece<'a>]), Refusal<'p, 'a>>
+) -> Result<(Vec<Field<'a>>, &'p [Piece<'a>]), Refusal<'p, 'a>>
     ensures { MatchResult result
         (λ r. reading.all (reading.field_item (types_of names.now) (context_of names.now)) (map terminal pieces.now) ≡ Ok (fields_of r.0.items, map terminal r.1.now))
         (λ e. Faults (reading.all (reading.field_item (types_of names.now) (context_of names.now)) (map terminal pieces.now)) e) }
@@ -296,8 +295,8 @@ fn fields<'p, 'a>(
 #[tactic(auto, unfolding(crate::specs::Reading::field_item))]
 fn next_field<'p, 'a>(
     alloc: Global,
-    names: &Names<'p>,
-    found: &mut Vec<Field<'p>>,
+    names: &Names<'a>,
+    found: &mut Vec<Field<'a>>,
     left: Left<'p, 'a>,
 ) -> Result<Option<Left<'p, 'a>>, Refusal<'p, 'a>>
     ensures { MatchResult result
@@ -321,9 +320,9 @@ fn next_field<'p, 'a>(
 /// A field after its `(`.
 fn field_at<'p, 'a>(
     alloc: Global,
-    names: &Names<'p>,
+    names: &Names<'a>,
     pieces: &'p [Piece<'a>],
-) -> Result<(Field<'p>, &'p [Piece<'a>]), Refusal<'p, 'a>>
+) -> Result<(Field<'a>, &'p [Piece<'a>]), Refusal<'p, 'a>>
     ensures { MatchResult result
         (λ r. reading.field (types_of names.now) (context_of names.now) (map terminal pieces.now) ≡ Ok (field_of r.0 ∷ [], map terminal r.1.now))
         (λ e. Faults (reading.field (types_of names.now) (context_of names.now) (map terminal pieces.now)) e) }
@@ -340,11 +339,11 @@ fn field_at<'p, 'a>(
 /// A field after its word, with which all these tokens begin.
 fn field_after<'p, 'a>(
     alloc: Global,
-    names: &Names<'p>,
+    names: &Names<'a>,
     word: &str,
     all: &'p [Piece<'a>],
     pieces: &'p [Piece<'a>],
-) -> Result<(Field<'p>, &'p [Piece<'a>]), Refusal<'p, 'a>>
+) -> Result<(Field<'a>, &'p [Piece<'a>]), Refusal<'p, 'a>>
     ensures { MatchResult result
         (λ r. reading.field_by (types_of names.now) (context_of names.now) (grammar.space_of word.now) word.now (map terminal all.now) (map terminal pieces.now) ≡ Ok (field_of r.0 ∷ [], map terminal r.1.now))
         (λ e. Faults (reading.field_by (types_of names.now) (context_of names.now) (grammar.space_of word.now) word.now (map terminal all.now) (map terminal pieces.now)) e) }
@@ -358,10 +357,10 @@ fn field_after<'p, 'a>(
 /// A function, a table, a memory or a global, after its word.
 fn item<'p, 'a>(
     alloc: Global,
-    names: &Names<'p>,
+    names: &Names<'a>,
     space: IndexSpace,
     pieces: &'p [Piece<'a>],
-) -> Result<(Field<'p>, &'p [Piece<'a>]), Refusal<'p, 'a>>
+) -> Result<(Field<'a>, &'p [Piece<'a>]), Refusal<'p, 'a>>
     ensures { MatchResult result
         (λ r. reading.item_at (types_of names.now) (context_of names.now) space (label_of (map terminal pieces.now)) ≡ Ok (field_of r.0 ∷ [], map terminal r.1.now))
         (λ e. Faults (reading.item_at (types_of names.now) (context_of names.now) space (label_of (map terminal pieces.now))) e) }
@@ -377,12 +376,12 @@ fn item<'p, 'a>(
 /// A definition, after its name and its exports.
 fn defined<'p, 'a>(
     alloc: Global,
-    names: &Names<'p>,
+    names: &Names<'a>,
     space: IndexSpace,
-    name: Name<'p>,
-    exports: Vec<&'p [u8]>,
+    name: Name<'a>,
+    exports: Vec<&'a [u8]>,
     pieces: &'p [Piece<'a>],
-) -> Result<(Field<'p>, &'p [Piece<'a>]), Refusal<'p, 'a>>
+) -> Result<(Field<'a>, &'p [Piece<'a>]), Refusal<'p, 'a>>
     ensures { MatchResult result
         (λ r. reading.defined (types_of names.now) (context_of names.now) space (label name.entry) (map text_of exports.entry.items) (map terminal pieces.now) ≡ Ok (field_of r.0 ∷ [], map terminal r.1.now))
         (λ e. Faults (reading.defined (types_of names.now) (context_of names.now) space (label name.entry) (map text_of exports.entry.items) (map terminal pieces.now)) e) }
@@ -398,11 +397,11 @@ fn defined<'p, 'a>(
 /// A function, after its name and its exports.
 fn func<'p, 'a>(
     alloc: Global,
-    names: &Names<'p>,
-    name: Name<'p>,
-    exports: Vec<&'p [u8]>,
+    names: &Names<'a>,
+    name: Name<'a>,
+    exports: Vec<&'a [u8]>,
     pieces: &'p [Piece<'a>],
-) -> Result<(Field<'p>, &'p [Piece<'a>]), Refusal<'p, 'a>>
+) -> Result<(Field<'a>, &'p [Piece<'a>]), Refusal<'p, 'a>>
     ensures { MatchResult result
         (λ r. reading.func_at (types_of names.now) (context_of names.now) (label name.entry) (map text_of exports.entry.items) (map terminal pieces.now) ≡ Ok (field_of r.0 ∷ [], map terminal r.1.now))
         (λ e. Faults (reading.func_at (types_of names.now) (context_of names.now) (label name.entry) (map text_of exports.entry.items) (map terminal pieces.now)) e) }
@@ -410,6 +409,8 @@ fn func<'p, 'a>(
     let (uses, rest) = type_use(alloc, names, pieces)?;
     let (locals, rest) = variables(alloc, "local", true, rest)?;
     let (body, rest) = instructions(alloc, names, &uses.params, &locals, rest)?;
+    let uses = without_names(alloc, &uses)?;
+    let locals = value_types(alloc, &locals)?;
     Ok((
         Field::Func(Function {
             name,
@@ -425,11 +426,11 @@ fn func<'p, 'a>(
 /// A global variable, after its name and its exports.
 fn global<'p, 'a>(
     alloc: Global,
-    names: &Names<'p>,
-    name: Name<'p>,
-    exports: Vec<&'p [u8]>,
+    names: &Names<'a>,
+    name: Name<'a>,
+    exports: Vec<&'a [u8]>,
     pieces: &'p [Piece<'a>],
-) -> Result<(Field<'p>, &'p [Piece<'a>]), Refusal<'p, 'a>>
+) -> Result<(Field<'a>, &'p [Piece<'a>]), Refusal<'p, 'a>>
     ensures { MatchResult result
         (λ r. reading.global_at (context_of names.now) (label name.entry) (map text_of exports.entry.items) (map terminal pieces.now) ≡ Ok (field_of r.0 ∷ [], map terminal r.1.now))
         (λ e. Faults (reading.global_at (context_of names.now) (label name.entry) (map text_of exports.entry.items) (map terminal pieces.now)) e) }
@@ -453,7 +454,7 @@ fn global<'p, 'a>(
 #[tactic(auto, unfolding(crate::specs::Reading::import_names))]
 fn import_names<'p, 'a>(
     pieces: &'p [Piece<'a>],
-) -> Result<((&'p [u8], &'p [u8]), &'p [Piece<'a>]), Fault<'p, 'a>>
+) -> Result<((&'a [u8], &'a [u8]), &'p [Piece<'a>]), Fault<'p, 'a>>
     ensures { MatchResult result
         (λ r. reading.import_names (map terminal pieces.now) ≡ Ok ((r.0.0.now, r.0.1.now), map terminal r.1.now))
         (λ f. reading.import_names (map terminal pieces.now) ≡ Err (fault_of f)) }
@@ -467,10 +468,10 @@ fn import_names<'p, 'a>(
 #[tactic(auto, unfolding(crate::specs::Reading::extern_at))]
 fn extern_type<'p, 'a>(
     alloc: Global,
-    names: &Names<'p>,
+    names: &Names<'a>,
     space: IndexSpace,
     pieces: &'p [Piece<'a>],
-) -> Result<(ExternType<'p>, &'p [Piece<'a>]), Refusal<'p, 'a>>
+) -> Result<(ExternType, &'p [Piece<'a>]), Refusal<'p, 'a>>
     ensures { MatchResult result
         (λ r. reading.extern_at (types_of names.now) space (map terminal pieces.now) ≡ Ok (extern_of r.0, map terminal r.1.now))
         (λ e. Faults (reading.extern_at (types_of names.now) space (map terminal pieces.now)) e) }
@@ -498,10 +499,10 @@ fn extern_type<'p, 'a>(
 /// An imported function, of which no two parameters have the same name.
 fn func_type<'p, 'a>(
     alloc: Global,
-    uses: TypeUse<'p>,
+    uses: TypeUse<'a>,
     all: &'p [Piece<'a>],
     rest: &'p [Piece<'a>],
-) -> Result<(ExternType<'p>, &'p [Piece<'a>]), Refusal<'p, 'a>>
+) -> Result<(ExternType, &'p [Piece<'a>]), Refusal<'p, 'a>>
     ensures { MatchResult result
         (λ r. reading.func_type (use_of uses.entry) (map terminal all.now) (map terminal rest.now) ≡ Ok (extern_of r.0, map terminal r.1.now))
         (λ e. Faults (reading.func_type (use_of uses.entry) (map terminal all.now) (map terminal rest.now)) e) }
@@ -512,18 +513,19 @@ fn func_type<'p, 'a>(
             left: all,
         }));
     }
+    let uses = without_names(alloc, &uses)?;
     Ok((ExternType::Func(uses), rest))
 }
 
 /// An inline import, after its name, its exports and `(import`.
 fn inline_import<'p, 'a>(
     alloc: Global,
-    names: &Names<'p>,
+    names: &Names<'a>,
     space: IndexSpace,
-    name: Name<'p>,
-    exports: Vec<&'p [u8]>,
+    name: Name<'a>,
+    exports: Vec<&'a [u8]>,
     pieces: &'p [Piece<'a>],
-) -> Result<(Field<'p>, &'p [Piece<'a>]), Refusal<'p, 'a>>
+) -> Result<(Field<'a>, &'p [Piece<'a>]), Refusal<'p, 'a>>
     ensures { MatchResult result
         (λ r. reading.inline_import (types_of names.now) space (label name.entry) (map text_of exports.entry.items) (map terminal pieces.now) ≡ Ok (field_of r.0 ∷ [], map terminal r.1.now))
         (λ e. Faults (reading.inline_import (types_of names.now) space (label name.entry) (map text_of exports.entry.items) (map terminal pieces.now)) e) }
@@ -548,11 +550,11 @@ fn inline_import<'p, 'a>(
 /// these tokens begin.
 fn other<'p, 'a>(
     alloc: Global,
-    names: &Names<'p>,
+    names: &Names<'a>,
     word: &str,
     all: &'p [Piece<'a>],
     pieces: &'p [Piece<'a>],
-) -> Result<(Field<'p>, &'p [Piece<'a>]), Refusal<'p, 'a>>
+) -> Result<(Field<'a>, &'p [Piece<'a>]), Refusal<'p, 'a>>
     ensures { MatchResult result
         (λ r. reading.other_at (types_of names.now) (context_of names.now) word.now (map terminal all.now) (map terminal pieces.now) ≡ Ok (field_of r.0 ∷ [], map terminal r.1.now))
         (λ e. Faults (reading.other_at (types_of names.now) (context_of names.now) word.now (map terminal all.now) (map terminal pieces.now)) e) }
@@ -576,7 +578,7 @@ fn other<'p, 'a>(
 fn type_field<'p, 'a>(
     alloc: Global,
     pieces: &'p [Piece<'a>],
-) -> Result<(Field<'p>, &'p [Piece<'a>]), Refusal<'p, 'a>>
+) -> Result<(Field<'a>, &'p [Piece<'a>]), Refusal<'p, 'a>>
     ensures { MatchResult result
         (λ r. reading.type_field (map terminal pieces.now) ≡ Ok (field_of r.0 ∷ [], map terminal r.1.now))
         (λ e. Faults (reading.type_field (map terminal pieces.now)) e) }
@@ -588,9 +590,9 @@ fn type_field<'p, 'a>(
 /// An import, after its word.
 fn import_at<'p, 'a>(
     alloc: Global,
-    names: &Names<'p>,
+    names: &Names<'a>,
     pieces: &'p [Piece<'a>],
-) -> Result<(Field<'p>, &'p [Piece<'a>]), Refusal<'p, 'a>>
+) -> Result<(Field<'a>, &'p [Piece<'a>]), Refusal<'p, 'a>>
     ensures { MatchResult result
         (λ r. reading.import_at (types_of names.now) (map terminal pieces.now) ≡ Ok (field_of r.0 ∷ [], map terminal r.1.now))
         (λ e. Faults (reading.import_at (types_of names.now) (map terminal pieces.now)) e) }
@@ -603,11 +605,11 @@ fn import_at<'p, 'a>(
 #[tactic(auto, unfolding(crate::specs::Reading::import_open))]
 fn import_open<'p, 'a>(
     alloc: Global,
-    names: &Names<'p>,
-    from: &'p [u8],
-    item: &'p [u8],
+    names: &Names<'a>,
+    from: &'a [u8],
+    item: &'a [u8],
     pieces: &'p [Piece<'a>],
-) -> Result<(Field<'p>, &'p [Piece<'a>]), Refusal<'p, 'a>>
+) -> Result<(Field<'a>, &'p [Piece<'a>]), Refusal<'p, 'a>>
     ensures { MatchResult result
         (λ r. reading.import_open (types_of names.now) (from.now, item.now) (map terminal pieces.now) ≡ Ok (field_of r.0 ∷ [], map terminal r.1.now))
         (λ e. Faults (reading.import_open (types_of names.now) (from.now, item.now) (map terminal pieces.now)) e) }
@@ -624,11 +626,11 @@ fn import_open<'p, 'a>(
 /// The same after `(`.
 fn import_word<'p, 'a>(
     alloc: Global,
-    names: &Names<'p>,
-    from: &'p [u8],
-    item: &'p [u8],
+    names: &Names<'a>,
+    from: &'a [u8],
+    item: &'a [u8],
     pieces: &'p [Piece<'a>],
-) -> Result<(Field<'p>, &'p [Piece<'a>]), Refusal<'p, 'a>>
+) -> Result<(Field<'a>, &'p [Piece<'a>]), Refusal<'p, 'a>>
     ensures { MatchResult result
         (λ r. reading.import_word (types_of names.now) (from.now, item.now) (map terminal pieces.now) ≡ Ok (field_of r.0 ∷ [], map terminal r.1.now))
         (λ e. Faults (reading.import_word (types_of names.now) (from.now, item.now) (map terminal pieces.now)) e) }
@@ -651,12 +653,12 @@ fn import_word<'p, 'a>(
 /// The same after the word of an index space.
 fn import_item<'p, 'a>(
     alloc: Global,
-    names: &Names<'p>,
-    from: &'p [u8],
-    item: &'p [u8],
+    names: &Names<'a>,
+    from: &'a [u8],
+    item: &'a [u8],
     space: IndexSpace,
     pieces: &'p [Piece<'a>],
-) -> Result<(Field<'p>, &'p [Piece<'a>]), Refusal<'p, 'a>>
+) -> Result<(Field<'a>, &'p [Piece<'a>]), Refusal<'p, 'a>>
     ensures { MatchResult result
         (λ r. reading.extern_after (types_of names.now) (from.now, item.now) space (label_of (map terminal pieces.now)) ≡ Ok (field_of r.0 ∷ [], map terminal r.1.now))
         (λ e. Faults (reading.extern_after (types_of names.now) (from.now, item.now) space (label_of (map terminal pieces.now))) e) }
@@ -679,9 +681,9 @@ fn import_item<'p, 'a>(
 
 /// An export, after its word.
 fn export_at<'p, 'a>(
-    names: &Names<'p>,
+    names: &Names<'a>,
     pieces: &'p [Piece<'a>],
-) -> Result<(Field<'p>, &'p [Piece<'a>]), Fault<'p, 'a>>
+) -> Result<(Field<'a>, &'p [Piece<'a>]), Fault<'p, 'a>>
     ensures { MatchResult result
         (λ r. reading.export_at (context_of names.now) (map terminal pieces.now) ≡ Ok (field_of r.0 ∷ [], map terminal r.1.now))
         (λ f. reading.export_at (context_of names.now) (map terminal pieces.now) ≡ Err (fault_of f)) }
@@ -693,10 +695,10 @@ fn export_at<'p, 'a>(
 /// What is exported under a name.
 #[tactic(auto, unfolding(crate::specs::Reading::external_at))]
 fn external<'p, 'a>(
-    names: &Names<'p>,
-    name: &'p [u8],
+    names: &Names<'a>,
+    name: &'a [u8],
     pieces: &'p [Piece<'a>],
-) -> Result<(Field<'p>, &'p [Piece<'a>]), Fault<'p, 'a>>
+) -> Result<(Field<'a>, &'p [Piece<'a>]), Fault<'p, 'a>>
     ensures { MatchResult result
         (λ r. reading.external_at (context_of names.now) name.now (map terminal pieces.now) ≡ Ok (field_of r.0 ∷ [], map terminal r.1.now))
         (λ f. reading.external_at (context_of names.now) name.now (map terminal pieces.now) ≡ Err (fault_of f)) }
@@ -712,10 +714,10 @@ fn external<'p, 'a>(
 
 /// The same after `(`.
 fn external_word<'p, 'a>(
-    names: &Names<'p>,
-    name: &'p [u8],
+    names: &Names<'a>,
+    name: &'a [u8],
     pieces: &'p [Piece<'a>],
-) -> Result<(Field<'p>, &'p [Piece<'a>]), Fault<'p, 'a>>
+) -> Result<(Field<'a>, &'p [Piece<'a>]), Fault<'p, 'a>>
     ensures { MatchResult result
         (λ r. reading.external_word (context_of names.now) name.now (map terminal pieces.now) ≡ Ok (field_of r.0 ∷ [], map terminal r.1.now))
         (λ f. reading.external_word (context_of names.now) name.now (map terminal pieces.now) ≡ Err (fault_of f)) }
@@ -737,11 +739,11 @@ fn external_word<'p, 'a>(
 
 /// The same after the word of an index space.
 fn external_index<'p, 'a>(
-    names: &Names<'p>,
-    name: &'p [u8],
+    names: &Names<'a>,
+    name: &'a [u8],
     space: IndexSpace,
     pieces: &'p [Piece<'a>],
-) -> Result<(Field<'p>, &'p [Piece<'a>]), Fault<'p, 'a>>
+) -> Result<(Field<'a>, &'p [Piece<'a>]), Fault<'p, 'a>>
     ensures { MatchResult result
         (λ r. reading.external_by (context_of names.now) name.now (Some space) (map terminal pieces.now) (map terminal pieces.now) ≡ Ok (field_of r.0 ∷ [], map terminal r.1.now))
         (λ f. reading.external_by (context_of names.now) name.now (Some space) (map terminal pieces.now) (map terminal pieces.now) ≡ Err (fault_of f)) }
@@ -753,9 +755,9 @@ fn external_index<'p, 'a>(
 
 /// A start function, after its word.
 fn start_at<'p, 'a>(
-    names: &Names<'p>,
+    names: &Names<'a>,
     pieces: &'p [Piece<'a>],
-) -> Result<(Field<'p>, &'p [Piece<'a>]), Fault<'p, 'a>>
+) -> Result<(Field<'a>, &'p [Piece<'a>]), Fault<'p, 'a>>
     ensures { MatchResult result
         (λ r. reading.start_at (context_of names.now) (map terminal pieces.now) ≡ Ok (field_of r.0 ∷ [], map terminal r.1.now))
         (λ f. reading.start_at (context_of names.now) (map terminal pieces.now) ≡ Err (fault_of f)) }
@@ -787,9 +789,9 @@ pub(crate) fn scope<'s, 'n>(names: &'s Names<'n>, locals: &'s IndexedNames<'n>) 
 #[tactic(auto, unfolding(crate::specs::Reading::instructions))]
 fn instructions<'p, 'a>(
     alloc: Global,
-    names: &Names<'p>,
-    params: &[Variable<'p>],
-    locals: &[Variable<'p>],
+    names: &Names<'a>,
+    params: &[Variable<'a>],
+    locals: &[Variable<'a>],
     pieces: &'p [Piece<'a>],
 ) -> Result<(Vec<Instruction>, &'p [Piece<'a>]), Refusal<'p, 'a>>
     ensures { MatchResult result

@@ -4,8 +4,8 @@ ghost use Rattle.std.specs.List.{flat_map};
 ghost use Rattle.wat_fields.specs.Fields.{all_distinct, definition_name, definition_type, is_space, name_of, names_in, names_of};
 ghost use Rattle.wat_fields.specs.Fields as grammar;
 ghost use Rattle.wat_fields_read.specs.Reading as reading;
-ghost use Rattle.wat_fields.specs.Views.{definition_of, variable_of};
-ghost use Rattle.wat_fields_read.specs.Views.{binding_of, context_of, depth_of, left_of, types_of};
+ghost use Rattle.wat_fields.specs.Views.{definition_of};
+ghost use Rattle.wat_fields_read.specs.Views.{binding_of, context_of, depth_of, left_of, types_of, variable_of};
 ghost use Rattle.wat_instructions.specs.Grammar.{label_of};
 ghost use Rattle.wat_instructions.specs.Names.{are_distinct};
 ghost use Rattle.wat_instructions.specs.Terminals.{label, terminal};
@@ -16,8 +16,9 @@ use crate::header::{after, exports};
 use crate::module::Left;
 use crate::types::space_of;
 use crate::uses::type_at;
+use crate::variables::Variable;
 use std::alloc::{AllocError, Global};
-use wat_fields::fields::{Definition, IndexSpace, Variable};
+use wat_fields::fields::{Definition, IndexSpace};
 use wat_instructions::names::IndexedNames;
 use wat_instructions::pieces::{Name, Piece, Refusal};
 use wat_instructions::reading::label;
@@ -32,21 +33,21 @@ enum Depth {
 
 /// An item of an index space.
 #[derive(Clone, Copy)]
-struct Binding<'p> {
+struct Binding<'a> {
     space: IndexSpace,
-    name: Name<'p>,
+    name: Name<'a>,
 }
 
 /// The names of each index space, in the order of their indices; and the types.
 #[derive(Drop)]
-pub(crate) struct Names<'p> {
-    pub(crate) funcs: IndexedNames<'p>,
-    pub(crate) tables: IndexedNames<'p>,
-    pub(crate) memories: IndexedNames<'p>,
-    pub(crate) globals: IndexedNames<'p>,
-    pub(crate) elems: IndexedNames<'p>,
-    pub(crate) datas: IndexedNames<'p>,
-    pub(crate) type_names: IndexedNames<'p>,
+pub(crate) struct Names<'a> {
+    pub(crate) funcs: IndexedNames<'a>,
+    pub(crate) tables: IndexedNames<'a>,
+    pub(crate) memories: IndexedNames<'a>,
+    pub(crate) globals: IndexedNames<'a>,
+    pub(crate) elems: IndexedNames<'a>,
+    pub(crate) datas: IndexedNames<'a>,
+    pub(crate) type_names: IndexedNames<'a>,
     pub(crate) types: Vec<FunctionType>,
     /// Whether types are looked up. Where not, any index of a type is taken.
     pub(crate) are_types_known: bool,
@@ -57,7 +58,7 @@ pub(crate) struct Names<'p> {
 pub(crate) fn names_of<'p, 'a>(
     alloc: Global,
     pieces: &'p [Piece<'a>],
-) -> Result<Option<Names<'p>>, AllocError>
+) -> Result<Option<Names<'a>>, AllocError>
     ensures context { IfOk result (λ found. IfSome found (λ names. context_of names ≡ reading.context_by (reading.starts reading.Before [] (map terminal pieces.now)) (reading.defined_types (reading.starts reading.Before [] (map terminal pieces.now))))) }
     ensures types { IfOk result (λ found. IfSome found (λ names. types_of names ≡ reading.defined_types (reading.starts reading.Before [] (map terminal pieces.now)))) }
     ensures distinct { IfOk result (λ found. is_some found ≡ all_distinct (reading.defined_types (reading.starts reading.Before [] (map terminal pieces.now))) (reading.context_by (reading.starts reading.Before [] (map terminal pieces.now)) (reading.defined_types (reading.starts reading.Before [] (map terminal pieces.now))))) }
@@ -100,7 +101,7 @@ pub(crate) fn names_of<'p, 'a>(
 }
 
 /// The same without knowing the types.
-pub(crate) fn without_types<'p>(alloc: Global, names: Names<'p>) -> Names<'p>
+pub(crate) fn without_types<'a>(alloc: Global, names: Names<'a>) -> Names<'a>
     ensures types { types_of result ≡ unknown (types_of names.entry) }
     ensures context { context_of result ≡ retyped (unknown (types_of names.entry)) [] (context_of names.entry) }
 {
@@ -112,7 +113,7 @@ pub(crate) fn without_types<'p>(alloc: Global, names: Names<'p>) -> Names<'p>
 }
 
 /// The same by these types.
-pub(crate) fn with_types<'p>(types: Vec<FunctionType>, names: Names<'p>) -> Names<'p>
+pub(crate) fn with_types<'a>(types: Vec<FunctionType>, names: Names<'a>) -> Names<'a>
     ensures types { types_of result ≡ record { names = (types_of names.entry).names; types = map type_of types.items; are_known = true } }
     ensures context { context_of result ≡ retyped (record { names = (types_of names.entry).names; types = map type_of types.items; are_known = true }) [] (context_of names.entry) }
 {
@@ -137,11 +138,11 @@ fn is_space(a: IndexSpace, b: IndexSpace) -> bool
 }
 
 /// The names of an index space; None where two are the same.
-fn names_among<'p>(
+fn names_among<'a>(
     alloc: Global,
-    bindings: &[Binding<'p>],
+    bindings: &[Binding<'a>],
     space: IndexSpace,
-) -> Result<Option<IndexedNames<'p>>, AllocError>
+) -> Result<Option<IndexedNames<'a>>, AllocError>
     ensures these { IfOk result (λ found. IfSome found (λ names. names ≡ names_in space (map binding_of bindings.now))) }
     ensures distinct { IfOk result (λ found. is_some found ≡ are_distinct (names_in space (map binding_of bindings.now))) }
 {
@@ -155,7 +156,7 @@ fn names_among<'p>(
 }
 
 /// The same of these.
-pub(crate) fn names_in<'s, 'p>(names: &'s Names<'p>, space: IndexSpace) -> &'s IndexedNames<'p>
+pub(crate) fn names_in<'s, 'a>(names: &'s Names<'a>, space: IndexSpace) -> &'s IndexedNames<'a>
     ensures { result.now ≡ names_of (context_of names.now) space }
 {
     match space {
@@ -206,7 +207,7 @@ fn starts<'p, 'a>(alloc: Global, pieces: &'p [Piece<'a>]) -> Result<Vec<Left<'p,
 }
 
 /// The items that fields bring.
-fn bindings<'p, 'a>(alloc: Global, starts: &[Left<'p, 'a>]) -> Result<Vec<Binding<'p>>, AllocError>
+fn bindings<'p, 'a>(alloc: Global, starts: &[Left<'p, 'a>]) -> Result<Vec<Binding<'a>>, AllocError>
     ensures { IfOk result (λ bindings. map binding_of bindings.items ≡ flat_map reading.binding_at (map left_of starts.now)) }
 {
     let mut bindings = Vec::new(alloc);
@@ -220,7 +221,7 @@ fn bindings<'p, 'a>(alloc: Global, starts: &[Left<'p, 'a>]) -> Result<Vec<Bindin
 
 /// The item that a field brings.
 #[tactic(auto, unfolding(crate::specs::Reading::binding_at))]
-fn binding_at<'p>(pieces: &'p [Piece<'_>]) -> Option<Binding<'p>>
+fn binding_at<'a>(pieces: &[Piece<'a>]) -> Option<Binding<'a>>
     ensures { MatchOption result (reading.binding_at (map terminal pieces.now) ≡ []) (λ b. reading.binding_at (map terminal pieces.now) ≡ binding_of b ∷ []) }
 {
     match pieces {
@@ -236,7 +237,7 @@ fn binding_at<'p>(pieces: &'p [Piece<'_>]) -> Option<Binding<'p>>
 }
 
 /// The item of an index space that has this name, or none.
-fn binding_named<'p>(space: Option<IndexSpace>, pieces: &'p [Piece<'_>]) -> Option<Binding<'p>>
+fn binding_named<'a>(space: Option<IndexSpace>, pieces: &[Piece<'a>]) -> Option<Binding<'a>>
     ensures { MatchOption result (reading.binding_by space (label_of (map terminal pieces.now)).0 ≡ []) (λ b. reading.binding_by space (label_of (map terminal pieces.now)).0 ≡ binding_of b ∷ []) }
 {
     match space {
@@ -249,7 +250,7 @@ fn binding_named<'p>(space: Option<IndexSpace>, pieces: &'p [Piece<'_>]) -> Opti
 }
 
 /// The item that an import brings, after its word.
-fn import_binding<'p>(pieces: &'p [Piece<'_>]) -> Option<Binding<'p>>
+fn import_binding<'a>(pieces: &[Piece<'a>]) -> Option<Binding<'a>>
     ensures { MatchOption result (reading.import_binding (map terminal pieces.now) ≡ []) (λ b. reading.import_binding (map terminal pieces.now) ≡ binding_of b ∷ []) }
 {
     match pieces {
@@ -259,7 +260,7 @@ fn import_binding<'p>(pieces: &'p [Piece<'_>]) -> Option<Binding<'p>>
 }
 
 /// The same after its first name.
-fn text_binding<'p>(pieces: &'p [Piece<'_>]) -> Option<Binding<'p>>
+fn text_binding<'a>(pieces: &[Piece<'a>]) -> Option<Binding<'a>>
     ensures { MatchOption result (reading.text_binding (map terminal pieces.now) ≡ []) (λ b. reading.text_binding (map terminal pieces.now) ≡ binding_of b ∷ []) }
 {
     match pieces {
@@ -269,7 +270,7 @@ fn text_binding<'p>(pieces: &'p [Piece<'_>]) -> Option<Binding<'p>>
 }
 
 /// The same after both names.
-fn open_binding<'p>(pieces: &'p [Piece<'_>]) -> Option<Binding<'p>>
+fn open_binding<'a>(pieces: &[Piece<'a>]) -> Option<Binding<'a>>
     ensures { MatchOption result (reading.open_binding (map terminal pieces.now) ≡ []) (λ b. reading.open_binding (map terminal pieces.now) ≡ binding_of b ∷ []) }
 {
     match pieces {
@@ -279,7 +280,7 @@ fn open_binding<'p>(pieces: &'p [Piece<'_>]) -> Option<Binding<'p>>
 }
 
 /// The same after its second `(`.
-fn word_binding<'p>(pieces: &'p [Piece<'_>]) -> Option<Binding<'p>>
+fn word_binding<'a>(pieces: &[Piece<'a>]) -> Option<Binding<'a>>
     ensures { MatchOption result (reading.word_binding (map terminal pieces.now) ≡ []) (λ b. reading.word_binding (map terminal pieces.now) ≡ binding_of b ∷ []) }
 {
     match pieces {
@@ -289,7 +290,7 @@ fn word_binding<'p>(pieces: &'p [Piece<'_>]) -> Option<Binding<'p>>
 }
 
 /// The data segments that fields bring.
-fn data_names<'p, 'a>(alloc: Global, starts: &[Left<'p, 'a>]) -> Result<Vec<Name<'p>>, AllocError>
+fn data_names<'p, 'a>(alloc: Global, starts: &[Left<'p, 'a>]) -> Result<Vec<Name<'a>>, AllocError>
     ensures { IfOk result (λ names. map label names.items ≡ flat_map reading.data_name_at (map left_of starts.now)) }
 {
     let mut names = Vec::new(alloc);
@@ -306,7 +307,7 @@ fn data_names<'p, 'a>(alloc: Global, starts: &[Left<'p, 'a>]) -> Result<Vec<Name
 fn data_name_at<'p, 'a>(
     alloc: Global,
     pieces: &'p [Piece<'a>],
-) -> Result<Option<Name<'p>>, AllocError>
+) -> Result<Option<Name<'a>>, AllocError>
     ensures { IfOk result (λ o. MatchOption o (reading.data_name_at (map terminal pieces.now) ≡ []) (λ n. reading.data_name_at (map terminal pieces.now) ≡ label n ∷ [])) }
 {
     match pieces {
@@ -328,7 +329,7 @@ fn data_name_at<'p, 'a>(
 fn inline_data<'p, 'a>(
     alloc: Global,
     pieces: &'p [Piece<'a>],
-) -> Result<Option<Name<'p>>, AllocError>
+) -> Result<Option<Name<'a>>, AllocError>
     ensures { IfOk result (λ o. MatchOption o (reading.inline_data (reading.all reading.export_item (map terminal pieces.now)) ≡ []) (λ n. reading.inline_data (reading.all reading.export_item (map terminal pieces.now)) ≡ label n ∷ [])) }
 {
     match exports(alloc, pieces) {
@@ -342,7 +343,7 @@ fn inline_data<'p, 'a>(
 }
 
 /// The element segments that fields bring.
-fn elem_names<'p, 'a>(alloc: Global, starts: &[Left<'p, 'a>]) -> Result<Vec<Name<'p>>, AllocError>
+fn elem_names<'p, 'a>(alloc: Global, starts: &[Left<'p, 'a>]) -> Result<Vec<Name<'a>>, AllocError>
     ensures { IfOk result (λ names. map label names.items ≡ flat_map reading.elem_name_at (map left_of starts.now)) }
 {
     let mut names = Vec::new(alloc);
@@ -359,7 +360,7 @@ fn elem_names<'p, 'a>(alloc: Global, starts: &[Left<'p, 'a>]) -> Result<Vec<Name
 fn elem_name_at<'p, 'a>(
     alloc: Global,
     pieces: &'p [Piece<'a>],
-) -> Result<Option<Name<'p>>, AllocError>
+) -> Result<Option<Name<'a>>, AllocError>
     ensures { IfOk result (λ o. MatchOption o (reading.elem_name_at (map terminal pieces.now) ≡ []) (λ n. reading.elem_name_at (map terminal pieces.now) ≡ label n ∷ [])) }
 {
     match pieces {
@@ -381,7 +382,7 @@ fn elem_name_at<'p, 'a>(
 fn inline_elem<'p, 'a>(
     alloc: Global,
     pieces: &'p [Piece<'a>],
-) -> Result<Option<Name<'p>>, AllocError>
+) -> Result<Option<Name<'a>>, AllocError>
     ensures { IfOk result (λ o. MatchOption o (reading.inline_elem (reading.all reading.export_item (map terminal pieces.now)) ≡ []) (λ n. reading.inline_elem (reading.all reading.export_item (map terminal pieces.now)) ≡ label n ∷ [])) }
 {
     match exports(alloc, pieces) {
@@ -392,7 +393,7 @@ fn inline_elem<'p, 'a>(
 }
 
 /// The same, after its exports.
-fn elem_after_type<'p>(pieces: &'p [Piece<'_>]) -> Option<Name<'p>>
+fn elem_after_type<'a>(pieces: &[Piece<'a>]) -> Option<Name<'a>>
     ensures { MatchOption result (reading.elem_after_type (map terminal pieces.now) ≡ []) (λ n. reading.elem_after_type (map terminal pieces.now) ≡ label n ∷ []) }
 {
     match pieces {
@@ -408,7 +409,7 @@ fn elem_after_type<'p>(pieces: &'p [Piece<'_>]) -> Option<Name<'p>>
 fn definitions<'p, 'a>(
     alloc: Global,
     starts: &[Left<'p, 'a>],
-) -> Result<(Vec<Name<'p>>, Vec<FunctionType>), AllocError>
+) -> Result<(Vec<Name<'a>>, Vec<FunctionType>), AllocError>
     ensures names { IfOk result (λ r. map label r.0.items ≡ map definition_name (flat_map reading.definition_at (map left_of starts.now))) }
     ensures types { IfOk result (λ r. map type_of r.1.items ≡ map definition_type (flat_map reading.definition_at (map left_of starts.now))) }
 {
@@ -428,7 +429,7 @@ fn definitions<'p, 'a>(
 fn definition_at<'p, 'a>(
     alloc: Global,
     pieces: &'p [Piece<'a>],
-) -> Result<Option<Definition<'p>>, AllocError>
+) -> Result<Option<Definition<'a>>, AllocError>
     ensures { IfOk result (λ o. MatchOption o (reading.definition_at (map terminal pieces.now) ≡ []) (λ d. reading.definition_at (map terminal pieces.now) ≡ definition_of d ∷ [])) }
 {
     match pieces {
@@ -447,7 +448,7 @@ fn definition_at<'p, 'a>(
 fn definition_after<'p, 'a>(
     alloc: Global,
     pieces: &'p [Piece<'a>],
-) -> Result<Option<Definition<'p>>, AllocError>
+) -> Result<Option<Definition<'a>>, AllocError>
     ensures { IfOk result (λ o. MatchOption o (reading.definition_by (reading.type_at (map terminal pieces.now)) ≡ []) (λ d. reading.definition_by (reading.type_at (map terminal pieces.now)) ≡ definition_of d ∷ [])) }
 {
     match type_at(alloc, pieces) {
@@ -469,11 +470,11 @@ fn closed(groups: usize) -> Depth
 }
 
 /// The names of parameters and local variables; None where two are the same.
-pub(crate) fn variable_names<'p>(
+pub(crate) fn variable_names<'a>(
     alloc: Global,
-    params: &[Variable<'p>],
-    locals: &[Variable<'p>],
-) -> Result<Option<IndexedNames<'p>>, AllocError>
+    params: &[Variable<'a>],
+    locals: &[Variable<'a>],
+) -> Result<Option<IndexedNames<'a>>, AllocError>
     ensures these { IfOk result (λ found. IfSome found (λ names. names ≡ map name_of (map variable_of params.now ++ map variable_of locals.now))) }
     ensures distinct { IfOk result (λ found. is_some found ≡ are_distinct (map name_of (map variable_of params.now ++ map variable_of locals.now))) }
 {

@@ -27,7 +27,7 @@ const PAGE: usize = 0x1_0000;
 fn strings<'p, 'a>(
     alloc: Global,
     pieces: &'p [Piece<'a>],
-) -> Result<(Vec<&'p [u8]>, &'p [Piece<'a>]), Refusal<'p, 'a>>
+) -> Result<(Vec<&'a [u8]>, &'p [Piece<'a>]), Refusal<'p, 'a>>
     ensures { MatchResult result
         (λ r. reading.all reading.string_item (map terminal pieces.now) ≡ Ok (together r.0.items, map terminal r.1.now))
         (λ e. Faults (reading.all reading.string_item (map terminal pieces.now)) e) }
@@ -48,7 +48,7 @@ fn strings<'p, 'a>(
 /// One string, where there is one.
 #[tactic(auto, unfolding(crate::specs::Reading::string_item))]
 fn next_string<'p, 'a>(
-    found: &mut Vec<&'p [u8]>,
+    found: &mut Vec<&'a [u8]>,
     left: Left<'p, 'a>,
 ) -> Result<Option<Left<'p, 'a>>, Refusal<'p, 'a>>
     ensures { MatchResult result
@@ -69,10 +69,10 @@ fn next_string<'p, 'a>(
 /// A memory, after its name and its exports.
 pub(crate) fn memory_at<'p, 'a>(
     alloc: Global,
-    name: Name<'p>,
-    exports: Vec<&'p [u8]>,
+    name: Name<'a>,
+    exports: Vec<&'a [u8]>,
     pieces: &'p [Piece<'a>],
-) -> Result<(Field<'p>, &'p [Piece<'a>]), Refusal<'p, 'a>>
+) -> Result<(Field<'a>, &'p [Piece<'a>]), Refusal<'p, 'a>>
     ensures { MatchResult result
         (λ r. reading.memory_at (label name.entry) (map text_of exports.entry.items) (map terminal pieces.now) ≡ Ok (field_of r.0 ∷ [], map terminal r.1.now))
         (λ e. Faults (reading.memory_at (label name.entry) (map text_of exports.entry.items) (map terminal pieces.now)) e) }
@@ -85,10 +85,10 @@ pub(crate) fn memory_at<'p, 'a>(
 
 /// A memory that brings no bytes.
 fn memory_type<'p, 'a>(
-    name: Name<'p>,
-    exports: Vec<&'p [u8]>,
+    name: Name<'a>,
+    exports: Vec<&'a [u8]>,
     pieces: &'p [Piece<'a>],
-) -> Result<(Field<'p>, &'p [Piece<'a>]), Fault<'p, 'a>>
+) -> Result<(Field<'a>, &'p [Piece<'a>]), Fault<'p, 'a>>
     ensures { MatchResult result
         (λ r. reading.memory_type (label name.entry) (map text_of exports.entry.items) (map terminal pieces.now) ≡ Ok (field_of r.0 ∷ [], map terminal r.1.now))
         (λ f. reading.memory_type (label name.entry) (map text_of exports.entry.items) (map terminal pieces.now) ≡ Err (fault_of f)) }
@@ -109,10 +109,10 @@ fn memory_type<'p, 'a>(
 /// A memory after `(data`.
 fn memory_data<'p, 'a>(
     alloc: Global,
-    name: Name<'p>,
-    exports: Vec<&'p [u8]>,
+    name: Name<'a>,
+    exports: Vec<&'a [u8]>,
     pieces: &'p [Piece<'a>],
-) -> Result<(Field<'p>, &'p [Piece<'a>]), Refusal<'p, 'a>>
+) -> Result<(Field<'a>, &'p [Piece<'a>]), Refusal<'p, 'a>>
     ensures { MatchResult result
         (λ r. reading.memory_data (label name.entry) (map text_of exports.entry.items) (map terminal pieces.now) ≡ Ok (field_of r.0 ∷ [], map terminal r.1.now))
         (λ e. Faults (reading.memory_data (label name.entry) (map text_of exports.entry.items) (map terminal pieces.now)) e) }
@@ -124,12 +124,12 @@ fn memory_data<'p, 'a>(
 
 /// A memory of as many pages as hold the bytes of these strings, which it brings.
 fn memory_of<'p, 'a>(
-    name: Name<'p>,
-    exports: Vec<&'p [u8]>,
+    name: Name<'a>,
+    exports: Vec<&'a [u8]>,
     all: &'p [Piece<'a>],
-    strings: Vec<&'p [u8]>,
+    strings: Vec<&'a [u8]>,
     rest: &'p [Piece<'a>],
-) -> Result<(Field<'p>, &'p [Piece<'a>]), Refusal<'p, 'a>>
+) -> Result<(Field<'a>, &'p [Piece<'a>]), Refusal<'p, 'a>>
     ensures { MatchResult result
         (λ r. reading.memory_of (label name.entry) (map text_of exports.entry.items) (map terminal all.now) (together strings.entry.items) (map terminal rest.now) ≡ Ok (field_of r.0 ∷ [], map terminal r.1.now))
         (λ e. Faults (reading.memory_of (label name.entry) (map text_of exports.entry.items) (map terminal all.now) (together strings.entry.items) (map terminal rest.now)) e) }
@@ -188,7 +188,7 @@ pub(crate) fn used<'p, 'a>(
 #[tactic(auto, unfolding(crate::specs::Reading::expression_at))]
 pub(crate) fn expression<'p, 'a>(
     alloc: Global,
-    names: &Names<'p>,
+    names: &Names<'a>,
     word: &str,
     pieces: &'p [Piece<'a>],
 ) -> Result<(Vec<Instruction>, &'p [Piece<'a>]), Refusal<'p, 'a>>
@@ -209,7 +209,7 @@ pub(crate) fn expression<'p, 'a>(
 /// One folded instruction.
 fn one_instruction<'p, 'a>(
     alloc: Global,
-    names: &Names<'p>,
+    names: &Names<'a>,
     pieces: &'p [Piece<'a>],
 ) -> Result<(Vec<Instruction>, &'p [Piece<'a>]), Refusal<'p, 'a>>
     ensures { MatchResult result
@@ -232,11 +232,11 @@ fn one_instruction<'p, 'a>(
 /// A segment, after its word, with which all these tokens begin.
 pub(crate) fn segment<'p, 'a>(
     alloc: Global,
-    names: &Names<'p>,
+    names: &Names<'a>,
     word: &str,
     all: &'p [Piece<'a>],
     pieces: &'p [Piece<'a>],
-) -> Result<(Field<'p>, &'p [Piece<'a>]), Refusal<'p, 'a>>
+) -> Result<(Field<'a>, &'p [Piece<'a>]), Refusal<'p, 'a>>
     ensures { MatchResult result
         (λ r. reading.segment_at (context_of names.now) word.now (map terminal all.now) (map terminal pieces.now) ≡ Ok (field_of r.0 ∷ [], map terminal r.1.now))
         (λ e. Faults (reading.segment_at (context_of names.now) word.now (map terminal all.now) (map terminal pieces.now)) e) }
@@ -256,9 +256,9 @@ pub(crate) fn segment<'p, 'a>(
 /// A data segment, after its word.
 fn data_at<'p, 'a>(
     alloc: Global,
-    names: &Names<'p>,
+    names: &Names<'a>,
     pieces: &'p [Piece<'a>],
-) -> Result<(Field<'p>, &'p [Piece<'a>]), Refusal<'p, 'a>>
+) -> Result<(Field<'a>, &'p [Piece<'a>]), Refusal<'p, 'a>>
     ensures { MatchResult result
         (λ r. reading.data_at (context_of names.now) (label_of (map terminal pieces.now)) ≡ Ok (field_of r.0 ∷ [], map terminal r.1.now))
         (λ e. Faults (reading.data_at (context_of names.now) (label_of (map terminal pieces.now))) e) }
@@ -271,10 +271,10 @@ fn data_at<'p, 'a>(
 #[tactic(auto, unfolding(crate::specs::Reading::data_after))]
 fn data_after<'p, 'a>(
     alloc: Global,
-    names: &Names<'p>,
-    name: Name<'p>,
+    names: &Names<'a>,
+    name: Name<'a>,
     pieces: &'p [Piece<'a>],
-) -> Result<(Field<'p>, &'p [Piece<'a>]), Refusal<'p, 'a>>
+) -> Result<(Field<'a>, &'p [Piece<'a>]), Refusal<'p, 'a>>
     ensures { MatchResult result
         (λ r. reading.data_after (context_of names.now) (label name.entry) (map terminal pieces.now) ≡ Ok (field_of r.0 ∷ [], map terminal r.1.now))
         (λ e. Faults (reading.data_after (context_of names.now) (label name.entry) (map terminal pieces.now)) e) }
@@ -288,10 +288,10 @@ fn data_after<'p, 'a>(
 /// A data segment that is put into a memory, after its name.
 fn active_data<'p, 'a>(
     alloc: Global,
-    names: &Names<'p>,
-    name: Name<'p>,
+    names: &Names<'a>,
+    name: Name<'a>,
     pieces: &'p [Piece<'a>],
-) -> Result<(Field<'p>, &'p [Piece<'a>]), Refusal<'p, 'a>>
+) -> Result<(Field<'a>, &'p [Piece<'a>]), Refusal<'p, 'a>>
     ensures { MatchResult result
         (λ r. reading.active_data (context_of names.now) (label name.entry) (map terminal pieces.now) ≡ Ok (field_of r.0 ∷ [], map terminal r.1.now))
         (λ e. Faults (reading.active_data (context_of names.now) (label name.entry) (map terminal pieces.now)) e) }
@@ -304,10 +304,10 @@ fn active_data<'p, 'a>(
 /// The bytes of a data segment, and `)`.
 fn data_strings<'p, 'a>(
     alloc: Global,
-    name: Name<'p>,
+    name: Name<'a>,
     target: Option<Target>,
     pieces: &'p [Piece<'a>],
-) -> Result<(Field<'p>, &'p [Piece<'a>]), Refusal<'p, 'a>>
+) -> Result<(Field<'a>, &'p [Piece<'a>]), Refusal<'p, 'a>>
     ensures { MatchResult result
         (λ r. reading.data_strings (label name.entry) (target_of target) (map terminal pieces.now) ≡ Ok (field_of r.0 ∷ [], map terminal r.1.now))
         (λ e. Faults (reading.data_strings (label name.entry) (target_of target) (map terminal pieces.now)) e) }

@@ -2,8 +2,8 @@
 ghost use Rattle.std.specs.Prelude.{◌≡◌, Ok, Err, Some, None, slice_get, map, IfOk, MatchOption, MatchResult};
 ghost use Rattle.wat_fields.specs.Fields as grammar;
 ghost use Rattle.wat_fields_read.specs.Reading as reading;
-ghost use Rattle.wat_fields.specs.Views.{definition_of, use_of, variable_of};
-ghost use Rattle.wat_fields_read.specs.Views.{types_of};
+ghost use Rattle.wat_fields.specs.Views.{definition_of};
+ghost use Rattle.wat_fields_read.specs.Views.{types_of, use_of, variable_of};
 ghost use Rattle.wat_instructions.specs.Parts.{Faults, fault_of};
 ghost use Rattle.wat_instructions.specs.Terminals.{label, terminal};
 ghost use Rattle.wat_instructions.specs.Views.{type_of};
@@ -11,9 +11,9 @@ ghost use Rattle.wat_instructions.specs.Views.{type_of};
 use crate::header::{after, closed, unnamed, variables};
 use crate::names::Names;
 use crate::types::twice_closed;
+use crate::variables::{TypeUse, Variable, function_type};
 use std::alloc::{AllocError, Global};
-use wat_fields::fields::{Definition, TypeUse, Variable};
-use wat_fields::variables::function_type;
+use wat_fields::fields::Definition;
 use wat_instructions::pieces::{Fault, FaultKind, Name, Piece, Refusal};
 use wat_instructions::reading;
 use wat_instructions::types::{FunctionType, same_type};
@@ -22,9 +22,9 @@ use wat_instructions::types::{FunctionType, same_type};
 #[tactic(auto, unfolding(crate::specs::Reading::use_at))]
 pub(crate) fn type_use<'p, 'a>(
     alloc: Global,
-    names: &Names<'p>,
+    names: &Names<'a>,
     pieces: &'p [Piece<'a>],
-) -> Result<(TypeUse<'p>, &'p [Piece<'a>]), Refusal<'p, 'a>>
+) -> Result<(TypeUse<'a>, &'p [Piece<'a>]), Refusal<'p, 'a>>
     ensures { MatchResult result
         (λ r. reading.use_at (types_of names.now) (map terminal pieces.now) ≡ Ok (use_of r.0, map terminal r.1.now))
         (λ e. Faults (reading.use_at (types_of names.now) (map terminal pieces.now)) e) }
@@ -39,7 +39,7 @@ pub(crate) fn type_use<'p, 'a>(
 fn listed_use<'p, 'a>(
     alloc: Global,
     pieces: &'p [Piece<'a>],
-) -> Result<(TypeUse<'p>, &'p [Piece<'a>]), Refusal<'p, 'a>>
+) -> Result<(TypeUse<'a>, &'p [Piece<'a>]), Refusal<'p, 'a>>
     ensures { MatchResult result
         (λ r. reading.listed_use (map terminal pieces.now) ≡ Ok (use_of r.0, map terminal r.1.now))
         (λ e. Faults (reading.listed_use (map terminal pieces.now)) e) }
@@ -60,9 +60,9 @@ fn listed_use<'p, 'a>(
 /// A type use after `(type`.
 fn indexed_use<'p, 'a>(
     alloc: Global,
-    names: &Names<'p>,
+    names: &Names<'a>,
     pieces: &'p [Piece<'a>],
-) -> Result<(TypeUse<'p>, &'p [Piece<'a>]), Refusal<'p, 'a>>
+) -> Result<(TypeUse<'a>, &'p [Piece<'a>]), Refusal<'p, 'a>>
     ensures { MatchResult result
         (λ r. reading.indexed_use (types_of names.now) (map terminal pieces.now) ≡ Ok (use_of r.0, map terminal r.1.now))
         (λ e. Faults (reading.indexed_use (types_of names.now) (map terminal pieces.now)) e) }
@@ -79,11 +79,11 @@ fn indexed_use<'p, 'a>(
 /// A type use after the index of its type, with which all these tokens begin.
 fn known_use<'p, 'a>(
     alloc: Global,
-    names: &Names<'p>,
+    names: &Names<'a>,
     index: usize,
     all: &'p [Piece<'a>],
     pieces: &'p [Piece<'a>],
-) -> Result<(TypeUse<'p>, &'p [Piece<'a>]), Refusal<'p, 'a>>
+) -> Result<(TypeUse<'a>, &'p [Piece<'a>]), Refusal<'p, 'a>>
     ensures { MatchResult result
         (λ r. reading.lists_after index (slice_get (types_of names.now).types index) (map terminal all.now) (map terminal pieces.now) ≡ Ok (use_of r.0, map terminal r.1.now))
         (λ e. Faults (reading.lists_after index (slice_get (types_of names.now).types index) (map terminal all.now) (map terminal pieces.now)) e) }
@@ -102,7 +102,7 @@ fn assumed_use<'p, 'a>(
     alloc: Global,
     index: usize,
     pieces: &'p [Piece<'a>],
-) -> Result<(TypeUse<'p>, &'p [Piece<'a>]), Refusal<'p, 'a>>
+) -> Result<(TypeUse<'a>, &'p [Piece<'a>]), Refusal<'p, 'a>>
     ensures { MatchResult result
         (λ r. reading.assumed_use index (map terminal pieces.now) ≡ Ok (use_of r.0, map terminal r.1.now))
         (λ e. Faults (reading.assumed_use index (map terminal pieces.now)) e) }
@@ -134,7 +134,7 @@ fn lists<'p, 'a>(
     of: &FunctionType,
     all: &'p [Piece<'a>],
     pieces: &'p [Piece<'a>],
-) -> Result<(TypeUse<'p>, &'p [Piece<'a>]), Refusal<'p, 'a>>
+) -> Result<(TypeUse<'a>, &'p [Piece<'a>]), Refusal<'p, 'a>>
     ensures { MatchResult result
         (λ r. reading.lists_after index (Some (type_of of.now)) (map terminal all.now) (map terminal pieces.now) ≡ Ok (use_of r.0, map terminal r.1.now))
         (λ e. Faults (reading.lists_after index (Some (type_of of.now)) (map terminal all.now) (map terminal pieces.now)) e) }
@@ -177,11 +177,11 @@ fn list_nothing(params: &[Variable<'_>], results: &[Variable<'_>]) -> bool
 }
 
 /// The use of a type by its index alone.
-fn unnamed_use<'p>(
+fn unnamed_use<'a>(
     alloc: Global,
     index: usize,
     of: &FunctionType,
-) -> Result<TypeUse<'p>, AllocError>
+) -> Result<TypeUse<'a>, AllocError>
     ensures { IfOk result (λ u. use_of u ≡ grammar.type_use (Some index) (map grammar.unnamed of.now.params.items) (map grammar.unnamed of.now.results.items)) }
 {
     let params = unnamed(alloc, &of.params)?;
@@ -199,7 +199,7 @@ fn unnamed_use<'p>(
 pub(crate) fn type_at<'p, 'a>(
     alloc: Global,
     pieces: &'p [Piece<'a>],
-) -> Result<(Definition<'p>, &'p [Piece<'a>]), Refusal<'p, 'a>>
+) -> Result<(Definition<'a>, &'p [Piece<'a>]), Refusal<'p, 'a>>
     ensures { MatchResult result
         (λ r. reading.type_at (map terminal pieces.now) ≡ Ok (definition_of r.0, map terminal r.1.now))
         (λ e. Faults (reading.type_at (map terminal pieces.now)) e) }
@@ -217,9 +217,9 @@ pub(crate) fn type_at<'p, 'a>(
 /// A type after `(func`.
 fn type_lists<'p, 'a>(
     alloc: Global,
-    name: Name<'p>,
+    name: Name<'a>,
     pieces: &'p [Piece<'a>],
-) -> Result<(Definition<'p>, &'p [Piece<'a>]), Refusal<'p, 'a>>
+) -> Result<(Definition<'a>, &'p [Piece<'a>]), Refusal<'p, 'a>>
     ensures { MatchResult result
         (λ r. reading.type_lists (label name.entry) (map terminal pieces.now) ≡ Ok (definition_of r.0, map terminal r.1.now))
         (λ e. Faults (reading.type_lists (label name.entry) (map terminal pieces.now)) e) }

@@ -22,7 +22,7 @@ pub record Types : Type 0 where
   pub types : List FunctionType
   pub are_known : Bool
 
--- 6.6.3: a type use of an instruction, whose parameters have no names: the index of its type, where it says one, and its type
+-- 6.6.3: a type use without the names of its parameters: the index of its type, where it says one, and its type
 pub record UnnamedUse : Type 0 where
   pub index : Option ℕ
   pub type : FunctionType

@@ -25,21 +25,25 @@ const END: Instruction = Instruction {
     argument: Argument::Nothing,
 };
 
-/// The instructions of a body up to its `)`, and what comes after that.
+/// The instructions of a body up to its `)`, and what comes after that. They take no more memory
+/// than they need.
 pub fn instructions<'p, 'a>(
     alloc: Global,
-    scope: &Scope<'_, 'p>,
+    scope: &Scope<'_, '_>,
     pieces: &'p [Piece<'a>],
 ) -> Result<(Vec<Instruction>, &'p [Piece<'a>]), Refusal<'p, 'a>>
     ensures { MatchResult result
         (λ r. spec.body (scope_of scope.now) (map terminal pieces.now) ≡ Ok (r.0.items, map terminal r.1.now))
         (λ e. Faults (spec.body (scope_of scope.now) (map terminal pieces.now)) e) }
 {
-    let mut out = Vec::new(alloc);
+    let mut out = Vec::with_capacity(alloc, 1)?;
     let mut frames = Vec::new(alloc);
     frames.push(Frame::Body)?;
     match steps(alloc, scope, &mut frames, &mut out, pieces) {
-        Ok(rest) => Ok((out, rest)),
+        Ok(rest) => {
+            out.shrink_to_fit();
+            Ok((out, rest))
+        }
         Err(refusal) => Err(refusal),
     }
 }
@@ -47,14 +51,15 @@ pub fn instructions<'p, 'a>(
 /// One folded instruction after its `(`, and what comes after its `)`.
 pub fn one_folded<'p, 'a>(
     alloc: Global,
-    scope: &Scope<'_, 'p>,
+    scope: &Scope<'_, '_>,
     pieces: &'p [Piece<'a>],
 ) -> Result<(Vec<Instruction>, &'p [Piece<'a>]), Refusal<'p, 'a>>
     ensures { MatchResult result
         (λ r. spec.folded (scope_of scope.now) (map terminal pieces.now) ≡ Ok (r.0.items, map terminal r.1.now))
         (λ e. Faults (spec.folded (scope_of scope.now) (map terminal pieces.now)) e) }
 {
-    let mut out = Vec::new(alloc);
+    // Most are one instruction, and a first push makes room for four.
+    let mut out = Vec::with_capacity(alloc, 1)?;
     let mut frames = Vec::new(alloc);
     match first_step(alloc, scope, &mut frames, &mut out, pieces) {
         Ok(rest) => match steps(alloc, scope, &mut frames, &mut out, rest) {
@@ -68,7 +73,7 @@ pub fn one_folded<'p, 'a>(
 /// The first step of one folded instruction, after its `(`.
 fn first_step<'p, 'a>(
     alloc: Global,
-    scope: &Scope<'_, 'p>,
+    scope: &Scope<'_, '_>,
     frames: &mut Vec<Frame<'p>>,
     out: &mut Vec<Instruction>,
     pieces: &'p [Piece<'a>],
@@ -89,7 +94,7 @@ fn first_step<'p, 'a>(
 /// The same, until nothing is open. In a loop: no depth of the text is a depth of the stack.
 fn steps<'p, 'a>(
     alloc: Global,
-    scope: &Scope<'_, 'p>,
+    scope: &Scope<'_, '_>,
     frames: &mut Vec<Frame<'p>>,
     out: &mut Vec<Instruction>,
     pieces: &'p [Piece<'a>],
@@ -121,7 +126,7 @@ struct Left<'p, 'a> {
 /// A step.
 fn step_on<'p, 'a>(
     alloc: Global,
-    scope: &Scope<'_, 'p>,
+    scope: &Scope<'_, '_>,
     frame: Frame<'p>,
     frames: &mut Vec<Frame<'p>>,
     out: &mut Vec<Instruction>,
@@ -141,7 +146,7 @@ fn step_on<'p, 'a>(
 #[tactic(auto, unfolding(crate::specs::Machine::step))]
 fn step<'p, 'a>(
     alloc: Global,
-    scope: &Scope<'_, 'p>,
+    scope: &Scope<'_, '_>,
     frame: Frame<'p>,
     frames: &mut Vec<Frame<'p>>,
     out: &mut Vec<Instruction>,
@@ -274,7 +279,7 @@ fn turned<'p, 'a>(
 /// After `(`, in a part.
 fn folded<'p, 'a>(
     alloc: Global,
-    scope: &Scope<'_, 'p>,
+    scope: &Scope<'_, '_>,
     frame: Frame<'p>,
     frames: &mut Vec<Frame<'p>>,
     out: &mut Vec<Instruction>,
@@ -296,7 +301,7 @@ fn folded<'p, 'a>(
 #[tactic(auto, using(crate::proofs::Stacks::stack_push))]
 fn folded_word<'p, 'a>(
     alloc: Global,
-    scope: &Scope<'_, 'p>,
+    scope: &Scope<'_, '_>,
     frame: Frame<'p>,
     frames: &mut Vec<Frame<'p>>,
     out: &mut Vec<Instruction>,
@@ -334,7 +339,7 @@ fn folded_word<'p, 'a>(
 #[tactic(auto, using(crate::proofs::Stacks::stack_push))]
 fn folded_instruction<'p, 'a>(
     alloc: Global,
-    scope: &Scope<'_, 'p>,
+    scope: &Scope<'_, '_>,
     frames: &mut Vec<Frame<'p>>,
     out: &mut Vec<Instruction>,
     word: &str,
@@ -359,7 +364,7 @@ fn folded_instruction<'p, 'a>(
 #[tactic(auto, using(crate::proofs::Stacks::stack_push))]
 fn folded_block<'p, 'a>(
     alloc: Global,
-    scope: &Scope<'_, 'p>,
+    scope: &Scope<'_, '_>,
     frames: &mut Vec<Frame<'p>>,
     out: &mut Vec<Instruction>,
     opcode: u8,
@@ -388,7 +393,7 @@ fn folded_block<'p, 'a>(
 #[tactic(auto, using(crate::proofs::Stacks::stack_push))]
 fn at_word<'p, 'a>(
     alloc: Global,
-    scope: &Scope<'_, 'p>,
+    scope: &Scope<'_, '_>,
     frame: Frame<'p>,
     frames: &mut Vec<Frame<'p>>,
     out: &mut Vec<Instruction>,
@@ -429,7 +434,7 @@ fn at_word<'p, 'a>(
 #[tactic(auto, using(crate::proofs::Stacks::stack_push))]
 fn instruction<'p, 'a>(
     alloc: Global,
-    scope: &Scope<'_, 'p>,
+    scope: &Scope<'_, '_>,
     frames: &mut Vec<Frame<'p>>,
     out: &mut Vec<Instruction>,
     word: &str,

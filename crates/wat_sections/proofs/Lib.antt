@@ -1,3 +1,4 @@
 pub mod Counting
 pub mod Bytes
 pub mod RunLaws
+pub mod Functions

@@ -24,29 +24,22 @@ use Rattle.wat_fields.specs.declared.fields.IndexSpace.{IndexSpace}
 use Rattle.wat_fields.specs.declared.fields.IndexSpace.TheVariants as space
 use Rattle.wat_fields.specs.declared.fields.Limits.{Limits}
 use Rattle.wat_fields.specs.declared.fields.TableType.{TableType}
-use Rattle.wat_fields.specs.Fields.{ExternType, FuncType, OfTable, OfMemory, OfGlobal, Field, Func, Table, Memory, Global, Start, Function, TypeUse, Variable, bindings_of, extern_space, names_in, starts_of, ElemMode, Passive, Active, Declarative, Elements, Target, target}
+use Rattle.wat_fields.specs.Fields.{ExternType, FuncType, OfTable, OfMemory, OfGlobal, Field, Func, Table, Memory, Global, Start, Function, bindings_of, extern_space, names_in, starts_of, ElemMode, Passive, Active, Declarative, Elements, Target, target}
 use Rattle.wat_fields.specs.Fields as field
-use Rattle.wat_fields.specs.ImplicitTypes.{type_index, types_of, used_type}
+use Rattle.wat_fields.specs.ImplicitTypes.{type_index, types_of}
 
 -- 5.4.1 block types: a value type, or 0x40
 abbrev pub block_byte : Option ValueType → ℕ
 block_byte None = 0x40
 block_byte (Some t) = type_byte t
 
-abbrev pub variable_byte : Variable → ℕ
-variable_byte v = type_byte v.type
-
 -- 5.3.6: 0x60, and both; 5.3.5: each a vector of value types, a byte each
 unfoldable pub type_bytes : FunctionType → List ℕ
 type_bytes t = 0x60 ∷ (text_encoding (map type_byte t.params) ++ text_encoding (map type_byte t.results))
 
 -- 6.6.3: the index of the type that is used: the one that is said, at which that type is (TypeUseIs); or the least, at which it is too (Law)
-abbrev pub use_bytes : List FunctionType → TypeUse → List ℕ
-use_bytes types u = unsigned_leb128 (index_or u.index (type_index (used_type u) types))
-
--- the same of an instruction
-abbrev pub unnamed_index : List FunctionType → UnnamedUse → ℕ
-unnamed_index types u = index_or u.index (type_index u.type types)
+abbrev pub used_index : List FunctionType → UnnamedUse → ℕ
+used_index types u = index_or u.index (type_index u.type types)
 
 -- 5.4: what follows the opcode of an instruction, where these are the module's types; 5.1.3 vectors; 5.2.3 floats: their bits, the lowest byte first;
 -- 5.4.1 br_table: the labels, and the default; call_indirect: the type, and the table; blocks: a type's index as a number with a sign, of 33 bits; 5.4.6
@@ -57,13 +50,13 @@ abbrev pub argument_bytes : List FunctionType → Argument → List ℕ
 argument_bytes types argument.Nothing = []
 argument_bytes types (argument.Index n) = unsigned_leb128 n
 argument_bytes types (argument.Labels b) = list_encoding unsigned_leb128 b.labels ++ unsigned_leb128 b.default
-argument_bytes types (argument.Indirect c) = unsigned_leb128 (unnamed_index types c.uses) ++ unsigned_leb128 c.table
+argument_bytes types (argument.Indirect c) = unsigned_leb128 (used_index types c.uses) ++ unsigned_leb128 c.table
 argument_bytes types (argument.I32 n) = signed_leb128 n
 argument_bytes types (argument.I64 n) = signed_leb128 n
 argument_bytes types (argument.F32 bits) = to_le_bytes w32 bits
 argument_bytes types (argument.F64 bits) = to_le_bytes w64 bits
 argument_bytes types (argument.Block t) = block_byte t ∷ []
-argument_bytes types (argument.BlockUse u) = signed_leb128 (pos (unnamed_index types u))
+argument_bytes types (argument.BlockUse u) = signed_leb128 (pos (used_index types u))
 argument_bytes types (argument.Memory align offset) = unsigned_leb128 align ++ unsigned_leb128 offset
 argument_bytes types argument.Zero = 0 ∷ []
 argument_bytes types (argument.HeapType t) = reference_byte t ∷ []
@@ -85,7 +78,7 @@ instruction_bytes types i = opcode_bytes i.opcode ++ argument_bytes types i.argu
 
 -- 5.5.6: the index of the function's type
 abbrev pub function_bytes : List FunctionType → Function → List ℕ
-function_bytes types f = use_bytes types f.uses
+function_bytes types f = unsigned_leb128 (used_index types f.uses)
 
 abbrev pub min_max_bytes : ℕ → Option ℕ → List ℕ
 min_max_bytes n None = 0x00 ∷ unsigned_leb128 n
@@ -109,7 +102,7 @@ global_type_bytes t = type_byte t.value ∷ mutability_byte t.is_mutable ∷ []
 
 -- 5.5.5: what is imported
 abbrev pub extern_bytes : List FunctionType → ExternType → List ℕ
-extern_bytes types (FuncType u) = 0x00 ∷ use_bytes types u
+extern_bytes types (FuncType u) = 0x00 ∷ unsigned_leb128 (used_index types u)
 extern_bytes types (OfTable t) = 0x01 ∷ table_bytes t
 extern_bytes types (OfMemory l) = 0x02 ∷ limits_bytes l
 extern_bytes types (OfGlobal t) = 0x03 ∷ global_type_bytes t
@@ -195,7 +188,7 @@ run_bytes r = unsigned_leb128 r.count ++ r.byte ∷ []
 
 -- 5.5.13: the local variables in runs, and the instructions
 unfoldable pub code : List FunctionType → Function → List ℕ
-code types f = list_encoding run_bytes (runs_of (map variable_byte f.locals)) ++ expression_bytes types f.body
+code types f = list_encoding run_bytes (runs_of (map type_byte f.locals)) ++ expression_bytes types f.body
 
 -- an entry of the code section: after its size
 abbrev pub code_bytes : List FunctionType → Function → List ℕ

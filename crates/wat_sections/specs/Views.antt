@@ -133,7 +133,7 @@ elem_place_of (elem_places.At t) = Active (target t.now.index t.now.offset.items
 elem_place_of (elem_places.Begin i) = Active (target i at_zero)
 
 abbrev pub element_segment_of : declared_elements.ElementSegment → ElementSegment
-element_segment_of s = element_segment (elem_place_of s.place) s.of (map items_of s.elements.now)
+element_segment_of s = element_segment (elem_place_of s.place) s.of (items_of s.elements.now)
 
 -- functions before others
 abbrev pub put_before : List ℕ → Option (List ℕ) → Option (List ℕ)

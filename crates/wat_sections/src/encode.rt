@@ -3,10 +3,9 @@ ghost use Rattle.std.specs.Prelude.{◌≡◌, ◌<◌, ◌≤◌, pos, ◌+◌,
 ghost use Rattle.std.specs.List.{flat_map, list_any};
 ghost use Rattle.wat_fields.specs.Fields as grammar;
 ghost use Rattle.wat_fields.specs.ImplicitTypes as implicit;
-ghost use Rattle.wat_fields.specs.Views.{extern_of, field_of, fields_of, function_of, text_of, use_of, variable_of, items_of, mode_of, together};
+ghost use Rattle.wat_fields.specs.Views.{extern_of, field_of, fields_of, function_of, text_of, expression_of, items_of, mode_of, together};
 ghost use Rattle.wat_instructions.specs.Types.{index_or, type_byte};
-ghost use Rattle.wat_instructions.specs.Views.{type_of};
-ghost use Rattle.wat_instructions.specs.Views as unnamed;
+ghost use Rattle.wat_instructions.specs.Views.{type_of, use_of};
 ghost use Rattle.wat_lex.specs.binary.Encoding.{list_encoding, text_encoding};
 ghost use Rattle.wat_lex.specs.binary.Leb128.{signed_leb128, unsigned_leb128};
 ghost use Rattle.wat_sections.specs.Binary as binary;
@@ -14,8 +13,8 @@ ghost use Rattle.wat_sections.specs.Views.{AreBelow, count, counted, counted_sec
 
 use std::alloc::{AllocError, Global};
 use wat_fields::fields::{
-    ElemMode, Element, Export, ExternType, Field, Function, GlobalType, Import, IndexSpace, Limits,
-    TableType, Target, TypeUse, Variable,
+    ElemMode, Elements, Export, ExternType, Field, Function, GlobalType, Import, IndexSpace,
+    Limits, TableType, Target,
 };
 use wat_fields::implicit_types::types_of;
 use wat_fields::indexed_types::IndexedTypes;
@@ -165,9 +164,9 @@ fn put_argument(
         Argument::I64(n) => put_integer(out, *n),
         Argument::F32(bits) => put_bytes(out, &bits.to_le_bytes()),
         Argument::F64(bits) => put_bytes(out, &bits.to_le_bytes()),
-        Argument::Indirect(call) => put_pair(out, unnamed_index(types, call.uses())?, call.table()),
+        Argument::Indirect(call) => put_pair(out, used_index(types, call.uses())?, call.table()),
         Argument::Block(of) => put_byte(out, block_byte(*of)),
-        Argument::BlockUse(uses) => put_signed(out, unnamed_index(types, uses.uses())?),
+        Argument::BlockUse(uses) => put_signed(out, used_index(types, uses.uses())?),
         Argument::Memory(align, offset) => put_pair(out, usize::from(*align), *offset as usize),
         Argument::Zero => put_byte(out, 0),
         Argument::HeapType(of) => put_byte(out, reference_byte(*of)),
@@ -201,36 +200,26 @@ fn put_instructions(
     Ok(())
 }
 
-/// The bytes of the types of variables.
-fn variable_bytes(alloc: Global, variables: &[Variable<'_>]) -> Result<Vec<u8>, AllocError>
-    ensures { IfOk result (λ bytes. bytes.items ≡ map binary.variable_byte (map variable_of variables.now)) }
+/// The bytes of value types.
+fn value_bytes(alloc: Global, types: &[ValueType]) -> Result<Vec<u8>, AllocError>
+    ensures { IfOk result (λ bytes. bytes.items ≡ map type_byte types.now) }
 {
     let mut bytes = Vec::new(alloc);
-    for variable in variables {
-        bytes.push(type_byte(variable.of))?;
+    for of in types {
+        bytes.push(type_byte(*of))?;
     }
     Ok(bytes)
 }
 
-/// The index of the type that an instruction uses.
-fn unnamed_index(types: &IndexedTypes, uses: &UnnamedUse) -> Result<usize, AllocError>
-    ensures is { IfOk result (λ n. n ≡ binary.unnamed_index types.now (unnamed.use_of uses.now)) }
+/// The index of the type that is used.
+fn used_index(types: &IndexedTypes, uses: &UnnamedUse) -> Result<usize, AllocError>
+    ensures is { IfOk result (λ n. n ≡ binary.used_index types.now (use_of uses.now)) }
     ensures small { index_or uses.now.index 0 < 2 ^ 63 → IfOk result (λ n. n < 2 ^ 63) }
 {
     match uses.index {
         Some(index) => Ok(index),
         None => types.index(&uses.of),
     }
-}
-
-/// The index of the type that is used.
-fn use_index(types: &IndexedTypes, uses: &TypeUse<'_>) -> Result<usize, AllocError>
-    ensures { IfOk result (λ n. n ≡ index_or (use_of uses.now).index (implicit.type_index (implicit.used_type (use_of uses.now)) types.now)) }
-{
-    if let Some(index) = uses.index {
-        return Ok(index);
-    }
-    types.used_index(uses)
 }
 
 /// The indices that the next items have.
@@ -278,7 +267,7 @@ fn count(counts: Counts, space: IndexSpace) -> usize
 }
 
 /// The index space of what is imported.
-fn extern_space(what: &ExternType<'_>) -> IndexSpace
+fn extern_space(what: &ExternType) -> IndexSpace
     ensures { result ≡ grammar.extern_space (extern_of what.now) }
 {
     match what {
@@ -442,7 +431,7 @@ enum ElemPlace<'f> {
 struct ElementSegment<'f> {
     place: ElemPlace<'f>,
     of: ReferenceType,
-    elements: &'f [Element],
+    elements: &'f Elements,
 }
 
 /// What is done with a segment of this mode.
@@ -566,7 +555,7 @@ fn put_runs(out: &mut Vec<u8>, runs: &[Run]) -> Result<(), AllocError>
 fn code(alloc: Global, types: &IndexedTypes, function: &Function<'_>) -> Result<Vec<u8>, AllocError>
     ensures { IfOk result (λ bytes. bytes.items ≡ binary.code types.now (function_of function.now)) }
 {
-    let locals = variable_bytes(alloc, &function.locals)?;
+    let locals = value_bytes(alloc, &function.locals)?;
     let runs = runs_of(alloc, &locals)?;
     let mut bytes = Vec::new(alloc);
     put_runs(&mut bytes, &runs)?;
@@ -644,17 +633,13 @@ fn put_type(out: &mut Vec<u8>, of: &FunctionType) -> Result<(), AllocError>
 }
 
 /// Appends what is imported.
-fn put_extern(
-    out: &mut Vec<u8>,
-    types: &IndexedTypes,
-    what: &ExternType<'_>,
-) -> Result<(), AllocError>
+fn put_extern(out: &mut Vec<u8>, types: &IndexedTypes, what: &ExternType) -> Result<(), AllocError>
     ensures { OnOk result (out.new.items ≡ out.old.items ++ binary.extern_bytes types.now (extern_of what.now)) }
 {
     match what {
         ExternType::Func(uses) => {
             out.push(0x00)?;
-            put(out, use_index(types, uses)?)
+            put(out, used_index(types, uses)?)
         }
         ExternType::Table(of) => {
             out.push(0x01)?;
@@ -717,7 +702,7 @@ fn put_functions(
     let mut count = 0;
     for field in fields {
         if let Field::Func(function) = field {
-            put(&mut items, use_index(types, &function.uses)?)?;
+            put(&mut items, used_index(types, &function.uses)?)?;
             count += 1;
         }
     }
@@ -1032,17 +1017,7 @@ fn ref_func(index: usize) -> Instruction
 }
 
 /// The function of an element that is one.
-fn function_in(element: &Element) -> Option<usize>
-    ensures { result ≡ binary.function_in (items_of element.now) }
-{
-    match element {
-        Element::Function(index) => Some(*index),
-        Element::Expression(instructions) => function_by(instructions),
-    }
-}
-
-/// The function of an expression that is one.
-fn function_by(instructions: &[Instruction]) -> Option<usize>
+fn function_in(instructions: &[Instruction]) -> Option<usize>
     ensures { result ≡ binary.function_in instructions.now }
 {
     match instructions {
@@ -1067,12 +1042,15 @@ fn index_of(argument: &Argument) -> Option<usize>
 }
 
 /// The functions of elements, where all are functions.
-fn functions_in(alloc: Global, elements: &[Element]) -> Result<Option<Vec<usize>>, AllocError>
-    ensures { IfOk result (λ o. MatchOption o (binary.functions_in (map items_of elements.now) ≡ None) (λ xs. binary.functions_in (map items_of elements.now) ≡ Some xs.items)) }
+fn functions_in(
+    alloc: Global,
+    expressions: &[Vec<Instruction>],
+) -> Result<Option<Vec<usize>>, AllocError>
+    ensures { IfOk result (λ o. MatchOption o (binary.functions_in (map expression_of expressions.now) ≡ None) (λ xs. binary.functions_in (map expression_of expressions.now) ≡ Some xs.items)) }
 {
     let mut functions = Vec::new(alloc);
-    for element in elements {
-        match function_in(element) {
+    for expression in expressions {
+        match function_in(expression) {
             Some(index) => functions.push(index)?,
             None => return Ok(None),
         }
@@ -1084,12 +1062,12 @@ fn functions_in(alloc: Global, elements: &[Element]) -> Result<Option<Vec<usize>
 fn functions_by(
     alloc: Global,
     of: ReferenceType,
-    elements: &[Element],
+    expressions: &[Vec<Instruction>],
 ) -> Result<Option<Vec<usize>>, AllocError>
-    ensures { IfOk result (λ o. MatchOption o (binary.functions_by of (map items_of elements.now) ≡ None) (λ xs. binary.functions_by of (map items_of elements.now) ≡ Some xs.items)) }
+    ensures { IfOk result (λ o. MatchOption o (binary.functions_by of (map expression_of expressions.now) ≡ None) (λ xs. binary.functions_by of (map expression_of expressions.now) ≡ Some xs.items)) }
 {
     match of {
-        ReferenceType::Func => functions_in(alloc, elements),
+        ReferenceType::Func => functions_in(alloc, expressions),
         ReferenceType::Extern => Ok(None),
     }
 }
@@ -1122,25 +1100,44 @@ fn put_expression(
 fn put_elements_of(
     out: &mut Vec<u8>,
     types: &IndexedTypes,
-    elements: &[Element],
+    elements: &Elements,
 ) -> Result<(), AllocError>
-    ensures { OnOk result (out.new.items ≡ out.old.items ++ binary.element_list types.now (map items_of elements.now)) }
+    ensures { OnOk result (out.new.items ≡ out.old.items ++ binary.element_list types.now (items_of elements.now)) }
 {
-    put(out, elements.len())?;
-    for element in elements {
-        put_element(out, types, element)?;
+    match elements {
+        Elements::Functions(functions) => put_references(out, types, functions),
+        Elements::Expressions(expressions) => put_expressions(out, types, expressions),
+    }
+}
+
+/// Appends functions, each by the instruction that refers to it.
+fn put_references(
+    out: &mut Vec<u8>,
+    types: &IndexedTypes,
+    functions: &[usize],
+) -> Result<(), AllocError>
+    ensures { OnOk result (out.new.items ≡ out.old.items ++ binary.element_list types.now (map grammar.ref_func functions.now)) }
+{
+    put(out, functions.len())?;
+    for index in functions {
+        put_expression(out, types, &[ref_func(*index)])?;
     }
     Ok(())
 }
 
-/// Appends an element by its instructions.
-fn put_element(out: &mut Vec<u8>, types: &IndexedTypes, element: &Element) -> Result<(), AllocError>
-    ensures { OnOk result (out.new.items ≡ out.old.items ++ binary.expression_bytes types.now (items_of element.now)) }
+/// Appends expressions.
+fn put_expressions(
+    out: &mut Vec<u8>,
+    types: &IndexedTypes,
+    expressions: &[Vec<Instruction>],
+) -> Result<(), AllocError>
+    ensures { OnOk result (out.new.items ≡ out.old.items ++ binary.element_list types.now (map expression_of expressions.now)) }
 {
-    match element {
-        Element::Function(index) => put_expression(out, types, &[ref_func(*index)]),
-        Element::Expression(instructions) => put_expression(out, types, instructions),
+    put(out, expressions.len())?;
+    for expression in expressions {
+        put_expression(out, types, expression)?;
     }
+    Ok(())
 }
 
 /// Appends a segment of functions that is put into a table.
@@ -1213,9 +1210,9 @@ fn put_active_elements(
     index: usize,
     offset: &[Instruction],
     of: ReferenceType,
-    elements: &[Element],
+    elements: &Elements,
 ) -> Result<(), AllocError>
-    ensures { OnOk result (out.new.items ≡ out.old.items ++ binary.other_segment types.now (grammar.Active (grammar.target index offset.now)) of (map items_of elements.now)) }
+    ensures { OnOk result (out.new.items ≡ out.old.items ++ binary.other_segment types.now (grammar.Active (grammar.target index offset.now)) of (items_of elements.now)) }
 {
     if index == 0 && is_funcref(of) {
         out.push(0x04)?;
@@ -1235,9 +1232,9 @@ fn put_other_segment(
     types: &IndexedTypes,
     place: ElemPlace<'_>,
     of: ReferenceType,
-    elements: &[Element],
+    elements: &Elements,
 ) -> Result<(), AllocError>
-    ensures { OnOk result (out.new.items ≡ out.old.items ++ binary.other_segment types.now (elem_place_of place.entry) of (map items_of elements.now)) }
+    ensures { OnOk result (out.new.items ≡ out.old.items ++ binary.other_segment types.now (elem_place_of place.entry) of (items_of elements.now)) }
 {
     match place {
         ElemPlace::Passive => {
@@ -1257,6 +1254,42 @@ fn put_other_segment(
     }
 }
 
+/// Appends a segment of functions that are said by their indices.
+#[tactic(auto, using(crate::proofs::Functions::functions_of_indices))]
+fn put_indices(
+    out: &mut Vec<u8>,
+    types: &IndexedTypes,
+    segment: ElementSegment<'_>,
+    functions: &[usize],
+) -> Result<(), AllocError>
+    requires { items_of segment.elements.now ≡ map grammar.ref_func functions.now }
+    ensures { OnOk result (out.new.items ≡ out.old.items ++ binary.elem_bytes types.now (element_segment_of segment.entry)) }
+{
+    match segment.of {
+        ReferenceType::Func => put_function_segment(out, types, segment.place, functions),
+        ReferenceType::Extern => {
+            put_other_segment(out, types, segment.place, segment.of, segment.elements)
+        }
+    }
+}
+
+/// Appends a segment of expressions.
+fn put_items(
+    alloc: Global,
+    out: &mut Vec<u8>,
+    types: &IndexedTypes,
+    segment: ElementSegment<'_>,
+    expressions: &[Vec<Instruction>],
+) -> Result<(), AllocError>
+    requires { items_of segment.elements.now ≡ map expression_of expressions.now }
+    ensures { OnOk result (out.new.items ≡ out.old.items ++ binary.elem_bytes types.now (element_segment_of segment.entry)) }
+{
+    match functions_by(alloc, segment.of, expressions)? {
+        Some(functions) => put_function_segment(out, types, segment.place, &functions),
+        None => put_other_segment(out, types, segment.place, segment.of, segment.elements),
+    }
+}
+
 /// Appends an element segment.
 fn put_element_segment(
     alloc: Global,
@@ -1266,9 +1299,9 @@ fn put_element_segment(
 ) -> Result<(), AllocError>
     ensures { OnOk result (out.new.items ≡ out.old.items ++ binary.elem_bytes types.now (element_segment_of segment.entry)) }
 {
-    match functions_by(alloc, segment.of, segment.elements)? {
-        Some(functions) => put_function_segment(out, types, segment.place, &functions),
-        None => put_other_segment(out, types, segment.place, segment.of, segment.elements),
+    match segment.elements {
+        Elements::Functions(functions) => put_indices(out, types, segment, functions),
+        Elements::Expressions(expressions) => put_items(alloc, out, types, segment, expressions),
     }
 }
 

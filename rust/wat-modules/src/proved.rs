@@ -69,7 +69,7 @@ pub fn compile(alloc: Global, text: &str) -> Result<Vec<u8>, Error> {
 fn of_draft(alloc: Global, text: &str, draft: Draft<'_>) -> Result<Vec<u8>, Error> {
     let Draft { pieces, values } = draft;
     let pieces = completed(pieces, &values);
-    of_pieces(alloc, text, &pieces)
+    of_pieces(alloc, text, pieces)
 }
 
 /// The same of pieces.
@@ -79,13 +79,17 @@ fn of_draft(alloc: Global, text: &str, draft: Draft<'_>) -> Result<Vec<u8>, Erro
 /// ```text
 /// requires { length text.now < 2 ^ 32 }
 /// ensures { (tokens : List Token) → TextShows (plain text.now) no_names tokens None →
-///     map terminal pieces.now ≡ map (terminal_of text.now) tokens →
+///     map terminal pieces.entry.items ≡ map (terminal_of text.now) tokens →
 ///     Answers true (λ bytes. bytes.items) (compiled_tokens text.now tokens) result }
 /// ```
-fn of_pieces(alloc: Global, text: &str, pieces: &[Piece<'_>]) -> Result<Vec<u8>, Error> {
+fn of_pieces(alloc: Global, text: &str, pieces: Vec<Piece<'_>>) -> Result<Vec<u8>, Error> {
     crate::reading::laws::reading_is_grammar();
-    match module::module(alloc, pieces) {
-        Ok(fields) => fitting(alloc, text, encode::module_bytes(alloc, &fields)?),
+    match module::module(alloc, &pieces) {
+        Ok(fields) => {
+            // Fields borrow from the text alone: bytes are written where tokens were.
+            drop(pieces);
+            fitting(alloc, text, encode::module_bytes(alloc, &fields)?)
+        }
         Err(Refusal::Memory(refused)) => Err(Error::from(refused)),
         Err(Refusal::Text(fault)) => Err(fault_at(alloc, text, fault.kind, fault.left.len())),
     }

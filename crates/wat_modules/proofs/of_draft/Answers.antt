@@ -5,5 +5,5 @@ use Rattle.wat_modules.proofs.of_draft.Goals as goal
 
 pub returns : goal.returns
 returns c = λ tokens h are.
-    let same : map terminal c.deref-2.result.now ≡ draft_terminals c.args.draft = search rules in
+    let same : map terminal c.completed-pieces.result.items ≡ draft_terminals c.args.draft = search rules in
     c.of_pieces.ensures tokens h (same ∙ are)

@@ -1,4 +1,4 @@
-use Rattle.std.proofs.Common.{◌≡◌, length, map, subst, sym}
+use Rattle.std.proofs.Common.{◌≡◌, ◌∙◌, ap, length, map, subst, sym}
 use Rattle.std.proofs.lemmas.List.{length-map}
 use Rattle.wat_fields.specs.Views.{fields_of}
 use Rattle.wat_fields_read.specs.Reading.{whole}
@@ -9,15 +9,17 @@ use Rattle.wat_instructions.specs.Terminals.{terminal}
 use Rattle.wat_modules.proofs.Answering.{of_bytes, of_fault}
 use Rattle.wat_modules.proofs.of_pieces.Goals as goal
 
-pub returns-in_ok-module_bytes-in-Ok : goal.returns-in_ok-module_bytes-in-Ok
-returns-in_ok-module_bytes-in-Ok c = λ tokens h are.
+pub returns-in-Ok : goal.returns-in-Ok
+returns-in-Ok c = λ tokens h are.
+    let pieces = c.deref.result.now in
     let bytes = c.in_ok-module_bytes-in-Ok.field-0.items in
-    let is = subst (λ fields. bytes ≡ module_bytes (fields_of fields)) c.deref.ensures.value c.in_ok-module_bytes-in-Ok.ensures in
-    of_bytes c.reading_is_grammar.ensures c.args.text.now tokens (map terminal c.args.pieces.now) (fields_of c.in-Ok.fields.items) bytes c.fitting.result c.in-Ok.ensures.read is c.fitting.ensures are
+    let is = subst (λ fields. bytes ≡ module_bytes (fields_of fields)) c.deref-in-Ok.ensures.value c.in_ok-module_bytes-in-Ok.ensures in
+    of_bytes c.reading_is_grammar.ensures c.args.text.now tokens (map terminal pieces) (fields_of c.in-Ok.fields.items) bytes c.fitting.result c.in-Ok.ensures.read is c.fitting.ensures (ap (λ ps. map terminal ps) c.deref.ensures.value ∙ are)
 
-pub returns-in-Err-Text : goal.returns-in-Err-Text
-returns-in-Err-Text c = λ tokens h are.
+pub returns : goal.returns
+returns c = λ tokens h are.
+    let pieces = c.deref.result.now in
     let fault = c.in-Err-Text.fault in
     let n = length fault.left.now in
-    let refused : Faults (whole (map terminal c.args.pieces.now)) (Text fault) = rw c.in-Err-Text.field-0-is at c.in-Err-Text.ensures.refused in
-    of_fault c.args.text.now tokens (map terminal c.args.pieces.now) fault.kind (map terminal fault.left.now) n c.fault_at.result refused (sym (length-map fault.left.now terminal)) (c.fault_at.ensures tokens h) are
+    let refused : Faults (whole (map terminal pieces)) (Text fault) = rw c.in-Err-Text.field-0-is at c.in-Err-Text.ensures.refused in
+    of_fault c.args.text.now tokens (map terminal pieces) fault.kind (map terminal fault.left.now) n c.fault_at.result refused (sym (length-map fault.left.now terminal)) (c.fault_at.ensures tokens h) (ap (λ ps. map terminal ps) c.deref.ensures.value ∙ are)

@@ -72,6 +72,12 @@ impl<T> Vec<T> {
         self.0.remove(place)
     }
 
+    /// Gives back the memory that no item takes.
+    #[inline]
+    pub fn shrink_to_fit(&mut self) {
+        self.0.shrink_to_fit();
+    }
+
     /// Takes the last item.
     #[inline]
     pub fn pop(&mut self) -> Option<T> {

@@ -2,7 +2,7 @@
 //! The types of a module: those that its fields define, and those that type uses bring.
 
 use wat_lex::shim::prelude::*;
-use crate::fields::fields::{ElemMode, Element, ExternType, Field, TypeUse};
+use crate::fields::fields::{ElemMode, Elements, ExternType, Field};
 use crate::fields::indexed_types::IndexedTypes;
 use wat_lex::shim::alloc::{AllocError, Global};
 use crate::instructions::pieces::{Argument, Instruction};
@@ -75,27 +75,30 @@ fn add_instructions(types: &mut IndexedTypes, all: &[Instruction]) -> Result<(),
 /// # Proved
 ///
 /// ```text
-/// ensures { OnOk result (types.new ≡ implicit.types_after types.old (flat_map expression_types (map items_of elements.now))) }
+/// ensures { OnOk result (types.new ≡ implicit.types_after types.old (flat_map expression_types (items_of elements.now))) }
 /// ```
-fn add_elements(types: &mut IndexedTypes, elements: &[Element]) -> Result<(), AllocError> {
-    for element in elements {
-        add_element(types, element)?;
+fn add_elements(types: &mut IndexedTypes, elements: &Elements) -> Result<(), AllocError> {
+    match elements {
+        Elements::Functions(_) => Ok(()),
+        Elements::Expressions(expressions) => add_expressions(types, expressions),
     }
-    Ok(())
 }
 
-/// Appends the types that an element brings.
+/// Appends the types that expressions bring.
 ///
 /// # Proved
 ///
 /// ```text
-/// ensures { OnOk result (types.new ≡ implicit.types_after types.old (expression_types (items_of element.now))) }
+/// ensures { OnOk result (types.new ≡ implicit.types_after types.old (flat_map expression_types (map expression_of expressions.now))) }
 /// ```
-fn add_element(types: &mut IndexedTypes, element: &Element) -> Result<(), AllocError> {
-    match element {
-        Element::Function(_) => Ok(()),
-        Element::Expression(instructions) => add_instructions(types, instructions),
+fn add_expressions(
+    types: &mut IndexedTypes,
+    expressions: &[Vec<Instruction>],
+) -> Result<(), AllocError> {
+    for expression in expressions {
+        add_instructions(types, expression)?;
     }
+    Ok(())
 }
 
 /// Appends the types that the offset of an active element segment brings.
@@ -117,11 +120,11 @@ fn add_mode(types: &mut IndexedTypes, mode: &ElemMode) -> Result<(), AllocError>
 /// # Proved
 ///
 /// ```text
-/// ensures { OnOk result (types.new ≡ implicit.types_after types.old (implicit.use_types (fields.use_of uses.now))) }
+/// ensures { OnOk result (types.new ≡ implicit.types_after types.old (brought (use_of uses.now))) }
 /// ```
-fn add_use(types: &mut IndexedTypes, uses: &TypeUse<'_>) -> Result<(), AllocError> {
+fn add_use(types: &mut IndexedTypes, uses: &UnnamedUse) -> Result<(), AllocError> {
     if uses.index.is_none() {
-        types.add_used(uses)?;
+        types.add(&uses.of)?;
     }
     Ok(())
 }

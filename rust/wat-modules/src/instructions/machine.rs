@@ -22,7 +22,8 @@ const END: Instruction = Instruction {
     argument: Argument::Nothing,
 };
 
-/// The instructions of a body up to its `)`, and what comes after that.
+/// The instructions of a body up to its `)`, and what comes after that. They take no more memory
+/// than they need.
 ///
 /// # Proved
 ///
@@ -33,14 +34,17 @@ const END: Instruction = Instruction {
 /// ```
 pub fn instructions<'p, 'a>(
     alloc: Global,
-    scope: &Scope<'_, 'p>,
+    scope: &Scope<'_, '_>,
     pieces: &'p [Piece<'a>],
 ) -> Result<(Vec<Instruction>, &'p [Piece<'a>]), Refusal<'p, 'a>> {
-    let mut out = Vec::new(alloc);
+    let mut out = Vec::with_capacity(alloc, 1)?;
     let mut frames = Vec::new(alloc);
     frames.push(Frame::Body)?;
     match steps(alloc, scope, &mut frames, &mut out, pieces) {
-        Ok(rest) => Ok((out, rest)),
+        Ok(rest) => {
+            out.shrink_to_fit();
+            Ok((out, rest))
+        }
         Err(refusal) => Err(refusal),
     }
 }
@@ -56,10 +60,11 @@ pub fn instructions<'p, 'a>(
 /// ```
 pub fn one_folded<'p, 'a>(
     alloc: Global,
-    scope: &Scope<'_, 'p>,
+    scope: &Scope<'_, '_>,
     pieces: &'p [Piece<'a>],
 ) -> Result<(Vec<Instruction>, &'p [Piece<'a>]), Refusal<'p, 'a>> {
-    let mut out = Vec::new(alloc);
+    // Most are one instruction, and a first push makes room for four.
+    let mut out = Vec::with_capacity(alloc, 1)?;
     let mut frames = Vec::new(alloc);
     match first_step(alloc, scope, &mut frames, &mut out, pieces) {
         Ok(rest) => match steps(alloc, scope, &mut frames, &mut out, rest) {
@@ -82,7 +87,7 @@ pub fn one_folded<'p, 'a>(
 /// ```
 fn first_step<'p, 'a>(
     alloc: Global,
-    scope: &Scope<'_, 'p>,
+    scope: &Scope<'_, '_>,
     frames: &mut Vec<Frame<'p>>,
     out: &mut Vec<Instruction>,
     pieces: &'p [Piece<'a>],
@@ -106,7 +111,7 @@ fn first_step<'p, 'a>(
 /// ```
 fn steps<'p, 'a>(
     alloc: Global,
-    scope: &Scope<'_, 'p>,
+    scope: &Scope<'_, '_>,
     frames: &mut Vec<Frame<'p>>,
     out: &mut Vec<Instruction>,
     pieces: &'p [Piece<'a>],
@@ -142,7 +147,7 @@ struct Left<'p, 'a> {
 /// ```
 fn step_on<'p, 'a>(
     alloc: Global,
-    scope: &Scope<'_, 'p>,
+    scope: &Scope<'_, '_>,
     frame: Frame<'p>,
     frames: &mut Vec<Frame<'p>>,
     out: &mut Vec<Instruction>,
@@ -165,7 +170,7 @@ fn step_on<'p, 'a>(
 /// ```
 fn step<'p, 'a>(
     alloc: Global,
-    scope: &Scope<'_, 'p>,
+    scope: &Scope<'_, '_>,
     frame: Frame<'p>,
     frames: &mut Vec<Frame<'p>>,
     out: &mut Vec<Instruction>,
@@ -320,7 +325,7 @@ fn turned<'p, 'a>(
 /// ```
 fn folded<'p, 'a>(
     alloc: Global,
-    scope: &Scope<'_, 'p>,
+    scope: &Scope<'_, '_>,
     frame: Frame<'p>,
     frames: &mut Vec<Frame<'p>>,
     out: &mut Vec<Instruction>,
@@ -345,7 +350,7 @@ fn folded<'p, 'a>(
 /// ```
 fn folded_word<'p, 'a>(
     alloc: Global,
-    scope: &Scope<'_, 'p>,
+    scope: &Scope<'_, '_>,
     frame: Frame<'p>,
     frames: &mut Vec<Frame<'p>>,
     out: &mut Vec<Instruction>,
@@ -386,7 +391,7 @@ fn folded_word<'p, 'a>(
 /// ```
 fn folded_instruction<'p, 'a>(
     alloc: Global,
-    scope: &Scope<'_, 'p>,
+    scope: &Scope<'_, '_>,
     frames: &mut Vec<Frame<'p>>,
     out: &mut Vec<Instruction>,
     word: &str,
@@ -414,7 +419,7 @@ fn folded_instruction<'p, 'a>(
 /// ```
 fn folded_block<'p, 'a>(
     alloc: Global,
-    scope: &Scope<'_, 'p>,
+    scope: &Scope<'_, '_>,
     frames: &mut Vec<Frame<'p>>,
     out: &mut Vec<Instruction>,
     opcode: u8,
@@ -446,7 +451,7 @@ fn folded_block<'p, 'a>(
 /// ```
 fn at_word<'p, 'a>(
     alloc: Global,
-    scope: &Scope<'_, 'p>,
+    scope: &Scope<'_, '_>,
     frame: Frame<'p>,
     frames: &mut Vec<Frame<'p>>,
     out: &mut Vec<Instruction>,
@@ -490,7 +495,7 @@ fn at_word<'p, 'a>(
 /// ```
 fn instruction<'p, 'a>(
     alloc: Global,
-    scope: &Scope<'_, 'p>,
+    scope: &Scope<'_, '_>,
     frames: &mut Vec<Frame<'p>>,
     out: &mut Vec<Instruction>,
     word: &str,

@@ -571,9 +571,9 @@ pub fn plain<'p, 'a>(
 /// ensures name { label result.0 ≡ (label_of (map terminal pieces.now)).0 }
 /// ensures rest { map terminal result.1.now ≡ (label_of (map terminal pieces.now)).1 }
 /// ```
-pub fn label<'p, 'a>(pieces: &'p [Piece<'a>]) -> (Name<'p>, &'p [Piece<'a>]) {
+pub fn label<'p, 'a>(pieces: &'p [Piece<'a>]) -> (Name<'a>, &'p [Piece<'a>]) {
     match pieces {
-        [Piece::Id(name), rest @ ..] => (Name::Given(name), rest),
+        [Piece::Id(name), rest @ ..] => (Name::Given(*name), rest),
         _ => (Name::Absent, pieces),
     }
 }

@@ -8,8 +8,8 @@ use crate::reading::names::Names;
 use crate::reading::segments::{expression, used};
 use crate::reading::types::{table_type, twice_closed};
 use wat_lex::shim::alloc::Global;
-use crate::fields::fields::{Elem, ElemMode, Element, Field, Limits, Table, TableType, Target};
-use crate::instructions::pieces::{Fault, FaultKind, Name, Piece, ReferenceType, Refusal};
+use crate::fields::fields::{Elem, ElemMode, Elements, Field, Limits, Table, TableType, Target};
+use crate::instructions::pieces::{Fault, FaultKind, Instruction, Name, Piece, ReferenceType, Refusal};
 use crate::instructions::reading;
 
 /// Elements by their instructions.
@@ -18,14 +18,14 @@ use crate::instructions::reading;
 ///
 /// ```text
 /// ensures { MatchResult result
-/// (λ r. reading.all (reading.element_item (context_of names.now)) (map terminal pieces.now) ≡ Ok (map items_of r.0.items, map terminal r.1.now))
+/// (λ r. reading.all (reading.element_item (context_of names.now)) (map terminal pieces.now) ≡ Ok (map expression_of r.0.items, map terminal r.1.now))
 /// (λ e. Faults (reading.all (reading.element_item (context_of names.now)) (map terminal pieces.now)) e) }
 /// ```
 fn items<'p, 'a>(
     alloc: Global,
-    names: &Names<'p>,
+    names: &Names<'a>,
     pieces: &'p [Piece<'a>],
-) -> Result<(Vec<Element>, &'p [Piece<'a>]), Refusal<'p, 'a>> {
+) -> Result<(Vec<Vec<Instruction>>, &'p [Piece<'a>]), Refusal<'p, 'a>> {
     crate::instructions::laws::machine_is_grammar();
     crate::instructions::laws::folded_is_grammar();
     crate::instructions::laws::instructions_are_balanced();
@@ -49,20 +49,20 @@ fn items<'p, 'a>(
 /// ```text
 /// ensures { MatchResult result
 /// (λ o. MatchOption o
-/// (NoItem (reading.element_item (context_of names.now) (map terminal left.entry.pieces.now)) (map items_of found.old.items) (map items_of found.new.items))
-/// (λ l. IsItem (reading.element_item (context_of names.now) (map terminal left.entry.pieces.now)) (map items_of found.old.items) (map items_of found.new.items) (map terminal l.pieces.now)))
+/// (NoItem (reading.element_item (context_of names.now) (map terminal left.entry.pieces.now)) (map expression_of found.old.items) (map expression_of found.new.items))
+/// (λ l. IsItem (reading.element_item (context_of names.now) (map terminal left.entry.pieces.now)) (map expression_of found.old.items) (map expression_of found.new.items) (map terminal l.pieces.now)))
 /// (λ e. ItemFaults (reading.element_item (context_of names.now) (map terminal left.entry.pieces.now)) e) }
 /// ```
 fn next_item<'p, 'a>(
     alloc: Global,
-    names: &Names<'p>,
-    found: &mut Vec<Element>,
+    names: &Names<'a>,
+    found: &mut Vec<Vec<Instruction>>,
     left: Left<'p, 'a>,
 ) -> Result<Option<Left<'p, 'a>>, Refusal<'p, 'a>> {
     match left.pieces {
         [Piece::Open, ..] => match expression(alloc, names, "item", left.pieces) {
             Ok((element, pieces)) => {
-                found.push(Element::Expression(element))?;
+                found.push(element)?;
                 Ok(Some(Left { pieces }))
             }
             Err(refusal) => Err(refusal),
@@ -77,14 +77,14 @@ fn next_item<'p, 'a>(
 ///
 /// ```text
 /// ensures { MatchResult result
-/// (λ r. reading.all (reading.function_item (context_of names.now)) (map terminal pieces.now) ≡ Ok (map items_of r.0.items, map terminal r.1.now))
+/// (λ r. reading.all (reading.function_item (context_of names.now)) (map terminal pieces.now) ≡ Ok (map grammar.ref_func r.0.items, map terminal r.1.now))
 /// (λ e. Faults (reading.all (reading.function_item (context_of names.now)) (map terminal pieces.now)) e) }
 /// ```
 fn functions<'p, 'a>(
     alloc: Global,
-    names: &Names<'p>,
+    names: &Names<'a>,
     pieces: &'p [Piece<'a>],
-) -> Result<(Vec<Element>, &'p [Piece<'a>]), Refusal<'p, 'a>> {
+) -> Result<(Vec<usize>, &'p [Piece<'a>]), Refusal<'p, 'a>> {
     crate::instructions::laws::machine_is_grammar();
     crate::instructions::laws::folded_is_grammar();
     crate::instructions::laws::instructions_are_balanced();
@@ -108,19 +108,19 @@ fn functions<'p, 'a>(
 /// ```text
 /// ensures { MatchResult result
 /// (λ o. MatchOption o
-/// (NoItem (reading.function_item (context_of names.now) (map terminal left.entry.pieces.now)) (map items_of found.old.items) (map items_of found.new.items))
-/// (λ l. IsItem (reading.function_item (context_of names.now) (map terminal left.entry.pieces.now)) (map items_of found.old.items) (map items_of found.new.items) (map terminal l.pieces.now)))
+/// (NoItem (reading.function_item (context_of names.now) (map terminal left.entry.pieces.now)) (map grammar.ref_func found.old.items) (map grammar.ref_func found.new.items))
+/// (λ l. IsItem (reading.function_item (context_of names.now) (map terminal left.entry.pieces.now)) (map grammar.ref_func found.old.items) (map grammar.ref_func found.new.items) (map terminal l.pieces.now)))
 /// (λ e. ItemFaults (reading.function_item (context_of names.now) (map terminal left.entry.pieces.now)) e) }
 /// ```
 fn next_function<'p, 'a>(
-    names: &Names<'p>,
-    found: &mut Vec<Element>,
+    names: &Names<'a>,
+    found: &mut Vec<usize>,
     left: Left<'p, 'a>,
 ) -> Result<Option<Left<'p, 'a>>, Refusal<'p, 'a>> {
     match left.pieces {
         [Piece::Integer(_, _) | Piece::Id(_), ..] => {
             let (index, pieces) = reading::index(&names.funcs, left.pieces)?;
-            found.push(Element::Function(index))?;
+            found.push(index)?;
             Ok(Some(Left { pieces }))
         }
         _ => Ok(None),
@@ -133,17 +133,23 @@ fn next_function<'p, 'a>(
 ///
 /// ```text
 /// ensures { MatchResult result
-/// (λ r. reading.either_at (context_of names.now) (map terminal pieces.now) ≡ Ok (map items_of r.0.items, map terminal r.1.now))
+/// (λ r. reading.either_at (context_of names.now) (map terminal pieces.now) ≡ Ok (items_of r.0, map terminal r.1.now))
 /// (λ e. Faults (reading.either_at (context_of names.now) (map terminal pieces.now)) e) }
 /// ```
 fn either<'p, 'a>(
     alloc: Global,
-    names: &Names<'p>,
+    names: &Names<'a>,
     pieces: &'p [Piece<'a>],
-) -> Result<(Vec<Element>, &'p [Piece<'a>]), Refusal<'p, 'a>> {
+) -> Result<(Elements, &'p [Piece<'a>]), Refusal<'p, 'a>> {
     match pieces {
-        [Piece::Open, ..] => items(alloc, names, pieces),
-        _ => functions(alloc, names, pieces),
+        [Piece::Open, ..] => {
+            let (expressions, rest) = items(alloc, names, pieces)?;
+            Ok((Elements::Expressions(expressions), rest))
+        }
+        _ => {
+            let (functions, rest) = functions(alloc, names, pieces)?;
+            Ok((Elements::Functions(functions), rest))
+        }
     }
 }
 
@@ -158,11 +164,11 @@ fn either<'p, 'a>(
 /// ```
 pub(crate) fn table_at<'p, 'a>(
     alloc: Global,
-    names: &Names<'p>,
-    name: Name<'p>,
-    exports: Vec<&'p [u8]>,
+    names: &Names<'a>,
+    name: Name<'a>,
+    exports: Vec<&'a [u8]>,
     pieces: &'p [Piece<'a>],
-) -> Result<(Field<'p>, &'p [Piece<'a>]), Refusal<'p, 'a>> {
+) -> Result<(Field<'a>, &'p [Piece<'a>]), Refusal<'p, 'a>> {
     match pieces {
         [Piece::Word(word), rest @ ..] => match reading::reference_type(word) {
             Some(of) => table_open(alloc, names, name, exports, of, rest),
@@ -195,10 +201,10 @@ pub(crate) fn table_at<'p, 'a>(
 /// (λ f. reading.table_limits (label name.entry) (map text_of exports.entry.items) (map terminal pieces.now) ≡ Err (fault_of f)) }
 /// ```
 fn table_limits<'p, 'a>(
-    name: Name<'p>,
-    exports: Vec<&'p [u8]>,
+    name: Name<'a>,
+    exports: Vec<&'a [u8]>,
     pieces: &'p [Piece<'a>],
-) -> Result<(Field<'p>, &'p [Piece<'a>]), Fault<'p, 'a>> {
+) -> Result<(Field<'a>, &'p [Piece<'a>]), Fault<'p, 'a>> {
     let (of, rest) = table_type(pieces)?;
     let rest = closed(rest)?;
     Ok((
@@ -223,12 +229,12 @@ fn table_limits<'p, 'a>(
 /// ```
 fn table_open<'p, 'a>(
     alloc: Global,
-    names: &Names<'p>,
-    name: Name<'p>,
-    exports: Vec<&'p [u8]>,
+    names: &Names<'a>,
+    name: Name<'a>,
+    exports: Vec<&'a [u8]>,
     of: ReferenceType,
     pieces: &'p [Piece<'a>],
-) -> Result<(Field<'p>, &'p [Piece<'a>]), Refusal<'p, 'a>> {
+) -> Result<(Field<'a>, &'p [Piece<'a>]), Refusal<'p, 'a>> {
     match after("elem", pieces) {
         Some(rest) => table_elements(alloc, names, name, exports, of, rest),
         None => Err(Refusal::Text(Fault {
@@ -249,12 +255,12 @@ fn table_open<'p, 'a>(
 /// ```
 fn table_elements<'p, 'a>(
     alloc: Global,
-    names: &Names<'p>,
-    name: Name<'p>,
-    exports: Vec<&'p [u8]>,
+    names: &Names<'a>,
+    name: Name<'a>,
+    exports: Vec<&'a [u8]>,
     of: ReferenceType,
     pieces: &'p [Piece<'a>],
-) -> Result<(Field<'p>, &'p [Piece<'a>]), Refusal<'p, 'a>> {
+) -> Result<(Field<'a>, &'p [Piece<'a>]), Refusal<'p, 'a>> {
     let (elements, rest) = either(alloc, names, pieces)?;
     let rest = twice_closed(rest)?;
     Ok(table_with(name, exports, of, pieces, elements, rest)?)
@@ -266,17 +272,17 @@ fn table_elements<'p, 'a>(
 ///
 /// ```text
 /// ensures { MatchResult result
-/// (λ r. reading.table_with (label name.entry) (map text_of exports.entry.items) of (map terminal all.now) (map items_of elements.items) (map terminal rest.now) ≡ Ok (field_of r.0 ∷ [], map terminal r.1.now))
-/// (λ f. reading.table_with (label name.entry) (map text_of exports.entry.items) of (map terminal all.now) (map items_of elements.items) (map terminal rest.now) ≡ Err (fault_of f)) }
+/// (λ r. reading.table_with (label name.entry) (map text_of exports.entry.items) of (map terminal all.now) (items_of elements) (map terminal rest.now) ≡ Ok (field_of r.0 ∷ [], map terminal r.1.now))
+/// (λ f. reading.table_with (label name.entry) (map text_of exports.entry.items) of (map terminal all.now) (items_of elements) (map terminal rest.now) ≡ Err (fault_of f)) }
 /// ```
 fn table_with<'p, 'a>(
-    name: Name<'p>,
-    exports: Vec<&'p [u8]>,
+    name: Name<'a>,
+    exports: Vec<&'a [u8]>,
     of: ReferenceType,
     all: &'p [Piece<'a>],
-    elements: Vec<Element>,
+    elements: Elements,
     rest: &'p [Piece<'a>],
-) -> Result<(Field<'p>, &'p [Piece<'a>]), Fault<'p, 'a>> {
+) -> Result<(Field<'a>, &'p [Piece<'a>]), Fault<'p, 'a>> {
     if elements.len() >= 0x1_0000_0000 {
         return Err(Fault {
             kind: FaultKind::OutOfRange,
@@ -307,14 +313,14 @@ fn table_with<'p, 'a>(
 ///
 /// ```text
 /// ensures { MatchResult result
-/// (λ r. reading.elements_at (context_of names.now) (map terminal pieces.now) ≡ Ok ((r.0.0, map items_of r.0.1.items), map terminal r.1.now))
+/// (λ r. reading.elements_at (context_of names.now) (map terminal pieces.now) ≡ Ok ((r.0.0, items_of r.0.1), map terminal r.1.now))
 /// (λ e. Faults (reading.elements_at (context_of names.now) (map terminal pieces.now)) e) }
 /// ```
 fn elements<'p, 'a>(
     alloc: Global,
-    names: &Names<'p>,
+    names: &Names<'a>,
     pieces: &'p [Piece<'a>],
-) -> Result<((ReferenceType, Vec<Element>), &'p [Piece<'a>]), Refusal<'p, 'a>> {
+) -> Result<((ReferenceType, Elements), &'p [Piece<'a>]), Refusal<'p, 'a>> {
     match pieces {
         [Piece::Word(word), rest @ ..] => elements_after(alloc, names, *word, pieces, rest),
         _ => Err(Refusal::Text(Fault {
@@ -330,25 +336,25 @@ fn elements<'p, 'a>(
 ///
 /// ```text
 /// ensures { MatchResult result
-/// (λ r. reading.elements_by (context_of names.now) word.now (reference_type word.now) (map terminal all.now) (map terminal pieces.now) ≡ Ok ((r.0.0, map items_of r.0.1.items), map terminal r.1.now))
+/// (λ r. reading.elements_by (context_of names.now) word.now (reference_type word.now) (map terminal all.now) (map terminal pieces.now) ≡ Ok ((r.0.0, items_of r.0.1), map terminal r.1.now))
 /// (λ e. Faults (reading.elements_by (context_of names.now) word.now (reference_type word.now) (map terminal all.now) (map terminal pieces.now)) e) }
 /// ```
 fn elements_after<'p, 'a>(
     alloc: Global,
-    names: &Names<'p>,
+    names: &Names<'a>,
     word: &str,
     all: &'p [Piece<'a>],
     pieces: &'p [Piece<'a>],
-) -> Result<((ReferenceType, Vec<Element>), &'p [Piece<'a>]), Refusal<'p, 'a>> {
+) -> Result<((ReferenceType, Elements), &'p [Piece<'a>]), Refusal<'p, 'a>> {
     match reading::reference_type(word) {
         Some(of) => {
-            let (elements, rest) = items(alloc, names, pieces)?;
-            Ok(((of, elements), rest))
+            let (expressions, rest) = items(alloc, names, pieces)?;
+            Ok(((of, Elements::Expressions(expressions)), rest))
         }
         None => {
             if word == "func" {
-                let (elements, rest) = functions(alloc, names, pieces)?;
-                Ok(((ReferenceType::Func, elements), rest))
+                let (functions, rest) = functions(alloc, names, pieces)?;
+                Ok(((ReferenceType::Func, Elements::Functions(functions)), rest))
             } else {
                 Err(Refusal::Text(Fault {
                     kind: FaultKind::UnknownWord,
@@ -370,11 +376,11 @@ fn elements_after<'p, 'a>(
 /// ```
 fn elem_list<'p, 'a>(
     alloc: Global,
-    names: &Names<'p>,
-    name: Name<'p>,
+    names: &Names<'a>,
+    name: Name<'a>,
     mode: ElemMode,
     pieces: &'p [Piece<'a>],
-) -> Result<(Field<'p>, &'p [Piece<'a>]), Refusal<'p, 'a>> {
+) -> Result<(Field<'a>, &'p [Piece<'a>]), Refusal<'p, 'a>> {
     let ((of, elements), rest) = elements(alloc, names, pieces)?;
     let rest = closed(rest)?;
     Ok((
@@ -399,19 +405,19 @@ fn elem_list<'p, 'a>(
 /// ```
 fn functions_list<'p, 'a>(
     alloc: Global,
-    names: &Names<'p>,
-    name: Name<'p>,
+    names: &Names<'a>,
+    name: Name<'a>,
     mode: ElemMode,
     pieces: &'p [Piece<'a>],
-) -> Result<(Field<'p>, &'p [Piece<'a>]), Refusal<'p, 'a>> {
-    let (elements, rest) = functions(alloc, names, pieces)?;
+) -> Result<(Field<'a>, &'p [Piece<'a>]), Refusal<'p, 'a>> {
+    let (functions, rest) = functions(alloc, names, pieces)?;
     let rest = closed(rest)?;
     Ok((
         Field::Elem(Elem {
             name,
             mode,
             of: ReferenceType::Func,
-            elements,
+            elements: Elements::Functions(functions),
         }),
         rest,
     ))
@@ -428,11 +434,11 @@ fn functions_list<'p, 'a>(
 /// ```
 fn first_table<'p, 'a>(
     alloc: Global,
-    names: &Names<'p>,
-    name: Name<'p>,
+    names: &Names<'a>,
+    name: Name<'a>,
     mode: ElemMode,
     pieces: &'p [Piece<'a>],
-) -> Result<(Field<'p>, &'p [Piece<'a>]), Refusal<'p, 'a>> {
+) -> Result<(Field<'a>, &'p [Piece<'a>]), Refusal<'p, 'a>> {
     match pieces {
         [Piece::Word(_), ..] => elem_list(alloc, names, name, mode, pieces),
         _ => functions_list(alloc, names, name, mode, pieces),
@@ -450,10 +456,10 @@ fn first_table<'p, 'a>(
 /// ```
 fn said_table<'p, 'a>(
     alloc: Global,
-    names: &Names<'p>,
-    name: Name<'p>,
+    names: &Names<'a>,
+    name: Name<'a>,
     pieces: &'p [Piece<'a>],
-) -> Result<(Field<'p>, &'p [Piece<'a>]), Refusal<'p, 'a>> {
+) -> Result<(Field<'a>, &'p [Piece<'a>]), Refusal<'p, 'a>> {
     let (index, rest) = used("table", &names.tables, pieces)?;
     let (offset, rest) = expression(alloc, names, "offset", rest)?;
     let mode = ElemMode::Active(Target { index, offset });
@@ -471,10 +477,10 @@ fn said_table<'p, 'a>(
 /// ```
 fn active_elem<'p, 'a>(
     alloc: Global,
-    names: &Names<'p>,
-    name: Name<'p>,
+    names: &Names<'a>,
+    name: Name<'a>,
     pieces: &'p [Piece<'a>],
-) -> Result<(Field<'p>, &'p [Piece<'a>]), Refusal<'p, 'a>> {
+) -> Result<(Field<'a>, &'p [Piece<'a>]), Refusal<'p, 'a>> {
     match after("table", pieces) {
         Some(_) => said_table(alloc, names, name, pieces),
         None => {
@@ -502,9 +508,9 @@ fn active_elem<'p, 'a>(
 /// ```
 pub(crate) fn elem_at<'p, 'a>(
     alloc: Global,
-    names: &Names<'p>,
+    names: &Names<'a>,
     pieces: &'p [Piece<'a>],
-) -> Result<(Field<'p>, &'p [Piece<'a>]), Refusal<'p, 'a>> {
+) -> Result<(Field<'a>, &'p [Piece<'a>]), Refusal<'p, 'a>> {
     let (name, rest) = reading::label(pieces);
     elem_after(alloc, names, name, rest)
 }
@@ -520,10 +526,10 @@ pub(crate) fn elem_at<'p, 'a>(
 /// ```
 fn elem_after<'p, 'a>(
     alloc: Global,
-    names: &Names<'p>,
-    name: Name<'p>,
+    names: &Names<'a>,
+    name: Name<'a>,
     pieces: &'p [Piece<'a>],
-) -> Result<(Field<'p>, &'p [Piece<'a>]), Refusal<'p, 'a>> {
+) -> Result<(Field<'a>, &'p [Piece<'a>]), Refusal<'p, 'a>> {
     match pieces {
         [Piece::Open, ..] => active_elem(alloc, names, name, pieces),
         [Piece::Word(word), rest @ ..] => elem_word(alloc, names, name, *word, pieces, rest),
@@ -546,12 +552,12 @@ fn elem_after<'p, 'a>(
 /// ```
 fn elem_word<'p, 'a>(
     alloc: Global,
-    names: &Names<'p>,
-    name: Name<'p>,
+    names: &Names<'a>,
+    name: Name<'a>,
     word: &str,
     all: &'p [Piece<'a>],
     pieces: &'p [Piece<'a>],
-) -> Result<(Field<'p>, &'p [Piece<'a>]), Refusal<'p, 'a>> {
+) -> Result<(Field<'a>, &'p [Piece<'a>]), Refusal<'p, 'a>> {
     if word == "declare" {
         return elem_list(alloc, names, name, ElemMode::Declarative, pieces);
     }

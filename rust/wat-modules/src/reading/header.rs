@@ -3,9 +3,9 @@
 
 use wat_lex::shim::prelude::*;
 use crate::reading::module::Left;
+use crate::reading::variables::Variable;
 use wat_lex::shim::alloc::{AllocError, Global};
 use core::str;
-use crate::fields::fields::Variable;
 use crate::instructions::pieces::{Fault, FaultKind, Name, Piece, Refusal, ValueType};
 use crate::instructions::reading::value_type;
 
@@ -21,7 +21,7 @@ use crate::instructions::reading::value_type;
 pub(crate) fn exports<'p, 'a>(
     alloc: Global,
     pieces: &'p [Piece<'a>],
-) -> Result<(Vec<&'p [u8]>, &'p [Piece<'a>]), Refusal<'p, 'a>> {
+) -> Result<(Vec<&'a [u8]>, &'p [Piece<'a>]), Refusal<'p, 'a>> {
     let mut found = Vec::new(alloc);
     let mut left = Left { pieces };
     'exports: loop {
@@ -49,7 +49,7 @@ pub(crate) fn variables<'p, 'a>(
     word: &str,
     may_have_name: bool,
     pieces: &'p [Piece<'a>],
-) -> Result<(Vec<Variable<'p>>, &'p [Piece<'a>]), Refusal<'p, 'a>> {
+) -> Result<(Vec<Variable<'a>>, &'p [Piece<'a>]), Refusal<'p, 'a>> {
     let mut found = Vec::new(alloc);
     let mut left = Left { pieces };
     'groups: loop {
@@ -167,7 +167,7 @@ fn is_utf8(bytes: &[u8]) -> bool {
 /// ```
 pub(crate) fn utf8_text<'p, 'a>(
     pieces: &'p [Piece<'a>],
-) -> Result<(&'p [u8], &'p [Piece<'a>]), Fault<'p, 'a>> {
+) -> Result<(&'a [u8], &'p [Piece<'a>]), Fault<'p, 'a>> {
     match pieces {
         [Piece::Text(text), rest @ ..] => {
             if is_utf8(text) {
@@ -195,7 +195,7 @@ pub(crate) fn utf8_text<'p, 'a>(
 /// (λ r. reading.export (map terminal pieces.now) ≡ Ok (r.0.now ∷ [], map terminal r.1.now))
 /// (λ f. reading.export (map terminal pieces.now) ≡ Err (fault_of f)) }
 /// ```
-fn export<'p, 'a>(pieces: &'p [Piece<'a>]) -> Result<(&'p [u8], &'p [Piece<'a>]), Fault<'p, 'a>> {
+fn export<'p, 'a>(pieces: &'p [Piece<'a>]) -> Result<(&'a [u8], &'p [Piece<'a>]), Fault<'p, 'a>> {
     let (name, rest) = utf8_text(pieces)?;
     let rest = closed(rest)?;
     Ok((name, rest))
@@ -213,7 +213,7 @@ fn export<'p, 'a>(pieces: &'p [Piece<'a>]) -> Result<(&'p [u8], &'p [Piece<'a>])
 /// (λ e. ItemFaults (reading.export_item (map terminal left.entry.pieces.now)) e) }
 /// ```
 fn next_export<'p, 'a>(
-    found: &mut Vec<&'p [u8]>,
+    found: &mut Vec<&'a [u8]>,
     left: Left<'p, 'a>,
 ) -> Result<Option<Left<'p, 'a>>, Refusal<'p, 'a>> {
     match after("export", left.pieces) {
@@ -241,19 +241,37 @@ fn next_group<'p, 'a>(
     alloc: Global,
     word: &str,
     may_have_name: bool,
-    found: &mut Vec<Variable<'p>>,
+    found: &mut Vec<Variable<'a>>,
     left: Left<'p, 'a>,
 ) -> Result<Option<Left<'p, 'a>>, Refusal<'p, 'a>> {
     match after(word, left.pieces) {
         Some(rest) => match group(alloc, may_have_name, rest) {
             Ok((variables, pieces)) => {
-                found.extend_from_slice(&variables)?;
+                put_variables(found, variables)?;
                 Ok(Some(Left { pieces }))
             }
             Err(refusal) => Err(refusal),
         },
         None => Ok(None),
     }
+}
+
+/// Appends variables. The first are moved, since most groups are alone.
+///
+/// # Proved
+///
+/// ```text
+/// ensures { OnOk result (map variable_of found.new.items ≡ map variable_of found.old.items ++ map variable_of variables.entry.items) }
+/// ```
+fn put_variables<'a>(
+    found: &mut Vec<Variable<'a>>,
+    variables: Vec<Variable<'a>>,
+) -> Result<(), AllocError> {
+    if found.is_empty() {
+        *found = variables;
+        return Ok(());
+    }
+    found.extend_from_slice(&variables)
 }
 
 /// One value type, where there is a word.
@@ -299,11 +317,11 @@ fn group<'p, 'a>(
     alloc: Global,
     may_have_name: bool,
     pieces: &'p [Piece<'a>],
-) -> Result<(Vec<Variable<'p>>, &'p [Piece<'a>]), Refusal<'p, 'a>> {
+) -> Result<(Vec<Variable<'a>>, &'p [Piece<'a>]), Refusal<'p, 'a>> {
     match pieces {
         [Piece::Id(name), rest @ ..] => {
             if may_have_name {
-                named_one(alloc, name, rest)
+                named_one(alloc, *name, rest)
             } else {
                 Err(Refusal::Text(Fault {
                     kind: FaultKind::Unexpected,
@@ -326,9 +344,9 @@ fn group<'p, 'a>(
 /// ```
 fn named_one<'p, 'a>(
     alloc: Global,
-    name: &'p str,
+    name: &'a str,
     pieces: &'p [Piece<'a>],
-) -> Result<(Vec<Variable<'p>>, &'p [Piece<'a>]), Refusal<'p, 'a>> {
+) -> Result<(Vec<Variable<'a>>, &'p [Piece<'a>]), Refusal<'p, 'a>> {
     match pieces {
         [Piece::Word(word), rest @ ..] => match value_type(word) {
             Some(of) => named_type(alloc, name, of, rest),
@@ -355,10 +373,10 @@ fn named_one<'p, 'a>(
 /// ```
 fn named_type<'p, 'a>(
     alloc: Global,
-    name: &'p str,
+    name: &'a str,
     of: ValueType,
     pieces: &'p [Piece<'a>],
-) -> Result<(Vec<Variable<'p>>, &'p [Piece<'a>]), Refusal<'p, 'a>> {
+) -> Result<(Vec<Variable<'a>>, &'p [Piece<'a>]), Refusal<'p, 'a>> {
     let rest = closed(pieces)?;
     let name = Name::Given(name);
     let mut variables = Vec::new(alloc);
@@ -378,7 +396,7 @@ fn named_type<'p, 'a>(
 fn listed<'p, 'a>(
     alloc: Global,
     pieces: &'p [Piece<'a>],
-) -> Result<(Vec<Variable<'p>>, &'p [Piece<'a>]), Refusal<'p, 'a>> {
+) -> Result<(Vec<Variable<'a>>, &'p [Piece<'a>]), Refusal<'p, 'a>> {
     let (types, rest) = values(alloc, pieces)?;
     let rest = closed(rest)?;
     let variables = unnamed(alloc, &types)?;
@@ -392,11 +410,11 @@ fn listed<'p, 'a>(
 /// ```text
 /// ensures { IfOk result (λ variables. map variable_of variables.items ≡ map unnamed types.now) }
 /// ```
-pub(crate) fn unnamed<'p>(
+pub(crate) fn unnamed<'a>(
     alloc: Global,
     types: &[ValueType],
-) -> Result<Vec<Variable<'p>>, AllocError> {
-    let mut variables = Vec::new(alloc);
+) -> Result<Vec<Variable<'a>>, AllocError> {
+    let mut variables = Vec::with_capacity(alloc, types.len())?;
     let name = Name::Absent;
     for of in types {
         variables.push(Variable { name, of: *of })?;

@@ -8,10 +8,9 @@ use crate::reading::names::{Names, names_in, names_of, variable_names, with_type
 use crate::reading::segments::{memory_at, segment};
 use crate::reading::types::{global_type, limits, space_of, table_type, twice_closed};
 use crate::reading::uses::{type_at, type_use};
+use crate::reading::variables::{TypeUse, Variable, value_types, without_names};
 use wat_lex::shim::alloc::Global;
-use crate::fields::fields::{
-    Export, ExternType, Field, Function, GlobalVariable, Import, IndexSpace, TypeUse, Variable,
-};
+use crate::fields::fields::{Export, ExternType, Field, Function, GlobalVariable, Import, IndexSpace};
 use crate::fields::implicit_types;
 use crate::instructions::machine;
 use crate::instructions::names::IndexedNames;
@@ -28,7 +27,7 @@ pub(crate) struct Left<'p, 'a> {
 /// The fields of a module.
 ///
 /// It answers fields exactly where the grammar spells a module, and they are its fields; any other
-/// refusal is the first fault, or out of memory.
+/// refusal is a fault with its place, or out of memory. What is borrowed lives as long as the text.
 ///
 /// # Proved
 ///
@@ -41,7 +40,7 @@ pub(crate) struct Left<'p, 'a> {
 pub fn module<'p, 'a>(
     alloc: Global,
     pieces: &'p [Piece<'a>],
-) -> Result<Vec<Field<'p>>, Refusal<'p, 'a>> {
+) -> Result<Vec<Field<'a>>, Refusal<'p, 'a>> {
     crate::reading::laws::reading_is_grammar();
     whole(alloc, pieces)
 }
@@ -58,7 +57,7 @@ pub fn module<'p, 'a>(
 fn whole<'p, 'a>(
     alloc: Global,
     pieces: &'p [Piece<'a>],
-) -> Result<Vec<Field<'p>>, Refusal<'p, 'a>> {
+) -> Result<Vec<Field<'a>>, Refusal<'p, 'a>> {
     match after("module", pieces) {
         Some(rest) => {
             let (_, rest) = reading::label(rest);
@@ -81,7 +80,7 @@ fn module_fields<'p, 'a>(
     alloc: Global,
     enclosed: bool,
     pieces: &'p [Piece<'a>],
-) -> Result<Vec<Field<'p>>, Refusal<'p, 'a>> {
+) -> Result<Vec<Field<'a>>, Refusal<'p, 'a>> {
     let Some(names) = names_of(alloc, pieces)? else {
         return Err(Refusal::Text(Fault {
             kind: FaultKind::Duplicate,
@@ -107,10 +106,10 @@ fn module_fields<'p, 'a>(
 fn fields_again<'p, 'a>(
     alloc: Global,
     enclosed: bool,
-    names: Names<'p>,
+    names: Names<'a>,
     fault: Fault<'p, 'a>,
     pieces: &'p [Piece<'a>],
-) -> Result<Vec<Field<'p>>, Refusal<'p, 'a>> {
+) -> Result<Vec<Field<'a>>, Refusal<'p, 'a>> {
     let names = without_types(alloc, names);
     match types_without(alloc, &names, pieces) {
         Ok(types) => {
@@ -133,7 +132,7 @@ fn fields_again<'p, 'a>(
 /// ```
 fn types_without<'p, 'a>(
     alloc: Global,
-    names: &Names<'p>,
+    names: &Names<'a>,
     pieces: &'p [Piece<'a>],
 ) -> Result<Vec<FunctionType>, Refusal<'p, 'a>> {
     let (fields, _) = fields(alloc, names, pieces)?;
@@ -167,9 +166,9 @@ fn first_fault<'p, 'a>(fault: Fault<'p, 'a>, other: Fault<'p, 'a>) -> Fault<'p, 
 fn fields_by<'p, 'a>(
     alloc: Global,
     enclosed: bool,
-    names: &Names<'p>,
+    names: &Names<'a>,
     pieces: &'p [Piece<'a>],
-) -> Result<Vec<Field<'p>>, Refusal<'p, 'a>> {
+) -> Result<Vec<Field<'a>>, Refusal<'p, 'a>> {
     let (fields, rest) = fields(alloc, names, pieces)?;
     ended_by(enclosed, rest)?;
     if !imports_first(&fields) {
@@ -325,9 +324,9 @@ fn starts(fields: &[Field<'_>]) -> usize {
 /// ```
 fn fields<'p, 'a>(
     alloc: Global,
-    names: &Names<'p>,
+    names: &Names<'a>,
     pieces: &'p [Piece<'a>],
-) -> Result<(Vec<Field<'p>>, &'p [Piece<'a>]), Refusal<'p, 'a>> {
+) -> Result<(Vec<Field<'a>>, &'p [Piece<'a>]), Refusal<'p, 'a>> {
     crate::instructions::laws::machine_is_grammar();
     crate::instructions::laws::folded_is_grammar();
     crate::instructions::laws::instructions_are_balanced();
@@ -357,8 +356,8 @@ fn fields<'p, 'a>(
 /// ```
 fn next_field<'p, 'a>(
     alloc: Global,
-    names: &Names<'p>,
-    found: &mut Vec<Field<'p>>,
+    names: &Names<'a>,
+    found: &mut Vec<Field<'a>>,
     left: Left<'p, 'a>,
 ) -> Result<Option<Left<'p, 'a>>, Refusal<'p, 'a>> {
     match left.pieces {
@@ -384,9 +383,9 @@ fn next_field<'p, 'a>(
 /// ```
 fn field_at<'p, 'a>(
     alloc: Global,
-    names: &Names<'p>,
+    names: &Names<'a>,
     pieces: &'p [Piece<'a>],
-) -> Result<(Field<'p>, &'p [Piece<'a>]), Refusal<'p, 'a>> {
+) -> Result<(Field<'a>, &'p [Piece<'a>]), Refusal<'p, 'a>> {
     match pieces {
         [Piece::Word(word), rest @ ..] => field_after(alloc, names, *word, pieces, rest),
         _ => Err(Refusal::Text(Fault {
@@ -407,11 +406,11 @@ fn field_at<'p, 'a>(
 /// ```
 fn field_after<'p, 'a>(
     alloc: Global,
-    names: &Names<'p>,
+    names: &Names<'a>,
     word: &str,
     all: &'p [Piece<'a>],
     pieces: &'p [Piece<'a>],
-) -> Result<(Field<'p>, &'p [Piece<'a>]), Refusal<'p, 'a>> {
+) -> Result<(Field<'a>, &'p [Piece<'a>]), Refusal<'p, 'a>> {
     match space_of(word) {
         Some(space) => item(alloc, names, space, pieces),
         None => other(alloc, names, word, all, pieces),
@@ -429,10 +428,10 @@ fn field_after<'p, 'a>(
 /// ```
 fn item<'p, 'a>(
     alloc: Global,
-    names: &Names<'p>,
+    names: &Names<'a>,
     space: IndexSpace,
     pieces: &'p [Piece<'a>],
-) -> Result<(Field<'p>, &'p [Piece<'a>]), Refusal<'p, 'a>> {
+) -> Result<(Field<'a>, &'p [Piece<'a>]), Refusal<'p, 'a>> {
     let (name, rest) = reading::label(pieces);
     let (exports, rest) = exports(alloc, rest)?;
     match after("import", rest) {
@@ -452,12 +451,12 @@ fn item<'p, 'a>(
 /// ```
 fn defined<'p, 'a>(
     alloc: Global,
-    names: &Names<'p>,
+    names: &Names<'a>,
     space: IndexSpace,
-    name: Name<'p>,
-    exports: Vec<&'p [u8]>,
+    name: Name<'a>,
+    exports: Vec<&'a [u8]>,
     pieces: &'p [Piece<'a>],
-) -> Result<(Field<'p>, &'p [Piece<'a>]), Refusal<'p, 'a>> {
+) -> Result<(Field<'a>, &'p [Piece<'a>]), Refusal<'p, 'a>> {
     match space {
         IndexSpace::Func => func(alloc, names, name, exports, pieces),
         IndexSpace::Table => table_at(alloc, names, name, exports, pieces),
@@ -477,14 +476,16 @@ fn defined<'p, 'a>(
 /// ```
 fn func<'p, 'a>(
     alloc: Global,
-    names: &Names<'p>,
-    name: Name<'p>,
-    exports: Vec<&'p [u8]>,
+    names: &Names<'a>,
+    name: Name<'a>,
+    exports: Vec<&'a [u8]>,
     pieces: &'p [Piece<'a>],
-) -> Result<(Field<'p>, &'p [Piece<'a>]), Refusal<'p, 'a>> {
+) -> Result<(Field<'a>, &'p [Piece<'a>]), Refusal<'p, 'a>> {
     let (uses, rest) = type_use(alloc, names, pieces)?;
     let (locals, rest) = variables(alloc, "local", true, rest)?;
     let (body, rest) = instructions(alloc, names, &uses.params, &locals, rest)?;
+    let uses = without_names(alloc, &uses)?;
+    let locals = value_types(alloc, &locals)?;
     Ok((
         Field::Func(Function {
             name,
@@ -508,11 +509,11 @@ fn func<'p, 'a>(
 /// ```
 fn global<'p, 'a>(
     alloc: Global,
-    names: &Names<'p>,
-    name: Name<'p>,
-    exports: Vec<&'p [u8]>,
+    names: &Names<'a>,
+    name: Name<'a>,
+    exports: Vec<&'a [u8]>,
     pieces: &'p [Piece<'a>],
-) -> Result<(Field<'p>, &'p [Piece<'a>]), Refusal<'p, 'a>> {
+) -> Result<(Field<'a>, &'p [Piece<'a>]), Refusal<'p, 'a>> {
     let (of, rest) = global_type(pieces)?;
     let locals = IndexedNames::none(alloc);
     let scope = scope(names, &locals);
@@ -539,7 +540,7 @@ fn global<'p, 'a>(
 /// ```
 fn import_names<'p, 'a>(
     pieces: &'p [Piece<'a>],
-) -> Result<((&'p [u8], &'p [u8]), &'p [Piece<'a>]), Fault<'p, 'a>> {
+) -> Result<((&'a [u8], &'a [u8]), &'p [Piece<'a>]), Fault<'p, 'a>> {
     let (from, rest) = utf8_text(pieces)?;
     let (item, rest) = utf8_text(rest)?;
     Ok(((from, item), rest))
@@ -556,10 +557,10 @@ fn import_names<'p, 'a>(
 /// ```
 fn extern_type<'p, 'a>(
     alloc: Global,
-    names: &Names<'p>,
+    names: &Names<'a>,
     space: IndexSpace,
     pieces: &'p [Piece<'a>],
-) -> Result<(ExternType<'p>, &'p [Piece<'a>]), Refusal<'p, 'a>> {
+) -> Result<(ExternType, &'p [Piece<'a>]), Refusal<'p, 'a>> {
     match space {
         IndexSpace::Func => {
             let (uses, rest) = type_use(alloc, names, pieces)?;
@@ -591,16 +592,17 @@ fn extern_type<'p, 'a>(
 /// ```
 fn func_type<'p, 'a>(
     alloc: Global,
-    uses: TypeUse<'p>,
+    uses: TypeUse<'a>,
     all: &'p [Piece<'a>],
     rest: &'p [Piece<'a>],
-) -> Result<(ExternType<'p>, &'p [Piece<'a>]), Refusal<'p, 'a>> {
+) -> Result<(ExternType, &'p [Piece<'a>]), Refusal<'p, 'a>> {
     if variable_names(alloc, &uses.params, &[])?.is_none() {
         return Err(Refusal::Text(Fault {
             kind: FaultKind::Duplicate,
             left: all,
         }));
     }
+    let uses = without_names(alloc, &uses)?;
     Ok((ExternType::Func(uses), rest))
 }
 
@@ -615,12 +617,12 @@ fn func_type<'p, 'a>(
 /// ```
 fn inline_import<'p, 'a>(
     alloc: Global,
-    names: &Names<'p>,
+    names: &Names<'a>,
     space: IndexSpace,
-    name: Name<'p>,
-    exports: Vec<&'p [u8]>,
+    name: Name<'a>,
+    exports: Vec<&'a [u8]>,
     pieces: &'p [Piece<'a>],
-) -> Result<(Field<'p>, &'p [Piece<'a>]), Refusal<'p, 'a>> {
+) -> Result<(Field<'a>, &'p [Piece<'a>]), Refusal<'p, 'a>> {
     let ((from, item), rest) = import_names(pieces)?;
     let rest = closed(rest)?;
     let (what, rest) = extern_type(alloc, names, space, rest)?;
@@ -649,11 +651,11 @@ fn inline_import<'p, 'a>(
 /// ```
 fn other<'p, 'a>(
     alloc: Global,
-    names: &Names<'p>,
+    names: &Names<'a>,
     word: &str,
     all: &'p [Piece<'a>],
     pieces: &'p [Piece<'a>],
-) -> Result<(Field<'p>, &'p [Piece<'a>]), Refusal<'p, 'a>> {
+) -> Result<(Field<'a>, &'p [Piece<'a>]), Refusal<'p, 'a>> {
     if word == "type" {
         return type_field(alloc, pieces);
     }
@@ -681,7 +683,7 @@ fn other<'p, 'a>(
 fn type_field<'p, 'a>(
     alloc: Global,
     pieces: &'p [Piece<'a>],
-) -> Result<(Field<'p>, &'p [Piece<'a>]), Refusal<'p, 'a>> {
+) -> Result<(Field<'a>, &'p [Piece<'a>]), Refusal<'p, 'a>> {
     let (definition, rest) = type_at(alloc, pieces)?;
     Ok((Field::Type(definition), rest))
 }
@@ -697,9 +699,9 @@ fn type_field<'p, 'a>(
 /// ```
 fn import_at<'p, 'a>(
     alloc: Global,
-    names: &Names<'p>,
+    names: &Names<'a>,
     pieces: &'p [Piece<'a>],
-) -> Result<(Field<'p>, &'p [Piece<'a>]), Refusal<'p, 'a>> {
+) -> Result<(Field<'a>, &'p [Piece<'a>]), Refusal<'p, 'a>> {
     let ((from, item), rest) = import_names(pieces)?;
     import_open(alloc, names, from, item, rest)
 }
@@ -715,11 +717,11 @@ fn import_at<'p, 'a>(
 /// ```
 fn import_open<'p, 'a>(
     alloc: Global,
-    names: &Names<'p>,
-    from: &'p [u8],
-    item: &'p [u8],
+    names: &Names<'a>,
+    from: &'a [u8],
+    item: &'a [u8],
     pieces: &'p [Piece<'a>],
-) -> Result<(Field<'p>, &'p [Piece<'a>]), Refusal<'p, 'a>> {
+) -> Result<(Field<'a>, &'p [Piece<'a>]), Refusal<'p, 'a>> {
     match pieces {
         [Piece::Open, rest @ ..] => import_word(alloc, names, from, item, rest),
         _ => Err(Refusal::Text(Fault {
@@ -740,11 +742,11 @@ fn import_open<'p, 'a>(
 /// ```
 fn import_word<'p, 'a>(
     alloc: Global,
-    names: &Names<'p>,
-    from: &'p [u8],
-    item: &'p [u8],
+    names: &Names<'a>,
+    from: &'a [u8],
+    item: &'a [u8],
     pieces: &'p [Piece<'a>],
-) -> Result<(Field<'p>, &'p [Piece<'a>]), Refusal<'p, 'a>> {
+) -> Result<(Field<'a>, &'p [Piece<'a>]), Refusal<'p, 'a>> {
     match pieces {
         [Piece::Word(word), rest @ ..] => match space_of(word) {
             Some(space) => import_item(alloc, names, from, item, space, rest),
@@ -771,12 +773,12 @@ fn import_word<'p, 'a>(
 /// ```
 fn import_item<'p, 'a>(
     alloc: Global,
-    names: &Names<'p>,
-    from: &'p [u8],
-    item: &'p [u8],
+    names: &Names<'a>,
+    from: &'a [u8],
+    item: &'a [u8],
     space: IndexSpace,
     pieces: &'p [Piece<'a>],
-) -> Result<(Field<'p>, &'p [Piece<'a>]), Refusal<'p, 'a>> {
+) -> Result<(Field<'a>, &'p [Piece<'a>]), Refusal<'p, 'a>> {
     let (name, rest) = reading::label(pieces);
     let (what, rest) = extern_type(alloc, names, space, rest)?;
     let rest = twice_closed(rest)?;
@@ -803,9 +805,9 @@ fn import_item<'p, 'a>(
 /// (λ f. reading.export_at (context_of names.now) (map terminal pieces.now) ≡ Err (fault_of f)) }
 /// ```
 fn export_at<'p, 'a>(
-    names: &Names<'p>,
+    names: &Names<'a>,
     pieces: &'p [Piece<'a>],
-) -> Result<(Field<'p>, &'p [Piece<'a>]), Fault<'p, 'a>> {
+) -> Result<(Field<'a>, &'p [Piece<'a>]), Fault<'p, 'a>> {
     let (name, rest) = utf8_text(pieces)?;
     external(names, name, rest)
 }
@@ -820,10 +822,10 @@ fn export_at<'p, 'a>(
 /// (λ f. reading.external_at (context_of names.now) name.now (map terminal pieces.now) ≡ Err (fault_of f)) }
 /// ```
 fn external<'p, 'a>(
-    names: &Names<'p>,
-    name: &'p [u8],
+    names: &Names<'a>,
+    name: &'a [u8],
     pieces: &'p [Piece<'a>],
-) -> Result<(Field<'p>, &'p [Piece<'a>]), Fault<'p, 'a>> {
+) -> Result<(Field<'a>, &'p [Piece<'a>]), Fault<'p, 'a>> {
     match pieces {
         [Piece::Open, rest @ ..] => external_word(names, name, rest),
         _ => Err(Fault {
@@ -843,10 +845,10 @@ fn external<'p, 'a>(
 /// (λ f. reading.external_word (context_of names.now) name.now (map terminal pieces.now) ≡ Err (fault_of f)) }
 /// ```
 fn external_word<'p, 'a>(
-    names: &Names<'p>,
-    name: &'p [u8],
+    names: &Names<'a>,
+    name: &'a [u8],
     pieces: &'p [Piece<'a>],
-) -> Result<(Field<'p>, &'p [Piece<'a>]), Fault<'p, 'a>> {
+) -> Result<(Field<'a>, &'p [Piece<'a>]), Fault<'p, 'a>> {
     match pieces {
         [Piece::Word(word), rest @ ..] => match space_of(word) {
             Some(space) => external_index(names, name, space, rest),
@@ -872,11 +874,11 @@ fn external_word<'p, 'a>(
 /// (λ f. reading.external_by (context_of names.now) name.now (Some space) (map terminal pieces.now) (map terminal pieces.now) ≡ Err (fault_of f)) }
 /// ```
 fn external_index<'p, 'a>(
-    names: &Names<'p>,
-    name: &'p [u8],
+    names: &Names<'a>,
+    name: &'a [u8],
     space: IndexSpace,
     pieces: &'p [Piece<'a>],
-) -> Result<(Field<'p>, &'p [Piece<'a>]), Fault<'p, 'a>> {
+) -> Result<(Field<'a>, &'p [Piece<'a>]), Fault<'p, 'a>> {
     let (index, rest) = reading::index(names_in(names, space), pieces)?;
     let rest = twice_closed(rest)?;
     Ok((Field::Export(Export { name, space, index }), rest))
@@ -892,9 +894,9 @@ fn external_index<'p, 'a>(
 /// (λ f. reading.start_at (context_of names.now) (map terminal pieces.now) ≡ Err (fault_of f)) }
 /// ```
 fn start_at<'p, 'a>(
-    names: &Names<'p>,
+    names: &Names<'a>,
     pieces: &'p [Piece<'a>],
-) -> Result<(Field<'p>, &'p [Piece<'a>]), Fault<'p, 'a>> {
+) -> Result<(Field<'a>, &'p [Piece<'a>]), Fault<'p, 'a>> {
     let (index, rest) = reading::index(&names.funcs, pieces)?;
     let rest = closed(rest)?;
     Ok((Field::Start(index), rest))
@@ -933,9 +935,9 @@ pub(crate) fn scope<'s, 'n>(names: &'s Names<'n>, locals: &'s IndexedNames<'n>) 
 /// ```
 fn instructions<'p, 'a>(
     alloc: Global,
-    names: &Names<'p>,
-    params: &[Variable<'p>],
-    locals: &[Variable<'p>],
+    names: &Names<'a>,
+    params: &[Variable<'a>],
+    locals: &[Variable<'a>],
     pieces: &'p [Piece<'a>],
 ) -> Result<(Vec<Instruction>, &'p [Piece<'a>]), Refusal<'p, 'a>> {
     let Some(locals) = variable_names(alloc, params, locals)? else {

@@ -6,8 +6,9 @@ use crate::reading::header::{after, exports};
 use crate::reading::module::Left;
 use crate::reading::types::space_of;
 use crate::reading::uses::type_at;
+use crate::reading::variables::Variable;
 use wat_lex::shim::alloc::{AllocError, Global};
-use crate::fields::fields::{Definition, IndexSpace, Variable};
+use crate::fields::fields::{Definition, IndexSpace};
 use crate::instructions::names::IndexedNames;
 use crate::instructions::pieces::{Name, Piece, Refusal};
 use crate::instructions::reading::label;
@@ -22,20 +23,20 @@ enum Depth {
 
 /// An item of an index space.
 #[derive(Clone, Copy)]
-struct Binding<'p> {
+struct Binding<'a> {
     space: IndexSpace,
-    name: Name<'p>,
+    name: Name<'a>,
 }
 
 /// The names of each index space, in the order of their indices; and the types.
-pub(crate) struct Names<'p> {
-    pub(crate) funcs: IndexedNames<'p>,
-    pub(crate) tables: IndexedNames<'p>,
-    pub(crate) memories: IndexedNames<'p>,
-    pub(crate) globals: IndexedNames<'p>,
-    pub(crate) elems: IndexedNames<'p>,
-    pub(crate) datas: IndexedNames<'p>,
-    pub(crate) type_names: IndexedNames<'p>,
+pub(crate) struct Names<'a> {
+    pub(crate) funcs: IndexedNames<'a>,
+    pub(crate) tables: IndexedNames<'a>,
+    pub(crate) memories: IndexedNames<'a>,
+    pub(crate) globals: IndexedNames<'a>,
+    pub(crate) elems: IndexedNames<'a>,
+    pub(crate) datas: IndexedNames<'a>,
+    pub(crate) type_names: IndexedNames<'a>,
     pub(crate) types: Vec<FunctionType>,
     /// Whether types are looked up. Where not, any index of a type is taken.
     pub(crate) are_types_known: bool,
@@ -54,7 +55,7 @@ pub(crate) struct Names<'p> {
 pub(crate) fn names_of<'p, 'a>(
     alloc: Global,
     pieces: &'p [Piece<'a>],
-) -> Result<Option<Names<'p>>, AllocError> {
+) -> Result<Option<Names<'a>>, AllocError> {
     let starts = starts(alloc, pieces)?;
     let bindings = bindings(alloc, &starts)?;
     let (type_names, types) = definitions(alloc, &starts)?;
@@ -100,7 +101,7 @@ pub(crate) fn names_of<'p, 'a>(
 /// ensures types { types_of result ≡ unknown (types_of names.entry) }
 /// ensures context { context_of result ≡ retyped (unknown (types_of names.entry)) [] (context_of names.entry) }
 /// ```
-pub(crate) fn without_types<'p>(alloc: Global, names: Names<'p>) -> Names<'p> {
+pub(crate) fn without_types<'a>(alloc: Global, names: Names<'a>) -> Names<'a> {
     Names {
         types: Vec::new(alloc),
         are_types_known: false,
@@ -116,7 +117,7 @@ pub(crate) fn without_types<'p>(alloc: Global, names: Names<'p>) -> Names<'p> {
 /// ensures types { types_of result ≡ record { names = (types_of names.entry).names; types = map type_of types.items; are_known = true } }
 /// ensures context { context_of result ≡ retyped (record { names = (types_of names.entry).names; types = map type_of types.items; are_known = true }) [] (context_of names.entry) }
 /// ```
-pub(crate) fn with_types<'p>(types: Vec<FunctionType>, names: Names<'p>) -> Names<'p> {
+pub(crate) fn with_types<'a>(types: Vec<FunctionType>, names: Names<'a>) -> Names<'a> {
     Names {
         types,
         are_types_known: true,
@@ -149,11 +150,11 @@ fn is_space(a: IndexSpace, b: IndexSpace) -> bool {
 /// ensures these { IfOk result (λ found. IfSome found (λ names. names ≡ names_in space (map binding_of bindings.now))) }
 /// ensures distinct { IfOk result (λ found. is_some found ≡ are_distinct (names_in space (map binding_of bindings.now))) }
 /// ```
-fn names_among<'p>(
+fn names_among<'a>(
     alloc: Global,
-    bindings: &[Binding<'p>],
+    bindings: &[Binding<'a>],
     space: IndexSpace,
-) -> Result<Option<IndexedNames<'p>>, AllocError> {
+) -> Result<Option<IndexedNames<'a>>, AllocError> {
     let mut names = Vec::new(alloc);
     for binding in bindings {
         if is_space(space, binding.space) {
@@ -170,7 +171,7 @@ fn names_among<'p>(
 /// ```text
 /// ensures { result.now ≡ names_of (context_of names.now) space }
 /// ```
-pub(crate) fn names_in<'s, 'p>(names: &'s Names<'p>, space: IndexSpace) -> &'s IndexedNames<'p> {
+pub(crate) fn names_in<'s, 'a>(names: &'s Names<'a>, space: IndexSpace) -> &'s IndexedNames<'a> {
     match space {
         IndexSpace::Func => &names.funcs,
         IndexSpace::Table => &names.tables,
@@ -231,7 +232,7 @@ fn starts<'p, 'a>(alloc: Global, pieces: &'p [Piece<'a>]) -> Result<Vec<Left<'p,
 fn bindings<'p, 'a>(
     alloc: Global,
     starts: &[Left<'p, 'a>],
-) -> Result<Vec<Binding<'p>>, AllocError> {
+) -> Result<Vec<Binding<'a>>, AllocError> {
     let mut bindings = Vec::new(alloc);
     for start in starts {
         if let Some(binding) = binding_at(start.pieces) {
@@ -248,7 +249,7 @@ fn bindings<'p, 'a>(
 /// ```text
 /// ensures { MatchOption result (reading.binding_at (map terminal pieces.now) ≡ []) (λ b. reading.binding_at (map terminal pieces.now) ≡ binding_of b ∷ []) }
 /// ```
-fn binding_at<'p>(pieces: &'p [Piece<'_>]) -> Option<Binding<'p>> {
+fn binding_at<'a>(pieces: &[Piece<'a>]) -> Option<Binding<'a>> {
     match pieces {
         [Piece::Word(word), rest @ ..] => {
             if *word == "import" {
@@ -268,7 +269,7 @@ fn binding_at<'p>(pieces: &'p [Piece<'_>]) -> Option<Binding<'p>> {
 /// ```text
 /// ensures { MatchOption result (reading.binding_by space (label_of (map terminal pieces.now)).0 ≡ []) (λ b. reading.binding_by space (label_of (map terminal pieces.now)).0 ≡ binding_of b ∷ []) }
 /// ```
-fn binding_named<'p>(space: Option<IndexSpace>, pieces: &'p [Piece<'_>]) -> Option<Binding<'p>> {
+fn binding_named<'a>(space: Option<IndexSpace>, pieces: &[Piece<'a>]) -> Option<Binding<'a>> {
     match space {
         Some(space) => {
             let (name, _) = label(pieces);
@@ -285,7 +286,7 @@ fn binding_named<'p>(space: Option<IndexSpace>, pieces: &'p [Piece<'_>]) -> Opti
 /// ```text
 /// ensures { MatchOption result (reading.import_binding (map terminal pieces.now) ≡ []) (λ b. reading.import_binding (map terminal pieces.now) ≡ binding_of b ∷ []) }
 /// ```
-fn import_binding<'p>(pieces: &'p [Piece<'_>]) -> Option<Binding<'p>> {
+fn import_binding<'a>(pieces: &[Piece<'a>]) -> Option<Binding<'a>> {
     match pieces {
         [Piece::Text(_), rest @ ..] => text_binding(rest),
         _ => None,
@@ -299,7 +300,7 @@ fn import_binding<'p>(pieces: &'p [Piece<'_>]) -> Option<Binding<'p>> {
 /// ```text
 /// ensures { MatchOption result (reading.text_binding (map terminal pieces.now) ≡ []) (λ b. reading.text_binding (map terminal pieces.now) ≡ binding_of b ∷ []) }
 /// ```
-fn text_binding<'p>(pieces: &'p [Piece<'_>]) -> Option<Binding<'p>> {
+fn text_binding<'a>(pieces: &[Piece<'a>]) -> Option<Binding<'a>> {
     match pieces {
         [Piece::Text(_), rest @ ..] => open_binding(rest),
         _ => None,
@@ -313,7 +314,7 @@ fn text_binding<'p>(pieces: &'p [Piece<'_>]) -> Option<Binding<'p>> {
 /// ```text
 /// ensures { MatchOption result (reading.open_binding (map terminal pieces.now) ≡ []) (λ b. reading.open_binding (map terminal pieces.now) ≡ binding_of b ∷ []) }
 /// ```
-fn open_binding<'p>(pieces: &'p [Piece<'_>]) -> Option<Binding<'p>> {
+fn open_binding<'a>(pieces: &[Piece<'a>]) -> Option<Binding<'a>> {
     match pieces {
         [Piece::Open, rest @ ..] => word_binding(rest),
         _ => None,
@@ -327,7 +328,7 @@ fn open_binding<'p>(pieces: &'p [Piece<'_>]) -> Option<Binding<'p>> {
 /// ```text
 /// ensures { MatchOption result (reading.word_binding (map terminal pieces.now) ≡ []) (λ b. reading.word_binding (map terminal pieces.now) ≡ binding_of b ∷ []) }
 /// ```
-fn word_binding<'p>(pieces: &'p [Piece<'_>]) -> Option<Binding<'p>> {
+fn word_binding<'a>(pieces: &[Piece<'a>]) -> Option<Binding<'a>> {
     match pieces {
         [Piece::Word(word), rest @ ..] => binding_named(space_of(word), rest),
         _ => None,
@@ -341,7 +342,7 @@ fn word_binding<'p>(pieces: &'p [Piece<'_>]) -> Option<Binding<'p>> {
 /// ```text
 /// ensures { IfOk result (λ names. map label names.items ≡ flat_map reading.data_name_at (map left_of starts.now)) }
 /// ```
-fn data_names<'p, 'a>(alloc: Global, starts: &[Left<'p, 'a>]) -> Result<Vec<Name<'p>>, AllocError> {
+fn data_names<'p, 'a>(alloc: Global, starts: &[Left<'p, 'a>]) -> Result<Vec<Name<'a>>, AllocError> {
     let mut names = Vec::new(alloc);
     for start in starts {
         if let Some(name) = data_name_at(alloc, start.pieces)? {
@@ -361,7 +362,7 @@ fn data_names<'p, 'a>(alloc: Global, starts: &[Left<'p, 'a>]) -> Result<Vec<Name
 fn data_name_at<'p, 'a>(
     alloc: Global,
     pieces: &'p [Piece<'a>],
-) -> Result<Option<Name<'p>>, AllocError> {
+) -> Result<Option<Name<'a>>, AllocError> {
     match pieces {
         [Piece::Word(word), rest @ ..] => {
             let (name, rest) = label(rest);
@@ -387,7 +388,7 @@ fn data_name_at<'p, 'a>(
 fn inline_data<'p, 'a>(
     alloc: Global,
     pieces: &'p [Piece<'a>],
-) -> Result<Option<Name<'p>>, AllocError> {
+) -> Result<Option<Name<'a>>, AllocError> {
     match exports(alloc, pieces) {
         Ok((_, rest)) => match after("data", rest) {
             Some(_) => Ok(Some(Name::Absent)),
@@ -405,7 +406,7 @@ fn inline_data<'p, 'a>(
 /// ```text
 /// ensures { IfOk result (λ names. map label names.items ≡ flat_map reading.elem_name_at (map left_of starts.now)) }
 /// ```
-fn elem_names<'p, 'a>(alloc: Global, starts: &[Left<'p, 'a>]) -> Result<Vec<Name<'p>>, AllocError> {
+fn elem_names<'p, 'a>(alloc: Global, starts: &[Left<'p, 'a>]) -> Result<Vec<Name<'a>>, AllocError> {
     let mut names = Vec::new(alloc);
     for start in starts {
         if let Some(name) = elem_name_at(alloc, start.pieces)? {
@@ -425,7 +426,7 @@ fn elem_names<'p, 'a>(alloc: Global, starts: &[Left<'p, 'a>]) -> Result<Vec<Name
 fn elem_name_at<'p, 'a>(
     alloc: Global,
     pieces: &'p [Piece<'a>],
-) -> Result<Option<Name<'p>>, AllocError> {
+) -> Result<Option<Name<'a>>, AllocError> {
     match pieces {
         [Piece::Word(word), rest @ ..] => {
             let (name, rest) = label(rest);
@@ -451,7 +452,7 @@ fn elem_name_at<'p, 'a>(
 fn inline_elem<'p, 'a>(
     alloc: Global,
     pieces: &'p [Piece<'a>],
-) -> Result<Option<Name<'p>>, AllocError> {
+) -> Result<Option<Name<'a>>, AllocError> {
     match exports(alloc, pieces) {
         Ok((_, rest)) => Ok(elem_after_type(rest)),
         Err(Refusal::Text(_)) => Ok(None),
@@ -466,7 +467,7 @@ fn inline_elem<'p, 'a>(
 /// ```text
 /// ensures { MatchOption result (reading.elem_after_type (map terminal pieces.now) ≡ []) (λ n. reading.elem_after_type (map terminal pieces.now) ≡ label n ∷ []) }
 /// ```
-fn elem_after_type<'p>(pieces: &'p [Piece<'_>]) -> Option<Name<'p>> {
+fn elem_after_type<'a>(pieces: &[Piece<'a>]) -> Option<Name<'a>> {
     match pieces {
         [Piece::Word(_), rest @ ..] => match after("elem", rest) {
             Some(_) => Some(Name::Absent),
@@ -487,7 +488,7 @@ fn elem_after_type<'p>(pieces: &'p [Piece<'_>]) -> Option<Name<'p>> {
 fn definitions<'p, 'a>(
     alloc: Global,
     starts: &[Left<'p, 'a>],
-) -> Result<(Vec<Name<'p>>, Vec<FunctionType>), AllocError> {
+) -> Result<(Vec<Name<'a>>, Vec<FunctionType>), AllocError> {
     let mut names = Vec::new(alloc);
     let mut types = Vec::new(alloc);
     for start in starts {
@@ -509,7 +510,7 @@ fn definitions<'p, 'a>(
 fn definition_at<'p, 'a>(
     alloc: Global,
     pieces: &'p [Piece<'a>],
-) -> Result<Option<Definition<'p>>, AllocError> {
+) -> Result<Option<Definition<'a>>, AllocError> {
     match pieces {
         [Piece::Word(word), rest @ ..] => {
             if *word == "type" {
@@ -532,7 +533,7 @@ fn definition_at<'p, 'a>(
 fn definition_after<'p, 'a>(
     alloc: Global,
     pieces: &'p [Piece<'a>],
-) -> Result<Option<Definition<'p>>, AllocError> {
+) -> Result<Option<Definition<'a>>, AllocError> {
     match type_at(alloc, pieces) {
         Ok((definition, _)) => Ok(Some(definition)),
         Err(Refusal::Text(_)) => Ok(None),
@@ -563,11 +564,11 @@ fn closed(groups: usize) -> Depth {
 /// ensures these { IfOk result (λ found. IfSome found (λ names. names ≡ map name_of (map variable_of params.now ++ map variable_of locals.now))) }
 /// ensures distinct { IfOk result (λ found. is_some found ≡ are_distinct (map name_of (map variable_of params.now ++ map variable_of locals.now))) }
 /// ```
-pub(crate) fn variable_names<'p>(
+pub(crate) fn variable_names<'a>(
     alloc: Global,
-    params: &[Variable<'p>],
-    locals: &[Variable<'p>],
-) -> Result<Option<IndexedNames<'p>>, AllocError> {
+    params: &[Variable<'a>],
+    locals: &[Variable<'a>],
+) -> Result<Option<IndexedNames<'a>>, AllocError> {
     let mut names = Vec::new(alloc);
     for param in params {
         names.push(param.name)?;

@@ -29,7 +29,7 @@ const PAGE: usize = 0x1_0000;
 fn strings<'p, 'a>(
     alloc: Global,
     pieces: &'p [Piece<'a>],
-) -> Result<(Vec<&'p [u8]>, &'p [Piece<'a>]), Refusal<'p, 'a>> {
+) -> Result<(Vec<&'a [u8]>, &'p [Piece<'a>]), Refusal<'p, 'a>> {
     let mut found = Vec::new(alloc);
     let mut left = Left { pieces };
     'strings: loop {
@@ -55,7 +55,7 @@ fn strings<'p, 'a>(
 /// (λ e. ItemFaults (reading.string_item (map terminal left.entry.pieces.now)) e) }
 /// ```
 fn next_string<'p, 'a>(
-    found: &mut Vec<&'p [u8]>,
+    found: &mut Vec<&'a [u8]>,
     left: Left<'p, 'a>,
 ) -> Result<Option<Left<'p, 'a>>, Refusal<'p, 'a>> {
     match left.pieces {
@@ -78,10 +78,10 @@ fn next_string<'p, 'a>(
 /// ```
 pub(crate) fn memory_at<'p, 'a>(
     alloc: Global,
-    name: Name<'p>,
-    exports: Vec<&'p [u8]>,
+    name: Name<'a>,
+    exports: Vec<&'a [u8]>,
     pieces: &'p [Piece<'a>],
-) -> Result<(Field<'p>, &'p [Piece<'a>]), Refusal<'p, 'a>> {
+) -> Result<(Field<'a>, &'p [Piece<'a>]), Refusal<'p, 'a>> {
     match after("data", pieces) {
         Some(rest) => memory_data(alloc, name, exports, rest),
         None => Ok(memory_type(name, exports, pieces)?),
@@ -98,10 +98,10 @@ pub(crate) fn memory_at<'p, 'a>(
 /// (λ f. reading.memory_type (label name.entry) (map text_of exports.entry.items) (map terminal pieces.now) ≡ Err (fault_of f)) }
 /// ```
 fn memory_type<'p, 'a>(
-    name: Name<'p>,
-    exports: Vec<&'p [u8]>,
+    name: Name<'a>,
+    exports: Vec<&'a [u8]>,
     pieces: &'p [Piece<'a>],
-) -> Result<(Field<'p>, &'p [Piece<'a>]), Fault<'p, 'a>> {
+) -> Result<(Field<'a>, &'p [Piece<'a>]), Fault<'p, 'a>> {
     let (limits, rest) = limits(pieces)?;
     let rest = closed(rest)?;
     Ok((
@@ -126,10 +126,10 @@ fn memory_type<'p, 'a>(
 /// ```
 fn memory_data<'p, 'a>(
     alloc: Global,
-    name: Name<'p>,
-    exports: Vec<&'p [u8]>,
+    name: Name<'a>,
+    exports: Vec<&'a [u8]>,
     pieces: &'p [Piece<'a>],
-) -> Result<(Field<'p>, &'p [Piece<'a>]), Refusal<'p, 'a>> {
+) -> Result<(Field<'a>, &'p [Piece<'a>]), Refusal<'p, 'a>> {
     let (strings, rest) = strings(alloc, pieces)?;
     let rest = twice_closed(rest)?;
     memory_of(name, exports, pieces, strings, rest)
@@ -145,12 +145,12 @@ fn memory_data<'p, 'a>(
 /// (λ e. Faults (reading.memory_of (label name.entry) (map text_of exports.entry.items) (map terminal all.now) (together strings.entry.items) (map terminal rest.now)) e) }
 /// ```
 fn memory_of<'p, 'a>(
-    name: Name<'p>,
-    exports: Vec<&'p [u8]>,
+    name: Name<'a>,
+    exports: Vec<&'a [u8]>,
     all: &'p [Piece<'a>],
-    strings: Vec<&'p [u8]>,
+    strings: Vec<&'a [u8]>,
     rest: &'p [Piece<'a>],
-) -> Result<(Field<'p>, &'p [Piece<'a>]), Refusal<'p, 'a>> {
+) -> Result<(Field<'a>, &'p [Piece<'a>]), Refusal<'p, 'a>> {
     let pages = pages_of(&strings)?;
     if pages >= 0x1_0000_0000 {
         return Err(Refusal::Text(Fault {
@@ -219,7 +219,7 @@ pub(crate) fn used<'p, 'a>(
 /// ```
 pub(crate) fn expression<'p, 'a>(
     alloc: Global,
-    names: &Names<'p>,
+    names: &Names<'a>,
     word: &str,
     pieces: &'p [Piece<'a>],
 ) -> Result<(Vec<Instruction>, &'p [Piece<'a>]), Refusal<'p, 'a>> {
@@ -244,7 +244,7 @@ pub(crate) fn expression<'p, 'a>(
 /// ```
 fn one_instruction<'p, 'a>(
     alloc: Global,
-    names: &Names<'p>,
+    names: &Names<'a>,
     pieces: &'p [Piece<'a>],
 ) -> Result<(Vec<Instruction>, &'p [Piece<'a>]), Refusal<'p, 'a>> {
     match pieces {
@@ -271,11 +271,11 @@ fn one_instruction<'p, 'a>(
 /// ```
 pub(crate) fn segment<'p, 'a>(
     alloc: Global,
-    names: &Names<'p>,
+    names: &Names<'a>,
     word: &str,
     all: &'p [Piece<'a>],
     pieces: &'p [Piece<'a>],
-) -> Result<(Field<'p>, &'p [Piece<'a>]), Refusal<'p, 'a>> {
+) -> Result<(Field<'a>, &'p [Piece<'a>]), Refusal<'p, 'a>> {
     if word == "data" {
         return data_at(alloc, names, pieces);
     }
@@ -299,9 +299,9 @@ pub(crate) fn segment<'p, 'a>(
 /// ```
 fn data_at<'p, 'a>(
     alloc: Global,
-    names: &Names<'p>,
+    names: &Names<'a>,
     pieces: &'p [Piece<'a>],
-) -> Result<(Field<'p>, &'p [Piece<'a>]), Refusal<'p, 'a>> {
+) -> Result<(Field<'a>, &'p [Piece<'a>]), Refusal<'p, 'a>> {
     let (name, rest) = reading::label(pieces);
     data_after(alloc, names, name, rest)
 }
@@ -317,10 +317,10 @@ fn data_at<'p, 'a>(
 /// ```
 fn data_after<'p, 'a>(
     alloc: Global,
-    names: &Names<'p>,
-    name: Name<'p>,
+    names: &Names<'a>,
+    name: Name<'a>,
     pieces: &'p [Piece<'a>],
-) -> Result<(Field<'p>, &'p [Piece<'a>]), Refusal<'p, 'a>> {
+) -> Result<(Field<'a>, &'p [Piece<'a>]), Refusal<'p, 'a>> {
     match pieces {
         [Piece::Open, ..] => active_data(alloc, names, name, pieces),
         _ => data_strings(alloc, name, None, pieces),
@@ -338,10 +338,10 @@ fn data_after<'p, 'a>(
 /// ```
 fn active_data<'p, 'a>(
     alloc: Global,
-    names: &Names<'p>,
-    name: Name<'p>,
+    names: &Names<'a>,
+    name: Name<'a>,
     pieces: &'p [Piece<'a>],
-) -> Result<(Field<'p>, &'p [Piece<'a>]), Refusal<'p, 'a>> {
+) -> Result<(Field<'a>, &'p [Piece<'a>]), Refusal<'p, 'a>> {
     let (index, rest) = used("memory", &names.memories, pieces)?;
     let (offset, rest) = expression(alloc, names, "offset", rest)?;
     data_strings(alloc, name, Some(Target { index, offset }), rest)
@@ -358,10 +358,10 @@ fn active_data<'p, 'a>(
 /// ```
 fn data_strings<'p, 'a>(
     alloc: Global,
-    name: Name<'p>,
+    name: Name<'a>,
     target: Option<Target>,
     pieces: &'p [Piece<'a>],
-) -> Result<(Field<'p>, &'p [Piece<'a>]), Refusal<'p, 'a>> {
+) -> Result<(Field<'a>, &'p [Piece<'a>]), Refusal<'p, 'a>> {
     let (strings, rest) = strings(alloc, pieces)?;
     let rest = closed(rest)?;
     Ok((

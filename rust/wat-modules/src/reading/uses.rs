@@ -5,9 +5,9 @@ use wat_lex::shim::prelude::*;
 use crate::reading::header::{after, closed, unnamed, variables};
 use crate::reading::names::Names;
 use crate::reading::types::twice_closed;
+use crate::reading::variables::{TypeUse, Variable, function_type};
 use wat_lex::shim::alloc::{AllocError, Global};
-use crate::fields::fields::{Definition, TypeUse, Variable};
-use crate::fields::variables::function_type;
+use crate::fields::fields::Definition;
 use crate::instructions::pieces::{Fault, FaultKind, Name, Piece, Refusal};
 use crate::instructions::reading;
 use crate::instructions::types::{FunctionType, same_type};
@@ -23,9 +23,9 @@ use crate::instructions::types::{FunctionType, same_type};
 /// ```
 pub(crate) fn type_use<'p, 'a>(
     alloc: Global,
-    names: &Names<'p>,
+    names: &Names<'a>,
     pieces: &'p [Piece<'a>],
-) -> Result<(TypeUse<'p>, &'p [Piece<'a>]), Refusal<'p, 'a>> {
+) -> Result<(TypeUse<'a>, &'p [Piece<'a>]), Refusal<'p, 'a>> {
     match after("type", pieces) {
         Some(rest) => indexed_use(alloc, names, rest),
         None => listed_use(alloc, pieces),
@@ -44,7 +44,7 @@ pub(crate) fn type_use<'p, 'a>(
 fn listed_use<'p, 'a>(
     alloc: Global,
     pieces: &'p [Piece<'a>],
-) -> Result<(TypeUse<'p>, &'p [Piece<'a>]), Refusal<'p, 'a>> {
+) -> Result<(TypeUse<'a>, &'p [Piece<'a>]), Refusal<'p, 'a>> {
     let (params, rest) = variables(alloc, "param", true, pieces)?;
     let (results, rest) = variables(alloc, "result", false, rest)?;
     let index = None;
@@ -69,9 +69,9 @@ fn listed_use<'p, 'a>(
 /// ```
 fn indexed_use<'p, 'a>(
     alloc: Global,
-    names: &Names<'p>,
+    names: &Names<'a>,
     pieces: &'p [Piece<'a>],
-) -> Result<(TypeUse<'p>, &'p [Piece<'a>]), Refusal<'p, 'a>> {
+) -> Result<(TypeUse<'a>, &'p [Piece<'a>]), Refusal<'p, 'a>> {
     let (index, rest) = reading::index(&names.type_names, pieces)?;
     let rest = closed(rest)?;
     if names.are_types_known {
@@ -92,11 +92,11 @@ fn indexed_use<'p, 'a>(
 /// ```
 fn known_use<'p, 'a>(
     alloc: Global,
-    names: &Names<'p>,
+    names: &Names<'a>,
     index: usize,
     all: &'p [Piece<'a>],
     pieces: &'p [Piece<'a>],
-) -> Result<(TypeUse<'p>, &'p [Piece<'a>]), Refusal<'p, 'a>> {
+) -> Result<(TypeUse<'a>, &'p [Piece<'a>]), Refusal<'p, 'a>> {
     match type_at_index(&names.types, index) {
         Some(of) => lists(alloc, index, of, all, pieces),
         None => Err(Refusal::Text(Fault {
@@ -119,7 +119,7 @@ fn assumed_use<'p, 'a>(
     alloc: Global,
     index: usize,
     pieces: &'p [Piece<'a>],
-) -> Result<(TypeUse<'p>, &'p [Piece<'a>]), Refusal<'p, 'a>> {
+) -> Result<(TypeUse<'a>, &'p [Piece<'a>]), Refusal<'p, 'a>> {
     let (params, rest) = variables(alloc, "param", true, pieces)?;
     let (results, rest) = variables(alloc, "result", false, rest)?;
     let index = Some(index);
@@ -159,7 +159,7 @@ fn lists<'p, 'a>(
     of: &FunctionType,
     all: &'p [Piece<'a>],
     pieces: &'p [Piece<'a>],
-) -> Result<(TypeUse<'p>, &'p [Piece<'a>]), Refusal<'p, 'a>> {
+) -> Result<(TypeUse<'a>, &'p [Piece<'a>]), Refusal<'p, 'a>> {
     let (params, rest) = variables(alloc, "param", true, pieces)?;
     let (results, rest) = variables(alloc, "result", false, rest)?;
     if list_nothing(&params, &results) {
@@ -208,11 +208,11 @@ fn list_nothing(params: &[Variable<'_>], results: &[Variable<'_>]) -> bool {
 /// ```text
 /// ensures { IfOk result (λ u. use_of u ≡ grammar.type_use (Some index) (map grammar.unnamed of.now.params.items) (map grammar.unnamed of.now.results.items)) }
 /// ```
-fn unnamed_use<'p>(
+fn unnamed_use<'a>(
     alloc: Global,
     index: usize,
     of: &FunctionType,
-) -> Result<TypeUse<'p>, AllocError> {
+) -> Result<TypeUse<'a>, AllocError> {
     let params = unnamed(alloc, &of.params)?;
     let results = unnamed(alloc, &of.results)?;
     let index = Some(index);
@@ -235,7 +235,7 @@ fn unnamed_use<'p>(
 pub(crate) fn type_at<'p, 'a>(
     alloc: Global,
     pieces: &'p [Piece<'a>],
-) -> Result<(Definition<'p>, &'p [Piece<'a>]), Refusal<'p, 'a>> {
+) -> Result<(Definition<'a>, &'p [Piece<'a>]), Refusal<'p, 'a>> {
     let (name, pieces) = reading::label(pieces);
     match after("func", pieces) {
         Some(rest) => type_lists(alloc, name, rest),
@@ -257,9 +257,9 @@ pub(crate) fn type_at<'p, 'a>(
 /// ```
 fn type_lists<'p, 'a>(
     alloc: Global,
-    name: Name<'p>,
+    name: Name<'a>,
     pieces: &'p [Piece<'a>],
-) -> Result<(Definition<'p>, &'p [Piece<'a>]), Refusal<'p, 'a>> {
+) -> Result<(Definition<'a>, &'p [Piece<'a>]), Refusal<'p, 'a>> {
     let (params, rest) = variables(alloc, "param", true, pieces)?;
     let (results, rest) = variables(alloc, "result", false, rest)?;
     let rest = twice_closed(rest)?;

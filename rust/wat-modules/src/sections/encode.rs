@@ -4,8 +4,8 @@
 use wat_lex::shim::prelude::*;
 use wat_lex::shim::alloc::{AllocError, Global};
 use crate::fields::fields::{
-    ElemMode, Element, Export, ExternType, Field, Function, GlobalType, Import, IndexSpace, Limits,
-    TableType, Target, TypeUse, Variable,
+    ElemMode, Elements, Export, ExternType, Field, Function, GlobalType, Import, IndexSpace,
+    Limits, TableType, Target,
 };
 use crate::fields::implicit_types::types_of;
 use crate::fields::indexed_types::IndexedTypes;
@@ -207,9 +207,9 @@ fn put_argument(
         Argument::I64(n) => put_integer(out, *n),
         Argument::F32(bits) => put_bytes(out, &bits.to_le_bytes()),
         Argument::F64(bits) => put_bytes(out, &bits.to_le_bytes()),
-        Argument::Indirect(call) => put_pair(out, unnamed_index(types, call.uses())?, call.table()),
+        Argument::Indirect(call) => put_pair(out, used_index(types, call.uses())?, call.table()),
         Argument::Block(of) => put_byte(out, block_byte(*of)),
-        Argument::BlockUse(uses) => put_signed(out, unnamed_index(types, uses.uses())?),
+        Argument::BlockUse(uses) => put_signed(out, used_index(types, uses.uses())?),
         Argument::Memory(align, offset) => put_pair(out, usize::from(*align), *offset as usize),
         Argument::Zero => put_byte(out, 0),
         Argument::HeapType(of) => put_byte(out, reference_byte(*of)),
@@ -247,34 +247,19 @@ fn put_instructions(
     Ok(())
 }
 
-/// The bytes of the types of variables.
+/// The bytes of value types.
 ///
 /// # Proved
 ///
 /// ```text
-/// ensures { IfOk result (λ bytes. bytes.items ≡ map binary.variable_byte (map variable_of variables.now)) }
+/// ensures { IfOk result (λ bytes. bytes.items ≡ map type_byte types.now) }
 /// ```
-fn variable_bytes(alloc: Global, variables: &[Variable<'_>]) -> Result<Vec<u8>, AllocError> {
+fn value_bytes(alloc: Global, types: &[ValueType]) -> Result<Vec<u8>, AllocError> {
     let mut bytes = Vec::new(alloc);
-    for variable in variables {
-        bytes.push(type_byte(variable.of))?;
+    for of in types {
+        bytes.push(type_byte(*of))?;
     }
     Ok(bytes)
-}
-
-/// The index of the type that an instruction uses.
-///
-/// # Proved
-///
-/// ```text
-/// ensures is { IfOk result (λ n. n ≡ binary.unnamed_index types.now (unnamed.use_of uses.now)) }
-/// ensures small { index_or uses.now.index 0 < 2 ^ 63 → IfOk result (λ n. n < 2 ^ 63) }
-/// ```
-fn unnamed_index(types: &IndexedTypes, uses: &UnnamedUse) -> Result<usize, AllocError> {
-    match uses.index {
-        Some(index) => Ok(index),
-        None => types.index(&uses.of),
-    }
 }
 
 /// The index of the type that is used.
@@ -282,13 +267,14 @@ fn unnamed_index(types: &IndexedTypes, uses: &UnnamedUse) -> Result<usize, Alloc
 /// # Proved
 ///
 /// ```text
-/// ensures { IfOk result (λ n. n ≡ index_or (use_of uses.now).index (implicit.type_index (implicit.used_type (use_of uses.now)) types.now)) }
+/// ensures is { IfOk result (λ n. n ≡ binary.used_index types.now (use_of uses.now)) }
+/// ensures small { index_or uses.now.index 0 < 2 ^ 63 → IfOk result (λ n. n < 2 ^ 63) }
 /// ```
-fn use_index(types: &IndexedTypes, uses: &TypeUse<'_>) -> Result<usize, AllocError> {
-    if let Some(index) = uses.index {
-        return Ok(index);
+fn used_index(types: &IndexedTypes, uses: &UnnamedUse) -> Result<usize, AllocError> {
+    match uses.index {
+        Some(index) => Ok(index),
+        None => types.index(&uses.of),
     }
-    types.used_index(uses)
 }
 
 /// The indices that the next items have.
@@ -350,7 +336,7 @@ fn count(counts: Counts, space: IndexSpace) -> usize {
 /// ```text
 /// ensures { result ≡ grammar.extern_space (extern_of what.now) }
 /// ```
-fn extern_space(what: &ExternType<'_>) -> IndexSpace {
+fn extern_space(what: &ExternType) -> IndexSpace {
     match what {
         ExternType::Func(_) => IndexSpace::Func,
         ExternType::Table(_) => IndexSpace::Table,
@@ -535,7 +521,7 @@ enum ElemPlace<'f> {
 struct ElementSegment<'f> {
     place: ElemPlace<'f>,
     of: ReferenceType,
-    elements: &'f [Element],
+    elements: &'f Elements,
 }
 
 /// What is done with a segment of this mode.
@@ -689,7 +675,7 @@ fn code(
     types: &IndexedTypes,
     function: &Function<'_>,
 ) -> Result<Vec<u8>, AllocError> {
-    let locals = variable_bytes(alloc, &function.locals)?;
+    let locals = value_bytes(alloc, &function.locals)?;
     let runs = runs_of(alloc, &locals)?;
     let mut bytes = Vec::new(alloc);
     put_runs(&mut bytes, &runs)?;
@@ -795,12 +781,12 @@ fn put_type(out: &mut Vec<u8>, of: &FunctionType) -> Result<(), AllocError> {
 fn put_extern(
     out: &mut Vec<u8>,
     types: &IndexedTypes,
-    what: &ExternType<'_>,
+    what: &ExternType,
 ) -> Result<(), AllocError> {
     match what {
         ExternType::Func(uses) => {
             out.push(0x00)?;
-            put(out, use_index(types, uses)?)
+            put(out, used_index(types, uses)?)
         }
         ExternType::Table(of) => {
             out.push(0x01)?;
@@ -875,7 +861,7 @@ fn put_functions(
     let mut count = 0;
     for field in fields {
         if let Field::Func(function) = field {
-            put(&mut items, use_index(types, &function.uses)?)?;
+            put(&mut items, used_index(types, &function.uses)?)?;
             count += 1;
         }
     }
@@ -1282,23 +1268,9 @@ fn ref_func(index: usize) -> Instruction {
 /// # Proved
 ///
 /// ```text
-/// ensures { result ≡ binary.function_in (items_of element.now) }
-/// ```
-fn function_in(element: &Element) -> Option<usize> {
-    match element {
-        Element::Function(index) => Some(*index),
-        Element::Expression(instructions) => function_by(instructions),
-    }
-}
-
-/// The function of an expression that is one.
-///
-/// # Proved
-///
-/// ```text
 /// ensures { result ≡ binary.function_in instructions.now }
 /// ```
-fn function_by(instructions: &[Instruction]) -> Option<usize> {
+fn function_in(instructions: &[Instruction]) -> Option<usize> {
     match instructions {
         [instruction] => {
             if !is_byte(0xD2, instruction.opcode) {
@@ -1329,12 +1301,15 @@ fn index_of(argument: &Argument) -> Option<usize> {
 /// # Proved
 ///
 /// ```text
-/// ensures { IfOk result (λ o. MatchOption o (binary.functions_in (map items_of elements.now) ≡ None) (λ xs. binary.functions_in (map items_of elements.now) ≡ Some xs.items)) }
+/// ensures { IfOk result (λ o. MatchOption o (binary.functions_in (map expression_of expressions.now) ≡ None) (λ xs. binary.functions_in (map expression_of expressions.now) ≡ Some xs.items)) }
 /// ```
-fn functions_in(alloc: Global, elements: &[Element]) -> Result<Option<Vec<usize>>, AllocError> {
+fn functions_in(
+    alloc: Global,
+    expressions: &[Vec<Instruction>],
+) -> Result<Option<Vec<usize>>, AllocError> {
     let mut functions = Vec::new(alloc);
-    for element in elements {
-        match function_in(element) {
+    for expression in expressions {
+        match function_in(expression) {
             Some(index) => functions.push(index)?,
             None => return Ok(None),
         }
@@ -1347,15 +1322,15 @@ fn functions_in(alloc: Global, elements: &[Element]) -> Result<Option<Vec<usize>
 /// # Proved
 ///
 /// ```text
-/// ensures { IfOk result (λ o. MatchOption o (binary.functions_by of (map items_of elements.now) ≡ None) (λ xs. binary.functions_by of (map items_of elements.now) ≡ Some xs.items)) }
+/// ensures { IfOk result (λ o. MatchOption o (binary.functions_by of (map expression_of expressions.now) ≡ None) (λ xs. binary.functions_by of (map expression_of expressions.now) ≡ Some xs.items)) }
 /// ```
 fn functions_by(
     alloc: Global,
     of: ReferenceType,
-    elements: &[Element],
+    expressions: &[Vec<Instruction>],
 ) -> Result<Option<Vec<usize>>, AllocError> {
     match of {
-        ReferenceType::Func => functions_in(alloc, elements),
+        ReferenceType::Func => functions_in(alloc, expressions),
         ReferenceType::Extern => Ok(None),
     }
 }
@@ -1397,36 +1372,55 @@ fn put_expression(
 /// # Proved
 ///
 /// ```text
-/// ensures { OnOk result (out.new.items ≡ out.old.items ++ binary.element_list types.now (map items_of elements.now)) }
+/// ensures { OnOk result (out.new.items ≡ out.old.items ++ binary.element_list types.now (items_of elements.now)) }
 /// ```
 fn put_elements_of(
     out: &mut Vec<u8>,
     types: &IndexedTypes,
-    elements: &[Element],
+    elements: &Elements,
 ) -> Result<(), AllocError> {
-    put(out, elements.len())?;
-    for element in elements {
-        put_element(out, types, element)?;
+    match elements {
+        Elements::Functions(functions) => put_references(out, types, functions),
+        Elements::Expressions(expressions) => put_expressions(out, types, expressions),
     }
-    Ok(())
 }
 
-/// Appends an element by its instructions.
+/// Appends functions, each by the instruction that refers to it.
 ///
 /// # Proved
 ///
 /// ```text
-/// ensures { OnOk result (out.new.items ≡ out.old.items ++ binary.expression_bytes types.now (items_of element.now)) }
+/// ensures { OnOk result (out.new.items ≡ out.old.items ++ binary.element_list types.now (map grammar.ref_func functions.now)) }
 /// ```
-fn put_element(
+fn put_references(
     out: &mut Vec<u8>,
     types: &IndexedTypes,
-    element: &Element,
+    functions: &[usize],
 ) -> Result<(), AllocError> {
-    match element {
-        Element::Function(index) => put_expression(out, types, &[ref_func(*index)]),
-        Element::Expression(instructions) => put_expression(out, types, instructions),
+    put(out, functions.len())?;
+    for index in functions {
+        put_expression(out, types, &[ref_func(*index)])?;
     }
+    Ok(())
+}
+
+/// Appends expressions.
+///
+/// # Proved
+///
+/// ```text
+/// ensures { OnOk result (out.new.items ≡ out.old.items ++ binary.element_list types.now (map expression_of expressions.now)) }
+/// ```
+fn put_expressions(
+    out: &mut Vec<u8>,
+    types: &IndexedTypes,
+    expressions: &[Vec<Instruction>],
+) -> Result<(), AllocError> {
+    put(out, expressions.len())?;
+    for expression in expressions {
+        put_expression(out, types, expression)?;
+    }
+    Ok(())
 }
 
 /// Appends a segment of functions that is put into a table.
@@ -1505,7 +1499,7 @@ fn is_funcref(of: ReferenceType) -> bool {
 /// # Proved
 ///
 /// ```text
-/// ensures { OnOk result (out.new.items ≡ out.old.items ++ binary.other_segment types.now (grammar.Active (grammar.target index offset.now)) of (map items_of elements.now)) }
+/// ensures { OnOk result (out.new.items ≡ out.old.items ++ binary.other_segment types.now (grammar.Active (grammar.target index offset.now)) of (items_of elements.now)) }
 /// ```
 fn put_active_elements(
     out: &mut Vec<u8>,
@@ -1513,7 +1507,7 @@ fn put_active_elements(
     index: usize,
     offset: &[Instruction],
     of: ReferenceType,
-    elements: &[Element],
+    elements: &Elements,
 ) -> Result<(), AllocError> {
     if index == 0 && is_funcref(of) {
         out.push(0x04)?;
@@ -1532,14 +1526,14 @@ fn put_active_elements(
 /// # Proved
 ///
 /// ```text
-/// ensures { OnOk result (out.new.items ≡ out.old.items ++ binary.other_segment types.now (elem_place_of place.entry) of (map items_of elements.now)) }
+/// ensures { OnOk result (out.new.items ≡ out.old.items ++ binary.other_segment types.now (elem_place_of place.entry) of (items_of elements.now)) }
 /// ```
 fn put_other_segment(
     out: &mut Vec<u8>,
     types: &IndexedTypes,
     place: ElemPlace<'_>,
     of: ReferenceType,
-    elements: &[Element],
+    elements: &Elements,
 ) -> Result<(), AllocError> {
     match place {
         ElemPlace::Passive => {
@@ -1559,6 +1553,49 @@ fn put_other_segment(
     }
 }
 
+/// Appends a segment of functions that are said by their indices.
+///
+/// # Proved
+///
+/// ```text
+/// requires { items_of segment.elements.now ≡ map grammar.ref_func functions.now }
+/// ensures { OnOk result (out.new.items ≡ out.old.items ++ binary.elem_bytes types.now (element_segment_of segment.entry)) }
+/// ```
+fn put_indices(
+    out: &mut Vec<u8>,
+    types: &IndexedTypes,
+    segment: ElementSegment<'_>,
+    functions: &[usize],
+) -> Result<(), AllocError> {
+    match segment.of {
+        ReferenceType::Func => put_function_segment(out, types, segment.place, functions),
+        ReferenceType::Extern => {
+            put_other_segment(out, types, segment.place, segment.of, segment.elements)
+        }
+    }
+}
+
+/// Appends a segment of expressions.
+///
+/// # Proved
+///
+/// ```text
+/// requires { items_of segment.elements.now ≡ map expression_of expressions.now }
+/// ensures { OnOk result (out.new.items ≡ out.old.items ++ binary.elem_bytes types.now (element_segment_of segment.entry)) }
+/// ```
+fn put_items(
+    alloc: Global,
+    out: &mut Vec<u8>,
+    types: &IndexedTypes,
+    segment: ElementSegment<'_>,
+    expressions: &[Vec<Instruction>],
+) -> Result<(), AllocError> {
+    match functions_by(alloc, segment.of, expressions)? {
+        Some(functions) => put_function_segment(out, types, segment.place, &functions),
+        None => put_other_segment(out, types, segment.place, segment.of, segment.elements),
+    }
+}
+
 /// Appends an element segment.
 ///
 /// # Proved
@@ -1572,9 +1609,9 @@ fn put_element_segment(
     types: &IndexedTypes,
     segment: ElementSegment<'_>,
 ) -> Result<(), AllocError> {
-    match functions_by(alloc, segment.of, segment.elements)? {
-        Some(functions) => put_function_segment(out, types, segment.place, &functions),
-        None => put_other_segment(out, types, segment.place, segment.of, segment.elements),
+    match segment.elements {
+        Elements::Functions(functions) => put_indices(out, types, segment, functions),
+        Elements::Expressions(expressions) => put_items(alloc, out, types, segment, expressions),
     }
 }
 

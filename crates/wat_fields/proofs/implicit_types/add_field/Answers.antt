@@ -1,4 +1,4 @@
-use Rattle.std.proofs.Common.{map, ◌∙◌, ap, sym}
+use Rattle.std.proofs.Common.{◌∙◌, ap, sym}
 use Rattle.std.specs.List.{flat_map}
 use Rattle.wat_fields.specs.ImplicitTypes.{mode_types, types_after, field_types}
 use Rattle.wat_instructions.specs.Uses.{expression_types}
@@ -10,7 +10,7 @@ pub returns-in_ok-add_elements-in-Elem : goal.returns-in_ok-add_elements-in-Elem
 returns-in_ok-add_elements-in-Elem c =
     let elem = c.in-Elem.elem in
     let uses = mode_types (mode_of elem.mode) in
+    let elements = flat_map expression_types (items_of elem.elements) in
     c.in_ok-add_elements-in-Elem.ensures
-    ∙ ap (λ x. types_after c.add_mode.new.types (flat_map expression_types (map items_of x))) c.deref-in-Elem.ensures.value
-    ∙ ap (λ x. types_after x (flat_map expression_types (map items_of elem.elements.items))) c.in_ok-add_mode-in-Elem.ensures
-    ∙ sym (after_more c.args.types.now uses (flat_map expression_types (map items_of elem.elements.items))) ∙ ap (λ f. types_after c.args.types.now (field_types (field_of f))) (sym c.in-Elem.is)
+    ∙ ap (λ x. types_after x elements) c.in_ok-add_mode-in-Elem.ensures
+    ∙ sym (after_more c.args.types.now uses elements) ∙ ap (λ f. types_after c.args.types.now (field_types (field_of f))) (sym c.in-Elem.is)

@@ -3,12 +3,12 @@ use Rattle.wat_instructions.specs.declared.pieces.Instruction.{Instruction}
 use Rattle.wat_instructions.specs.Terminals.{terminal}
 use Rattle.wat_fields_read.specs.Reading.{Read, function_item}
 use Rattle.wat_fields_read.proofs.Manies.{Leads}
-use Rattle.wat_fields.specs.Views.{items_of}
+use Rattle.wat_fields.specs.Fields.{ref_func}
 use Rattle.wat_fields_read.specs.Views.{context_of}
 use Rattle.wat_fields_read.proofs.elements.functions.Given as goal
 
 abbrev pub invariant-functions : goal.invariant-functions
-invariant-functions l = (q : Read (List (List Instruction))) → Leads (function_item (context_of l.names)) (map items_of l.found.items) (map terminal l.left.pieces.now) q → Leads (function_item (context_of l.names)) (map items_of l.initial.found.items) (map terminal l.initial.left.pieces.now) q
+invariant-functions l = (q : Read (List (List Instruction))) → Leads (function_item (context_of l.names)) (map ref_func l.found.items) (map terminal l.left.pieces.now) q → Leads (function_item (context_of l.names)) (map ref_func l.initial.found.items) (map terminal l.initial.left.pieces.now) q
 
 abbrev pub decreases-functions : goal.decreases-functions
 decreases-functions l = length l.left.pieces.now

@@ -1,6 +1,6 @@
 use Rattle.std.proofs.Common.{◌≡◌, map, take}
 use Rattle.wat_fields.specs.Fields.{unnamed}
-use Rattle.wat_fields.specs.Views.{variable_of}
+use Rattle.wat_fields_read.specs.Views.{variable_of}
 use Rattle.wat_fields_read.proofs.header.unnamed.Given as goal
 
 abbrev pub invariant-loop-of : goal.invariant-loop-of

@@ -1,5 +1,5 @@
 use Rattle.std.proofs.Common.{ap, map, Ok}
-use Rattle.wat_fields.specs.Views.{variable_of}
+use Rattle.wat_fields_read.specs.Views.{variable_of}
 use Rattle.wat_fields_read.proofs.Items.{groups_read}
 use Rattle.wat_instructions.specs.Terminals.{terminal}
 use Rattle.wat_fields.specs.Fields as fields

@@ -3,7 +3,7 @@ use Rattle.wat_fields.specs.Fields.{Variable}
 use Rattle.wat_instructions.specs.Terminals.{terminal}
 use Rattle.wat_fields_read.specs.Reading.{Read, group_item}
 use Rattle.wat_fields_read.proofs.Manies.{Leads}
-use Rattle.wat_fields.specs.Views.{variable_of}
+use Rattle.wat_fields_read.specs.Views.{variable_of}
 use Rattle.wat_fields_read.proofs.header.variables.Given as goal
 
 abbrev pub invariant-groups : goal.invariant-groups

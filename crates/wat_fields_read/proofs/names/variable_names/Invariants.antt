@@ -1,7 +1,7 @@
 use Rattle.std.proofs.Common.{◌≡◌, ◌++◌, map, take}
 use Rattle.wat_fields.specs.Fields.{name_of}
 use Rattle.wat_instructions.specs.Terminals.{label}
-use Rattle.wat_fields.specs.Views.{variable_of}
+use Rattle.wat_fields_read.specs.Views.{variable_of}
 use Rattle.wat_fields_read.proofs.names.variable_names.Given as goal
 
 abbrev pub invariant-loop-param : goal.invariant-loop-param

@@ -1,4 +1,4 @@
-use Rattle.std.proofs.Common.{map, ◌∙◌, ap, ◌++◌, [], ◌∷◌}
+use Rattle.std.proofs.Common.{map, ◌∙◌, Ok, ap, sym, ◌++◌, [], ◌∷◌}
 use Rattle.wat_instructions.specs.Parts.{stack, scope_of}
 use Rattle.wat_instructions.specs.declared.pieces.Frame.TheVariants.{Body}
 use Rattle.wat_instructions.specs.Terminals.{terminal}
@@ -8,7 +8,8 @@ use Rattle.wat_instructions.proofs.machine.instructions.Goals as goal
 pub returns-in-Ok : goal.returns-in-Ok
 unfolding stack
 returns-in-Ok c =
-    begun (scope_of c.args.scope.now) (stack c.push.new.self.items) _ _ _ c.new-out.result.items _ (ap stack (c.in_ok-push.ensures.items ∙ ap (λ x. x ++ (Body ∷ [])) c.new-frames.ensures.items)) c.new-out.ensures.items (enough (map terminal c.args.pieces.now)) c.in-Ok.ensures
+    begun (scope_of c.args.scope.now) (stack c.push.new.self.items) _ _ _ c.in_ok-out.out.items _ (ap stack (c.in_ok-push.ensures.items ∙ ap (λ x. x ++ (Body ∷ [])) c.new-frames.ensures.items)) c.in_ok-out.ensures.items (enough (map terminal c.args.pieces.now)) c.in-Ok.ensures
+    ∙ ap (λ is. Ok (is, map terminal c.in-Ok.rest.now)) (sym c.shrink_to_fit.ensures.items)
 
 pub returns : goal.returns
 unfolding stack

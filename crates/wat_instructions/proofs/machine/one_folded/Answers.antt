@@ -9,8 +9,8 @@ first_step-requires c = none_open c.new-frames.result.items c.new-frames.ensures
 
 pub returns-in-Ok-steps : goal.returns-in-Ok-steps
 returns-in-Ok-steps c =
-    begun_folded (scope_of c.args.scope.now) (stack c.first_step.new.frames.items) (map terminal c.args.pieces.now) (map terminal c.in-Ok.rest.now) (map terminal c.in-Ok-steps.rest.now) c.new-out.result.items c.first_step.new.out.items c.steps.new.out.items c.new-out.ensures.items c.in-Ok.ensures c.in-Ok-steps.ensures
+    begun_folded (scope_of c.args.scope.now) (stack c.first_step.new.frames.items) (map terminal c.args.pieces.now) (map terminal c.in-Ok.rest.now) (map terminal c.in-Ok-steps.rest.now) c.in_ok-out.out.items c.first_step.new.out.items c.steps.new.out.items c.in_ok-out.ensures.items c.in-Ok.ensures c.in-Ok-steps.ensures
 
 pub returns-in-Ok : goal.returns-in-Ok
 returns-in-Ok c =
-    begun_folded_into (scope_of c.args.scope.now) (stack c.first_step.new.frames.items) (map terminal c.args.pieces.now) (map terminal c.in-Ok.rest.now) c.new-out.result.items c.first_step.new.out.items c.in-Err-steps.refusal c.in-Ok.ensures c.in-Err-steps.ensures
+    begun_folded_into (scope_of c.args.scope.now) (stack c.first_step.new.frames.items) (map terminal c.args.pieces.now) (map terminal c.in-Ok.rest.now) c.in_ok-out.out.items c.first_step.new.out.items c.in-Err-steps.refusal c.in-Ok.ensures c.in-Err-steps.ensures

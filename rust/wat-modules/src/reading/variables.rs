@@ -1,0 +1,71 @@
+// Made by tools/erase from crates/wat_fields_read/src/variables.rt; do not edit.
+//! Variables with their names, and their types without.
+
+use wat_lex::shim::prelude::*;
+use wat_lex::shim::alloc::{AllocError, Global};
+use crate::instructions::pieces::{Name, ValueType};
+use crate::instructions::types::{FunctionType, UnnamedUse};
+
+/// A parameter, a result or a local variable.
+#[derive(Clone, Copy)]
+pub(crate) struct Variable<'a> {
+    pub(crate) name: Name<'a>,
+    pub(crate) of: ValueType,
+}
+
+/// A type use: the index of its type, where it says one; and its parameters and results.
+pub(crate) struct TypeUse<'a> {
+    pub(crate) index: Option<usize>,
+    pub(crate) params: Vec<Variable<'a>>,
+    pub(crate) results: Vec<Variable<'a>>,
+}
+
+/// The types of variables.
+///
+/// # Proved
+///
+/// ```text
+/// ensures { IfOk result (λ types. types.items ≡ map grammar.type_of (map variable_of variables.now)) }
+/// ```
+pub(crate) fn value_types(
+    alloc: Global,
+    variables: &[Variable<'_>],
+) -> Result<Vec<ValueType>, AllocError> {
+    let mut types = Vec::new(alloc);
+    for variable in variables {
+        types.push(variable.of)?;
+    }
+    Ok(types)
+}
+
+/// The type of parameters and results.
+///
+/// # Proved
+///
+/// ```text
+/// ensures { IfOk result (λ of. type_of of ≡ grammar.function_type (map variable_of params.now) (map variable_of results.now)) }
+/// ```
+pub(crate) fn function_type(
+    alloc: Global,
+    params: &[Variable<'_>],
+    results: &[Variable<'_>],
+) -> Result<FunctionType, AllocError> {
+    let params = value_types(alloc, params)?;
+    let results = value_types(alloc, results)?;
+    Ok(FunctionType { params, results })
+}
+
+/// A type use without names.
+///
+/// # Proved
+///
+/// ```text
+/// ensures { IfOk result (λ u. unnamed.use_of u ≡ grammar.without_names (use_of uses.now)) }
+/// ```
+pub(crate) fn without_names(alloc: Global, uses: &TypeUse<'_>) -> Result<UnnamedUse, AllocError> {
+    let of = function_type(alloc, &uses.params, &uses.results)?;
+    Ok(UnnamedUse {
+        index: uses.index,
+        of,
+    })
+}
