@@ -266,20 +266,82 @@ fn a_map_is_as_it_was_where_a_pair_is_refused() {
 
 #[test]
 fn a_map_is_as_it_was_where_any_of_its_requests_is_refused() {
-    for count in [0u64, 8, 16, 32, 512] {
-        for granted in 0..4 {
-            let mut map = BTreeMap::new(Global);
-            for key in 0..count {
-                map.insert(2 * key, key).unwrap();
+    // So many keys, one that is inserted, and how many requests it makes.
+    for (count, key, requests) in [
+        (0u64, 1, 1),
+        // Of the first numbers.
+        (8, 1, 2),
+        (9, 1, 1),
+        (16, 1, 1),
+        (18, 1, 1),
+        (32, 1, 1),
+        // A part is halved: the first, one that finds room, and one that does not.
+        (512, 1, 4),
+        (512, 1023, 4),
+        (768, 1535, 2),
+        (1536, 3071, 4),
+    ] {
+        let is_refused = |granted| is_refused(count, key, granted);
+        let refused = (0..).take_while(|granted| is_refused(*granted)).count();
+        assert_eq!(refused, requests, "{count} {key}");
+    }
+}
+
+/// Whether a map of so many even keys, which is given an odd one, has a request refused where so many are granted.
+fn is_refused(count: u64, key: u64, granted: usize) -> bool {
+    let mut map = BTreeMap::new(Global);
+    for key in 0..count {
+        map.insert(2 * key, key).unwrap();
+    }
+    let (answer, _) = granting(granted, || map.insert(key, 7));
+    assert_eq!(map.get(&key), answer.map_or(None, |_| Some(&7)));
+    let len = usize::try_from(count).unwrap() + usize::from(answer.is_ok());
+    assert_eq!((map.len(), map.keys().count()), (len, len));
+    assert!(map.keys().is_sorted());
+    assert!((0..count).all(|key| map.get(&(2 * key)) == Some(&key)));
+    assert_eq!(map.insert(key + 2, 9), Ok(None));
+    assert_eq!(map.get(&(key + 2)), Some(&9));
+    answer.is_err()
+}
+
+#[test]
+fn a_map_answers_where_its_parts_become_empty() {
+    let key_of = |key: u64| text(&format!("{}{key:05}", &"a_prefix"[..below(9, key)]));
+    for stride in [1, 2_999, 1_009] {
+        let order = || (0..3_000).map(|step| step * stride % 3_000);
+        let mut map = BTreeMap::new(Global);
+        for _ in 0..2 {
+            for key in order() {
+                assert_eq!(map.insert(key_of(key), key), Ok(None));
             }
-            let (answer, _) = granting(granted, || map.insert(1, 7));
-            assert!(answer.is_err() || map.get(&1) == Some(&7));
-            let len = usize::try_from(count).unwrap() + usize::from(answer.is_ok());
-            assert_eq!((map.len(), map.keys().count()), (len, len));
-            assert!((0..count).all(|key| map.get(&(2 * key)) == Some(&key)));
-            assert_eq!(map.insert(3, 9), Ok(None));
-            assert_eq!(map.get(&3), Some(&9));
+            for key in order() {
+                assert_eq!(map.remove(&key_of(key)), Some(key));
+                let next = (key + stride) % 3_000;
+                assert_eq!(map.get(&key_of(key)), None);
+                assert_eq!(map.get(&key_of(next)), Some(&next).filter(|_| next > 0));
+            }
+            assert!(map.is_empty());
         }
+    }
+}
+
+#[test]
+fn a_map_answers_where_its_keys_come_to_begin_with_others() {
+    let key_of = |begin, key: u64| text(&format!("{begin}{:04}", key * 617 % 2_000 * 5));
+    for (old, new) in [("p", "q"), ("q", "p"), ("function_old_", "function_new_")] {
+        let mut map = BTreeMap::new(Global);
+        for key in 0..2_000 {
+            assert_eq!(map.insert(key_of(old, key), key), Ok(None));
+        }
+        for key in 0..200 {
+            assert_eq!(map.insert(key_of(new, key), key), Ok(None));
+        }
+        assert!((0..2_000).all(|key| map.remove(&key_of(old, key)) == Some(key)));
+        for key in 200..2_000 {
+            assert_eq!(map.insert(key_of(new, key), key), Ok(None));
+        }
+        assert!((0..2_000).all(|key| map.get(&key_of(new, key)) == Some(&key)));
+        assert!((0..2_000).all(|key| map.get(&key_of(old, key)).is_none()));
     }
 }
 
@@ -295,6 +357,16 @@ fn a_map_answers_as_that_of_rust() {
         compare_maps(keys, |key| {
             vec_of_bytes(&key.to_le_bytes()[..below(9, key)])
         });
+        // The first keys of many parts have the same number.
+        compare_maps(keys, |key| text(&format!("{}_function_{key}", key % 3)));
+        // All but few begin with few bytes, with many or with zeros.
+        for prefix in ["f", "a_function_of_", "\0\0\0"] {
+            compare_maps(keys, |key| match key {
+                0..8 => text(&prefix[..below(8, key).min(prefix.len())]),
+                8 => text("g"),
+                _ => text(&format!("{prefix}{key}")),
+            });
+        }
     }
 }
 

@@ -3,8 +3,9 @@ use crate::shim::alloc::{AllocError, Global};
 use crate::shim::string::String;
 use crate::shim::vec::Vec;
 use core::borrow::Borrow;
+use core::ops::Range;
 
-/// A key of a map, most of which one number distinguishes.
+/// A key of a map, most of which two numbers distinguish.
 pub trait Key: Ord {
     /// How many bytes two keys have in common at their beginning.
     fn shared(&self, other: &Self) -> usize;
@@ -12,9 +13,14 @@ pub trait Key: Ord {
     /// Whether two keys have so many bytes in common at their beginning.
     fn agrees(&self, other: &Self, count: usize) -> bool;
 
-    /// The eight bytes after so many, the first of them the highest, with zeros after the key's end. Of two keys that have these bytes in common
-    /// the lesser has no greater number.
-    fn lead(&self, skip: usize) -> u64;
+    /// The first eight bytes, the first of them the highest, with zeros after the key's end. The lesser of two keys has no greater number.
+    fn head(&self) -> u64;
+
+    /// The eight bytes after so many, of a key with this head. Of two keys that agree on those before, the lesser has no greater number.
+    fn lead(&self, head: u64, skip: usize) -> u64;
+
+    /// Whether two keys are the same that agree on so many bytes and on the eight after these.
+    fn is(&self, other: &Self, skip: usize) -> bool;
 }
 
 impl Key for [u8] {
@@ -28,14 +34,35 @@ impl Key for [u8] {
     }
 
     #[inline]
-    fn lead(&self, skip: usize) -> u64 {
-        let after = self.get(skip..).unwrap_or_default();
-        if let Some(bytes) = after.first_chunk() {
+    fn head(&self) -> u64 {
+        if let Some(bytes) = self.first_chunk() {
             return u64::from_be_bytes(*bytes);
         }
-        (0..8).fold(0, |number, at| {
-            number << 8 | u64::from(after.get(at).copied().unwrap_or_default())
-        })
+        if let (Some(first), Some(last)) = (self.first_chunk(), self.last_chunk()) {
+            let (first, last) = (u32::from_be_bytes(*first), u32::from_be_bytes(*last));
+            return u64::from(first) << 32 | u64::from(last) << (64 - 8 * self.len());
+        }
+        let after = |number, byte: &u8| number >> 8 | u64::from(*byte) << 56;
+        self.iter().rev().fold(0, after)
+    }
+
+    #[inline]
+    fn lead(&self, head: u64, skip: usize) -> u64 {
+        let begin = skip.min(self.len().saturating_sub(8));
+        let number = match self[begin..].first_chunk() {
+            Some(bytes) => u64::from_be_bytes(*bytes),
+            None => head,
+        };
+        match skip - begin {
+            before @ 0..8 => number << (8 * before),
+            _ => 0,
+        }
+    }
+
+    #[inline]
+    fn is(&self, other: &[u8], skip: usize) -> bool {
+        let end = skip + 8;
+        self.len() == other.len() && (self.len() <= end || self[end..] == other[end..])
     }
 }
 
@@ -53,8 +80,18 @@ macro_rules! by_bytes {
             }
 
             #[inline]
-            fn lead(&self, skip: usize) -> u64 {
-                self.$bytes().lead(skip)
+            fn head(&self) -> u64 {
+                self.$bytes().head()
+            }
+
+            #[inline]
+            fn lead(&self, head: u64, skip: usize) -> u64 {
+                self.$bytes().lead(head, skip)
+            }
+
+            #[inline]
+            fn is(&self, other: &$key, skip: usize) -> bool {
+                self.$bytes().is(other.$bytes(), skip)
             }
         }
     )*};
@@ -71,8 +108,62 @@ impl Key for u64 {
         count == 0
     }
 
-    fn lead(&self, _: usize) -> u64 {
+    fn head(&self) -> u64 {
         *self
+    }
+
+    fn lead(&self, head: u64, _: usize) -> u64 {
+        head
+    }
+
+    fn is(&self, other: &u64, _: usize) -> bool {
+        self == other
+    }
+}
+
+/// Numbers that are searched instead of keys, which are in their order.
+#[derive(Debug)]
+struct Leads {
+    /// How many bytes all keys have in common at their beginning.
+    skip: usize,
+    /// The first eight bytes of one of the keys.
+    head: u64,
+    /// What comes after the bytes that they have in common, of each key.
+    numbers: Vec<u64>,
+}
+
+impl Leads {
+    const fn new(numbers: Vec<u64>) -> Leads {
+        Leads {
+            skip: 0,
+            head: 0,
+            numbers,
+        }
+    }
+
+    /// The number of a key with this head; or, where it does not begin as all keys do, its place before or after them, by the first of them.
+    #[inline(always)]
+    fn lead<'k, Q: Key + ?Sized + 'k>(
+        &self,
+        key: &Q,
+        head: u64,
+        first: impl Fn() -> &'k Q,
+    ) -> Result<u64, usize> {
+        // Zeros after the key's end may count as bytes of it: all keys are after it, and none has a lesser number.
+        let same = (self.head ^ head).leading_zeros() as usize / 8;
+        if same >= self.skip || same == 8 && first().agrees(key, self.skip) {
+            return Ok(key.lead(head, self.skip));
+        }
+        Err(if key < first() { 0 } else { self.numbers.len() })
+    }
+
+    /// Notes keys, which have so many bytes in common at their beginning.
+    fn note<'k, K: Key + 'k>(&mut self, skip: usize, keys: impl Iterator<Item = &'k K>) {
+        self.skip = skip;
+        for (key, number) in keys.zip(self.numbers.iter_mut()) {
+            self.head = key.head();
+            *number = key.lead(self.head, skip);
+        }
     }
 }
 
@@ -86,83 +177,91 @@ const MOST: usize = 512;
 #[derive(Debug)]
 struct Part<K, V> {
     pairs: Vec<(K, V)>,
-    /// How many bytes all keys have in common at their beginning.
-    skip: usize,
-    /// What comes after these, of each key; nothing where there are few.
-    leads: Vec<u64>,
+    /// Of the keys; of none where there are few.
+    leads: Leads,
 }
 
 impl<K: Key, V> Part<K, V> {
     const fn new(alloc: Global) -> Part<K, V> {
         Part {
             pairs: Vec::new(alloc),
-            skip: 0,
-            leads: Vec::new(alloc),
+            leads: Leads::new(Vec::new(alloc)),
         }
     }
 
-    /// The place of a key, or where it would be.
-    fn place<Q: Key + ?Sized>(&self, key: &Q) -> Result<usize, usize>
+    fn first<Q: ?Sized>(&self) -> &Q
     where
         K: Borrow<Q>,
     {
-        // Texts of other lengths differ at once.
-        if self.pairs.len() <= FEW {
-            if let Some(place) = self.pairs.iter().position(|(k, _)| k.borrow() == key) {
-                return Ok(place);
-            }
-        }
-        let (mut begin, mut end) = (0, self.pairs.len());
-        if !self.leads.is_empty() && self.pairs[0].0.borrow().agrees(key, self.skip) {
-            let lead = key.lead(self.skip);
-            begin = self.leads.partition_point(|other| *other < lead);
-            end = self.after_lead(begin, lead);
-        }
-        let found = self.pairs[begin..end].binary_search_by(|(k, _)| k.borrow().cmp(key));
-        found.map_or_else(|place| Err(begin + place), |place| Ok(begin + place))
+        self.pairs[0].0.borrow()
     }
 
-    /// The place after all keys with this lead, the first of which would be there.
-    fn after_lead(&self, begin: usize, lead: u64) -> usize {
-        let same = |place| self.leads.get(place) == Some(&lead);
-        if !same(begin) || !same(begin + 1) {
-            return begin + usize::from(same(begin));
+    /// The place of a key with this head, or where it would be.
+    #[inline(always)]
+    fn place<Q: Key + ?Sized>(&self, key: &Q, head: u64) -> Result<usize, usize>
+    where
+        K: Borrow<Q>,
+    {
+        if self.leads.numbers.is_empty() {
+            // Texts of other lengths differ at once.
+            let found = self.pairs.iter().position(|(k, _)| k.borrow() == key);
+            return found.map_or_else(|| self.search(key, 0..self.pairs.len()), Ok);
         }
-        begin + self.leads[begin..].partition_point(|other| *other == lead)
+        let lead = self.leads.lead(key, head, || self.first())?;
+        let place = self.leads.numbers.partition_point(|number| *number < lead);
+        match (self.leads.numbers.get(place), self.pairs.get(place)) {
+            (Some(number), Some((k, _))) if *number == lead => {
+                if k.borrow().is(key, self.leads.skip) {
+                    return Ok(place);
+                }
+                let same = self.leads.numbers[place..].partition_point(|number| *number == lead);
+                self.search(key, place..place + same)
+            }
+            _ => Err(place),
+        }
+    }
+
+    /// The place of a key, or where it would be, among these places.
+    #[inline(never)]
+    fn search<Q: Key + ?Sized>(&self, key: &Q, places: Range<usize>) -> Result<usize, usize>
+    where
+        K: Borrow<Q>,
+    {
+        let begin = places.start;
+        let found = self.pairs[places].binary_search_by(|(k, _)| k.borrow().cmp(key));
+        found.map_or_else(|place| Err(begin + place), |place| Ok(begin + place))
     }
 
     /// Puts a pair at the place where it would be.
     fn insert(&mut self, place: usize, key: K, value: V) -> Result<(), AllocError> {
         self.pairs.reserve(1)?;
-        let count = self.pairs.len() + 1;
-        if !self.leads.is_empty() {
-            self.leads.insert(place, key.lead(self.skip))?;
-        } else if count > FEW {
-            self.leads.reserve(count)?;
+        let Leads { skip, numbers, .. } = &mut self.leads;
+        let were_few = numbers.is_empty();
+        if !were_few {
+            numbers.insert(place, key.lead(key.head(), *skip))?;
+        } else if self.pairs.len() == FEW {
+            numbers.extend_from_slice(&[0; FEW + 1])?;
         }
         self.pairs.insert(place, (key, value))?;
-        if !self.leads.is_empty() && self.shared() < self.skip {
-            self.lead_after(self.shared());
-        } else if self.leads.is_empty() && count > FEW {
-            self.leads.extend_from_slice(&[0; FEW + 1])?;
-            self.lead_after(self.shared());
+        if were_few && self.pairs.len() > FEW || !self.agrees() {
+            self.note();
         }
         Ok(())
     }
 
-    /// How many bytes all keys have in common at their beginning.
-    fn shared(&self) -> usize {
+    /// Whether the keys have the bytes in common that are noted.
+    fn agrees(&self) -> bool {
         match self.pairs.as_slice() {
-            [(first, _), .., (last, _)] => first.shared(last),
-            _ => 0,
+            [(first, _), .., (last, _)] => first.agrees(last, self.leads.skip),
+            _ => true,
         }
     }
 
-    /// Notes what keys begin with after so many bytes, which they have in common.
-    fn lead_after(&mut self, skip: usize) {
-        self.skip = skip;
-        for ((key, _), lead) in self.pairs.iter().zip(self.leads.iter_mut()) {
-            *lead = key.lead(skip);
+    /// Notes the keys.
+    fn note(&mut self) {
+        if let [(first, _), .., (last, _)] = self.pairs.as_slice() {
+            let keys = self.pairs.iter().map(|(key, _)| key);
+            self.leads.note(first.shared(last), keys);
         }
     }
 
@@ -170,23 +269,24 @@ impl<K: Key, V> Part<K, V> {
     fn halve(&mut self) -> Result<Part<K, V>, AllocError> {
         let mut after = Part {
             pairs: Vec::with_capacity(Global, MOST)?,
-            skip: 0,
-            leads: Vec::with_capacity(Global, MOST)?,
+            leads: Leads::new(Vec::with_capacity(Global, MOST)?),
         };
         while self.pairs.len() > MOST / 2 {
             let Some(pair) = self.pairs.pop() else { break };
             after.pairs.push(pair)?;
-            after.leads.push(self.leads.pop().unwrap_or_default())?;
         }
         after.pairs.reverse();
-        self.lead_after(self.shared());
-        after.lead_after(after.shared());
+        let numbers = &self.leads.numbers[MOST / 2..];
+        after.leads.numbers.extend_from_slice(numbers)?;
+        self.leads.numbers.truncate(MOST / 2);
+        self.note();
+        after.note();
         Ok(after)
     }
 
     fn remove(&mut self, place: usize) -> V {
-        if !self.leads.is_empty() {
-            self.leads.remove(place);
+        if !self.leads.numbers.is_empty() {
+            self.leads.numbers.remove(place);
         }
         self.pairs.remove(place).1
     }
@@ -200,6 +300,8 @@ pub struct BTreeMap<K, V> {
     first: Part<K, V>,
     /// What comes after them, in parts that are not empty.
     more: Vec<Part<K, V>>,
+    /// Of the first keys of these.
+    firsts: Leads,
 }
 
 impl<K: Key, V> BTreeMap<K, V> {
@@ -208,6 +310,7 @@ impl<K: Key, V> BTreeMap<K, V> {
         BTreeMap {
             first: Part::new(alloc),
             more: Vec::new(alloc),
+            firsts: Leads::new(Vec::new(alloc)),
         }
     }
 
@@ -227,24 +330,82 @@ impl<K: Key, V> BTreeMap<K, V> {
         self.first.pairs.iter().chain(more).map(|(key, _)| key)
     }
 
-    /// How many parts of `more` begin with this key or one before it.
-    fn begun<Q: Key + ?Sized>(&self, key: &Q) -> usize
-    where
-        K: Borrow<Q>,
-    {
-        self.more
-            .partition_point(|part| part.pairs[0].0.borrow() <= key)
+    /// The part that so many of `more` end with; the first where there are none.
+    #[inline]
+    fn part(&self, begun: usize) -> &Part<K, V> {
+        self.more.get(begun.wrapping_sub(1)).unwrap_or(&self.first)
     }
 
-    /// The part that has a key if one does.
-    fn part<Q: Key + ?Sized>(&mut self, key: &Q) -> &mut Part<K, V>
+    fn part_mut(&mut self, begun: usize) -> &mut Part<K, V> {
+        let part = self.more.get_mut(begun.wrapping_sub(1));
+        part.unwrap_or(&mut self.first)
+    }
+
+    /// How many parts of `more` begin with a key or one before it. The last of them may begin with one after it, of the same number.
+    #[inline(always)]
+    fn begun<Q: Key + ?Sized>(&self, key: &Q, head: u64) -> usize
     where
         K: Borrow<Q>,
     {
-        match self.begun(key) {
-            0 => &mut self.first,
-            begun => &mut self.more[begun - 1],
+        if self.more.is_empty() {
+            return 0;
         }
+        let numbers = &self.firsts.numbers;
+        match self.firsts.lead(key, head, || self.more[0].first()) {
+            Ok(lead) => {
+                let begun = numbers.partition_point(|number| *number <= lead);
+                if numbers[begun.saturating_sub(2)] == lead {
+                    return self.begun_among(key, lead);
+                }
+                begun
+            }
+            Err(place) => place,
+        }
+    }
+
+    /// How many parts of `more` begin with a key or one before it, where some begin with its number.
+    #[cold]
+    fn begun_among<Q: Key + ?Sized>(&self, key: &Q, lead: u64) -> usize
+    where
+        K: Borrow<Q>,
+    {
+        let begin = self.firsts.numbers.partition_point(|number| *number < lead);
+        let end = self
+            .firsts
+            .numbers
+            .partition_point(|number| *number <= lead);
+        let same = &self.more[begin..end];
+        begin + same.partition_point(|part| part.first() <= key)
+    }
+
+    /// How many parts of `more` begin with a key or one before it, and the key's place in the last of them, or where it would be.
+    #[inline(always)]
+    fn find<Q: Key + ?Sized>(&self, key: &Q) -> (usize, Result<usize, usize>)
+    where
+        K: Borrow<Q>,
+    {
+        let head = key.head();
+        let begun = self.begun(key, head);
+        match self.part(begun).place(key, head) {
+            Ok(place) => (begun, Ok(place)),
+            Err(place) => self.miss(key, begun, place),
+        }
+    }
+
+    /// What is found of a key that is not in a part. Where that begins with a key after it, it can be in the one before.
+    fn miss<Q: Key + ?Sized>(
+        &self,
+        key: &Q,
+        begun: usize,
+        place: usize,
+    ) -> (usize, Result<usize, usize>)
+    where
+        K: Borrow<Q>,
+    {
+        if begun == 0 || place > 0 {
+            return (begun, Err(place));
+        }
+        (begun - 1, self.part(begun - 1).place(key, key.head()))
     }
 
     /// The value of a key.
@@ -252,12 +413,8 @@ impl<K: Key, V> BTreeMap<K, V> {
     where
         K: Borrow<Q>,
     {
-        let part = match self.begun(key) {
-            0 => &self.first,
-            begun => &self.more[begun - 1],
-        };
-        let place = part.place(key).ok()?;
-        Some(&part.pairs[place].1)
+        let (begun, found) = self.find(key);
+        Some(&self.part(begun).pairs[found.ok()?].1)
     }
 
     /// The value of a key, to be changed.
@@ -265,34 +422,51 @@ impl<K: Key, V> BTreeMap<K, V> {
     where
         K: Borrow<Q>,
     {
-        let part = self.part(key);
-        let place = part.place(key).ok()?;
-        Some(&mut part.pairs[place].1)
+        let (begun, found) = self.find(key);
+        Some(&mut self.part_mut(begun).pairs[found.ok()?].1)
     }
 
     /// Gives a key a value, and answers the one that it had.
     pub fn insert(&mut self, key: K, value: V) -> Result<Option<V>, AllocError> {
-        let part = self.part(&key);
-        match part.place(&key) {
+        let (begun, found) = self.find(&key);
+        let part = self.part_mut(begun);
+        match found {
             Ok(place) => Ok(Some(core::mem::replace(&mut part.pairs[place].1, value))),
             Err(place) if part.pairs.len() < MOST => {
                 part.insert(place, key, value)?;
                 Ok(None)
             }
             Err(_) => {
-                self.halve(&key)?;
+                self.halve(begun)?;
                 self.insert(key, value)
             }
         }
     }
 
-    /// Moves the second half of the full part of a key into one of its own.
-    fn halve(&mut self, key: &K) -> Result<(), AllocError> {
-        let begun = self.begun(key);
+    /// Moves the second half of a full part into one of its own.
+    fn halve(&mut self, begun: usize) -> Result<(), AllocError> {
         self.more.reserve(1)?;
-        let after = self.part(key).halve()?;
+        self.firsts.numbers.reserve(1)?;
+        let after = self.part_mut(begun).halve()?;
         self.more.insert(begun, after)?;
+        self.firsts.numbers.insert(begun, 0)?;
+        self.note(begun);
         Ok(())
+    }
+
+    /// Notes the first key of a part of `more`.
+    fn note(&mut self, place: usize) {
+        let skip = match self.more.as_slice() {
+            [first, .., last] => first.first::<K>().shared(last.first()),
+            _ => 0,
+        };
+        if skip == self.firsts.skip {
+            let key: &K = self.more[place].first();
+            self.firsts.numbers[place] = key.lead(key.head(), skip);
+        } else {
+            self.firsts
+                .note(skip, self.more.iter().map(Part::first::<K>));
+        }
     }
 
     /// Takes a key away, and answers the value that it had.
@@ -300,12 +474,16 @@ impl<K: Key, V> BTreeMap<K, V> {
     where
         K: Borrow<Q>,
     {
-        let begun = self.begun(key);
-        let part = self.part(key);
-        let place = part.place(key).ok()?;
+        let (begun, found) = self.find(key);
+        let place = found.ok()?;
+        let part = self.part_mut(begun);
         let value = part.remove(place);
-        if part.pairs.is_empty() && begun > 0 {
+        let is_empty = part.pairs.is_empty();
+        if begun > 0 && is_empty {
             self.more.remove(begun - 1);
+            self.firsts.numbers.remove(begun - 1);
+        } else if begun > 0 && place == 0 {
+            self.note(begun - 1);
         }
         Some(value)
     }
