@@ -79,6 +79,9 @@ REQUESTS = [
         "let key = type_key(self.alloc, &of)?; let index = self.types.len();",
         "room for a single type",
     ),
+    ("wat_fields_read/src/header.rt", "unnamed", "Vec::with_capacity(alloc, types.len())", "let mut variables =", "a variable for each type that is given"),
+    ("wat_instructions/src/machine.rt", "instructions", "Vec::with_capacity(alloc, 1)", "let mut out =", "room for a single instruction"),
+    ("wat_instructions/src/machine.rt", "one_folded", "Vec::with_capacity(alloc, 1)", "let mut out =", "room for a single instruction"),
     (
         "wat_floats/src/literal.rt",
         "joined_magnitude",
