@@ -275,11 +275,11 @@ fn a_map_is_as_it_was_where_any_of_its_requests_is_refused() {
         (16, 1, 1),
         (18, 1, 1),
         (32, 1, 1),
-        // A part is halved: the first, one that finds room, and one that does not.
+        // A part is split: the first, one that finds room, and one that does not.
         (512, 1, 4),
         (512, 1023, 4),
-        (768, 1535, 2),
-        (1536, 3071, 4),
+        (896, 1791, 2),
+        (2048, 4095, 4),
     ] {
         let is_refused = |granted| is_refused(count, key, granted);
         let refused = (0..).take_while(|granted| is_refused(*granted)).count();

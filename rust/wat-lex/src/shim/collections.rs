@@ -265,20 +265,20 @@ impl<K: Key, V> Part<K, V> {
         }
     }
 
-    /// Takes the second half away.
-    fn halve(&mut self) -> Result<Part<K, V>, AllocError> {
+    /// Takes all but so many of the first pairs away.
+    fn split(&mut self, kept: usize) -> Result<Part<K, V>, AllocError> {
         let mut after = Part {
             pairs: Vec::with_capacity(Global, MOST)?,
             leads: Leads::new(Vec::with_capacity(Global, MOST)?),
         };
-        while self.pairs.len() > MOST / 2 {
+        while self.pairs.len() > kept {
             let Some(pair) = self.pairs.pop() else { break };
             after.pairs.push(pair)?;
         }
         after.pairs.reverse();
-        let numbers = &self.leads.numbers[MOST / 2..];
+        let numbers = &self.leads.numbers[kept..];
         after.leads.numbers.extend_from_slice(numbers)?;
-        self.leads.numbers.truncate(MOST / 2);
+        self.leads.numbers.truncate(kept);
         self.note();
         after.note();
         Ok(after)
@@ -436,18 +436,20 @@ impl<K: Key, V> BTreeMap<K, V> {
                 part.insert(place, key, value)?;
                 Ok(None)
             }
-            Err(_) => {
-                self.halve(begun)?;
+            // Where keys come in order, those before this one stay, and are more than half of what the part has room for.
+            // Keys that come in order leave parts that are three quarters full.
+            Err(place) => {
+                self.split(begun, place.clamp(MOST / 4, MOST - MOST / 4))?;
                 self.insert(key, value)
             }
         }
     }
 
-    /// Moves the second half of a full part into one of its own.
-    fn halve(&mut self, begun: usize) -> Result<(), AllocError> {
+    /// Moves all but so many of a full part's first pairs into a part of their own.
+    fn split(&mut self, begun: usize, kept: usize) -> Result<(), AllocError> {
         self.more.reserve(1)?;
         self.firsts.numbers.reserve(1)?;
-        let after = self.part_mut(begun).halve()?;
+        let after = self.part_mut(begun).split(kept)?;
         self.more.insert(begun, after)?;
         self.firsts.numbers.insert(begun, 0)?;
         self.note(begun);
