@@ -1,7 +1,7 @@
 -- WebAssembly 2.0 specification, 6.6 (text format, modules): 6.6.1 indices, 6.6.2 types, 6.6.3 type uses, 6.6.4 imports, 6.6.5 functions, 6.6.6 tables,
 -- 6.6.7 memories, 6.6.8 globals, 6.6.9 exports, 6.6.10 start function, 6.6.11 element segments, 6.6.12 data segments, and of 6.6.13 (modules) what
 -- `Modules` asks for; 6.4 (types). Over the tokens that count. A rule takes tokens from a place on, and leaves the rest.
-use Rattle.std.specs.Prelude.{◌≡◌, ◌&&◌, ◌^◌, ◌+◌, ◌/◌, ◌≤◌, ℕ, Bool, true, false, List, [], ◌∷◌, ◌++◌, length, map, codes, bytes_eq, nat_lt, slice_get, Option, Some, None, if◌then◌else◌}
+use Rattle.std.specs.Prelude.{◌≡◌, ◌&&◌, ◌^◌, ◌+◌, ◌/◌, ℕ, Bool, true, false, List, [], ◌∷◌, ◌++◌, length, map, codes, bytes_eq, nat_lt, slice_get, Option, Some, None, if◌then◌else◌}
 use Rattle.std.specs.List.{flat_map}
 use Rattle.std.specs.Str.{is_utf8}
 use Rattle.wat_instructions.specs.declared.pieces.Argument.TheVariants as argument
@@ -14,7 +14,7 @@ use Rattle.wat_instructions.specs.declared.pieces.ValueType.{ValueType}
 use Rattle.wat_instructions.specs.Grammar.{Body, Context, Folded, label_of, position, reference_type, value_type}
 use Rattle.wat_instructions.specs.Names.{are_distinct}
 use Rattle.wat_instructions.specs.Terminals.{Terminal, Open, Close, Word, Id, Integer, Text, Label}
-use Rattle.wat_instructions.specs.Types.{FunctionType, Types, UnnamedUse, from_to, unnamed_use}
+use Rattle.wat_instructions.specs.Types.{FunctionType, Types, TypeUse, from_to, type_use}
 use Rattle.wat_fields.specs.declared.fields.GlobalType.{GlobalType}
 use Rattle.wat_fields.specs.declared.fields.IndexSpace.{IndexSpace}
 use Rattle.wat_fields.specs.declared.fields.IndexSpace.TheVariants as space
@@ -42,30 +42,31 @@ type_of v = v.type
 abbrev pub function_type : List Variable → List Variable → FunctionType
 function_type params results = from_to (map type_of params) (map type_of results)
 
--- 6.6.3: a type use, which may say the index of its type, and its parameters and results
-pub record TypeUse : Type 0 where
+-- 6.6.3: a type use with names, which may say the index of its type, and its parameters and results
+pub record NamedUse : Type 0 where
   pub index : Option ℕ
   pub params : List Variable
   pub results : List Variable
 
-abbrev pub type_use : Option ℕ → List Variable → List Variable → TypeUse
-type_use i ps rs = record { index = i; params = ps; results = rs }
+abbrev pub named_use : Option ℕ → List Variable → List Variable → NamedUse
+named_use i ps rs = record { index = i; params = ps; results = rs }
 
--- 2.5.3: a function has types; the names of its parameters and local variables are in the context alone (6.1.3)
-abbrev pub without_names : TypeUse → UnnamedUse
-without_names u = unnamed_use u.index (function_type u.params u.results)
+-- a type use without the names of its parameters: a module has none (2.5.3, 2.5.11). Those of a function are in the context of its body alone (6.6.5,
+-- with_locals).
+abbrev pub without_names : NamedUse → TypeUse
+without_names u = type_use u.index (function_type u.params u.results)
 
--- a function: its name, the names under which it is exported, its type, the types of its local variables, and its instructions
+-- a function: its name, the names under which it is exported, its type use, the types of its local variables, and its instructions
 pub record Function : Type 0 where
   pub name : Label
   pub exports : List (List ℕ)
-  pub uses : UnnamedUse
+  pub uses : TypeUse
   pub locals : List ValueType
   pub body : List Instruction
 
 -- 6.6.4: what is imported
 pub data ExternType : Type 0 where
-  FuncType : UnnamedUse → ExternType
+  FuncType : TypeUse → ExternType
   OfTable : TableType → ExternType
   OfMemory : Limits → ExternType
   OfGlobal : GlobalType → ExternType
@@ -288,18 +289,18 @@ pub data GlobalTypeIs : List Terminal → GlobalType → List Terminal → Type 
 
 -- 6.6.3: typeuse = param* result*; or `(` type index `)` param* result*, where the lists are those of the type, or list nothing: then the parameters have no
 -- names. The lists alone are of the least index of their type (ImplicitTypes). Where the types are not known, which is so in no module, any index is taken.
-pub data TypeUseIs (types : Types) : List Terminal → TypeUse → List Terminal → Type 0 where
+pub data TypeUseIs (types : Types) : List Terminal → NamedUse → List Terminal → Type 0 where
   by_lists : {ts us vs : List Terminal} {params results : List Variable}
-      → Many (Group (codes "param") true) ts params us → Many (Group (codes "result") false) us results vs → TypeUseIs types ts (type_use None params results) vs
+      → Many (Group (codes "param") true) ts params us → Many (Group (codes "result") false) us results vs → TypeUseIs types ts (named_use None params results) vs
   by_index : {w : List ℕ} {ts us vs ws : List Terminal} {i : ℕ} {t : FunctionType}
       → types.are_known ≡ true → w ≡ codes "type" → IndexIs types.names ts i (Close ∷ us) → slice_get types.types i ≡ Some t → Many (Group (codes "param") true) us [] vs → Many (Group (codes "result") false) vs [] ws
-      → TypeUseIs types (Open ∷ Word w ∷ ts) (type_use (Some i) (map unnamed t.params) (map unnamed t.results)) ws
+      → TypeUseIs types (Open ∷ Word w ∷ ts) (named_use (Some i) (map unnamed t.params) (map unnamed t.results)) ws
   by_both : {w : List ℕ} {ts us vs ws : List Terminal} {i : ℕ} {params results : List Variable}
       → types.are_known ≡ true → w ≡ codes "type" → IndexIs types.names ts i (Close ∷ us) → slice_get types.types i ≡ Some (function_type params results) → Many (Group (codes "param") true) us params vs → Many (Group (codes "result") false) vs results ws
-      → TypeUseIs types (Open ∷ Word w ∷ ts) (type_use (Some i) params results) ws
+      → TypeUseIs types (Open ∷ Word w ∷ ts) (named_use (Some i) params results) ws
   by_unknown : {w : List ℕ} {ts us vs ws : List Terminal} {i : ℕ} {params results : List Variable}
       → types.are_known ≡ false → w ≡ codes "type" → IndexIs types.names ts i (Close ∷ us) → Many (Group (codes "param") true) us params vs → Many (Group (codes "result") false) vs results ws
-      → TypeUseIs types (Open ∷ Word w ∷ ts) (type_use (Some i) params results) ws
+      → TypeUseIs types (Open ∷ Word w ∷ ts) (named_use (Some i) params results) ws
 
 -- 6.6.9: the index space that a word of an export names; the word of a field is the same
 abbrev pub space_of : List ℕ → Option IndexSpace
@@ -312,7 +313,7 @@ all_distinct types context = are_distinct types.names && are_distinct context.fu
 
 -- 6.4.7 to 6.4.9, 6.6.3: what is imported, after its name
 pub data ExternIs (types : Types) : IndexSpace → List Terminal → ExternType → List Terminal → Type 0 where
-  by_type_use : {ts us : List Terminal} {u : TypeUse} → TypeUseIs types ts u us → are_distinct (map name_of u.params) ≡ true → ExternIs types space.Func ts (FuncType (without_names u)) us
+  by_type_use : {ts us : List Terminal} {u : NamedUse} → TypeUseIs types ts u us → are_distinct (map name_of u.params) ≡ true → ExternIs types space.Func ts (FuncType (without_names u)) us
   by_table_type : {ts us : List Terminal} {v : List ℕ} {limits : Limits} {t : ReferenceType} → LimitsAre ts limits (Word v ∷ us) → reference_type v ≡ Some t → ExternIs types space.Table ts (OfTable (record { limits = limits; element = t })) us
   by_memory_type : {ts us : List Terminal} {limits : Limits} → LimitsAre ts limits us → ExternIs types space.Mem ts (OfMemory limits) us
   by_global_type : {ts us : List Terminal} {t : GlobalType} → GlobalTypeIs ts t us → ExternIs types space.Global ts (OfGlobal t) us
@@ -371,7 +372,7 @@ pub data FieldIs (types : Types) (context : Context) : List Terminal → List Fi
       → space_of w ≡ Some s → Many InlineExport (label_of ts).1 names (Open ∷ Word v ∷ Text m ∷ Text n ∷ Close ∷ us) → v ≡ codes "import" → is_utf8 m ≡ true → is_utf8 n ≡ true → ExternIs types s us t (Close ∷ r)
       → FieldIs types context (Open ∷ Word w ∷ ts) (Import m n (label_of ts).0 names t ∷ []) r
   -- 6.6.5: func = `(` func id? export* typeuse local* instr* `)`
-  by_func : {w : List ℕ} {ts hs bs ds r : List Terminal} {names : List (List ℕ)} {u : TypeUse} {locals : List Variable} {is : List Instruction}
+  by_func : {w : List ℕ} {ts hs bs ds r : List Terminal} {names : List (List ℕ)} {u : NamedUse} {locals : List Variable} {is : List Instruction}
       → w ≡ codes "func" → Many InlineExport (label_of ts).1 names hs → TypeUseIs types hs u bs → Many (Group (codes "local") true) bs locals ds
       → are_distinct (map name_of (u.params ++ locals)) ≡ true → Body (with_locals context (u.params ++ locals)) ds is r
       → FieldIs types context (Open ∷ Word w ∷ ts) (Func (record { name = (label_of ts).0; exports = names; uses = without_names u; locals = map type_of locals; body = is }) ∷ []) r

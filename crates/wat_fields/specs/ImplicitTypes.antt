@@ -44,7 +44,8 @@ extern_types (OfTable t) = []
 extern_types (OfMemory l) = []
 extern_types (OfGlobal t) = []
 
--- 6.6.3: the types that a field brings, as they appear: a function's own first, and then those of its instructions; and those of each other expression
+-- 6.6.3: the types that a field brings, as they appear: that of an imported function; a function's own, and then those of its instructions; and those of
+-- each other expression, an offset before elements
 abbrev pub field_types : Field → List FunctionType
 field_types (field.TypeField l t) = []
 field_types (field.Import m n l ns t) = extern_types t

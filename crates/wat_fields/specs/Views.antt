@@ -56,13 +56,13 @@ target_of None = None
 abbrev pub expression_of : {G : Type 0} → Vec Instruction G → List Instruction
 expression_of v = v.items
 
--- the instructions of each element
-abbrev pub items_of : declared_elements.Elements → Elements
-items_of (elements.Functions v) = map ref_func v.items
-items_of (elements.Expressions v) = map expression_of v.items
+-- 6.6.11: the instructions of each element; an index stands for `ref.func` of it
+abbrev pub expressions_of : declared_elements.Elements → Elements
+expressions_of (elements.Functions v) = map ref_func v.items
+expressions_of (elements.Expressions v) = map expression_of v.items
 
 abbrev pub inline_elements : Option declared_elements.Elements → Option Elements
-inline_elements (Some es) = Some (items_of es)
+inline_elements (Some es) = Some (expressions_of es)
 inline_elements None = None
 
 abbrev pub mode_of : declared_mode.ElemMode → ElemMode
@@ -80,7 +80,7 @@ field_of (fields.Global g) = Global (label g.name) (map text_of g.exports.items)
 field_of (fields.Export e) = field.Export e.name.now e.space e.index
 field_of (fields.Start i) = Start i
 field_of (fields.Data d) = Data (label d.name) (target_of d.target) (together d.strings.items)
-field_of (fields.Elem e) = Elem (label e.name) (mode_of e.mode) e.of (items_of e.elements)
+field_of (fields.Elem e) = Elem (label e.name) (mode_of e.mode) e.of (expressions_of e.elements)
 
 abbrev pub fields_of : List declared_field.Field → List Field
 fields_of fs = map field_of fs

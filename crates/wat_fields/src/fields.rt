@@ -1,9 +1,9 @@
 //! The fields of a module.
 ghost use Rattle.std.specs.Prelude.{◌≡◌, ◌<◌, ◌^◌, length};
-ghost use Rattle.wat_fields.specs.Views.{items_of};
+ghost use Rattle.wat_fields.specs.Views.{expressions_of};
 
 use wat_instructions::pieces::{Instruction, Name, ReferenceType, ValueType};
-use wat_instructions::types::{FunctionType, UnnamedUse};
+use wat_instructions::types::{FunctionType, TypeUse};
 
 /// A type that a field defines.
 #[derive(Drop)]
@@ -17,7 +17,7 @@ pub struct Definition<'p> {
 pub struct Function<'p> {
     pub name: Name<'p>,
     pub exports: Vec<&'p [u8]>,
-    pub uses: UnnamedUse,
+    pub uses: TypeUse,
     pub locals: Vec<ValueType>,
     pub body: Vec<Instruction>,
 }
@@ -52,7 +52,7 @@ pub struct GlobalType {
     pub value: ValueType,
 }
 
-/// Elements: functions by their indices, each of which is an expression of `ref.func` alone; or
+/// Elements: functions by their indices, each in the place of an expression of `ref.func` alone; or
 /// any expressions, by their instructions.
 #[derive(Drop)]
 pub enum Elements {
@@ -63,7 +63,7 @@ pub enum Elements {
 impl Elements {
     /// How many there are.
     pub fn len(&self) -> usize
-        ensures is { result ≡ length (items_of self.now) }
+        ensures is { result ≡ length (expressions_of self.now) }
         ensures small { result < 2 ^ 63 }
     {
         match self {
@@ -135,7 +135,7 @@ pub struct GlobalVariable<'p> {
 /// What is imported.
 #[derive(Drop)]
 pub enum ExternType {
-    Func(UnnamedUse),
+    Func(TypeUse),
     Table(TableType),
     Memory(Limits),
     Global(GlobalType),

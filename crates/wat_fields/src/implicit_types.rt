@@ -3,7 +3,7 @@ ghost use Rattle.std.specs.Prelude.{◌≡◌, ◌∷◌, [], IfOk, OnOk, MatchO
 ghost use Rattle.std.specs.List.{flat_map};
 ghost use Rattle.wat_fields.specs.Fields as grammar;
 ghost use Rattle.wat_fields.specs.ImplicitTypes as implicit;
-ghost use Rattle.wat_fields.specs.Views.{expression_of, field_of, fields_of, items_of, mode_of};
+ghost use Rattle.wat_fields.specs.Views.{expression_of, field_of, fields_of, expressions_of, mode_of};
 ghost use Rattle.wat_instructions.specs.Types.{brought};
 ghost use Rattle.wat_instructions.specs.Uses.{expression_types, instruction_types};
 ghost use Rattle.wat_instructions.specs.Views.{type_of, use_of};
@@ -12,7 +12,7 @@ use crate::fields::{ElemMode, Elements, ExternType, Field};
 use crate::indexed_types::IndexedTypes;
 use std::alloc::{AllocError, Global};
 use wat_instructions::pieces::{Argument, Instruction};
-use wat_instructions::types::{UnnamedUse, copied};
+use wat_instructions::types::{TypeUse, copied};
 
 /// The types that fields define.
 fn defined_types(alloc: Global, fields: &[Field<'_>]) -> Result<IndexedTypes, AllocError>
@@ -28,7 +28,7 @@ fn defined_types(alloc: Global, fields: &[Field<'_>]) -> Result<IndexedTypes, Al
 }
 
 /// A type use that says no index, and so brings its type.
-fn bringing(uses: &UnnamedUse) -> Option<&UnnamedUse>
+fn bringing(uses: &TypeUse) -> Option<&TypeUse>
     ensures { MatchOption result (brought (use_of uses.now) ≡ []) (λ u. brought (use_of uses.now) ≡ type_of u.now.of ∷ []) }
 {
     match uses.index {
@@ -38,7 +38,7 @@ fn bringing(uses: &UnnamedUse) -> Option<&UnnamedUse>
 }
 
 /// The type use of an instruction that brings a type.
-fn instruction_use(instruction: &Instruction) -> Option<&UnnamedUse>
+fn instruction_use(instruction: &Instruction) -> Option<&TypeUse>
     ensures { MatchOption result (instruction_types instruction.now ≡ []) (λ u. instruction_types instruction.now ≡ type_of u.now.of ∷ []) }
 {
     match &instruction.argument {
@@ -63,7 +63,7 @@ fn add_instructions(types: &mut IndexedTypes, all: &[Instruction]) -> Result<(),
 /// Appends the types that elements bring.
 #[tactic(auto, using(crate::proofs::FunctionTypes::functions_bring_none))]
 fn add_elements(types: &mut IndexedTypes, elements: &Elements) -> Result<(), AllocError>
-    ensures { OnOk result (types.new ≡ implicit.types_after types.old (flat_map expression_types (items_of elements.now))) }
+    ensures { OnOk result (types.new ≡ implicit.types_after types.old (flat_map expression_types (expressions_of elements.now))) }
 {
     match elements {
         Elements::Functions(_) => Ok(()),
@@ -95,10 +95,10 @@ fn add_mode(types: &mut IndexedTypes, mode: &ElemMode) -> Result<(), AllocError>
 }
 
 /// Appends the type of a type use that says no index.
-fn add_use(types: &mut IndexedTypes, uses: &UnnamedUse) -> Result<(), AllocError>
+fn add_use(types: &mut IndexedTypes, uses: &TypeUse) -> Result<(), AllocError>
     ensures { OnOk result (types.new ≡ implicit.types_after types.old (brought (use_of uses.now))) }
 {
-    if uses.index.is_none() {
+    if let Some(uses) = bringing(uses) {
         types.add(&uses.of)?;
     }
     Ok(())

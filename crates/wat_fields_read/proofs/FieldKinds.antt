@@ -14,7 +14,7 @@ use Rattle.wat_fields.specs.declared.fields.TableType.{TableType}
 use Rattle.wat_instructions.specs.Types.{FunctionType, Types, same_type}
 use Rattle.wat_instructions.specs.declared.pieces.ReferenceType.{ReferenceType}
 use Rattle.wat_instructions.specs.declared.pieces.ReferenceType.TheVariants as reference
-use Rattle.wat_fields.specs.Fields.{Many, Group, InlineExport, IndexIs, by_number, by_identifier, LimitsAre, TypeUseIs, by_lists, by_index, by_both, by_unknown, ExternIs, by_type_use, by_table_type, by_memory_type, by_global_type, Variable, TypeUse, type_use, function_type, ExternType, FuncType, OfTable, OfMemory, OfGlobal, extern_space, Definition, definition, Field, TypeField, Import, Func, Table, Memory, Global, Export, Start, FieldIs, by_type, by_import, by_inline_import, by_func, by_table, by_memory, by_global, by_export, by_start, name_of, names_of, unnamed, with_locals, without_names, space_of, Data, StringIs, target, Elem, Passive, Active, Declarative, Elements, table_of, is_u32, by_table_items, by_table_functions, by_passive_elem, by_declarative_elem, by_active_elem, by_function_elem, by_memory_data, by_passive_data, by_active_data}
+use Rattle.wat_fields.specs.Fields.{Many, Group, InlineExport, IndexIs, by_number, by_identifier, LimitsAre, TypeUseIs, by_lists, by_index, by_both, by_unknown, ExternIs, by_type_use, by_table_type, by_memory_type, by_global_type, Variable, NamedUse, named_use, function_type, ExternType, FuncType, OfTable, OfMemory, OfGlobal, extern_space, Definition, definition, Field, TypeField, Import, Func, Table, Memory, Global, Export, Start, FieldIs, by_type, by_import, by_inline_import, by_func, by_table, by_memory, by_global, by_export, by_start, name_of, names_of, unnamed, with_locals, without_names, space_of, Data, StringIs, target, Elem, Passive, Active, Declarative, Elements, table_of, is_u32, by_table_items, by_table_functions, by_passive_elem, by_declarative_elem, by_active_elem, by_function_elem, by_memory_data, by_passive_data, by_active_data}
 use Rattle.wat_instructions.specs.Names.{are_distinct}
 use Rattle.wat_fields_read.specs.Reading.{and_then, after, all, closed, closing, utf8_text, export, export_item, group_item, group, function, func_at, locals, instructions, agreed, lists_after, assumed_use, either_use, listed_use, indexed_use, use_by, use_at, limits_at, table_type_at, table_limits, table_open, table_by, table_at, elem_at, memory_type, memory_by, memory_at, segment_at, data_at, global_type_at, global_at, defined, import_names, func_type, extern_at, imported, inline_import, item_by, item_at, import_by, import_word, import_open, import_at, type_by, type_at, type_field, twice_closed, external_by, external_word, external_at, export_at, start_at, field_by, field, field_item}
 use Rattle.wat_fields_read.proofs.SameTypes.{type_is, type_same}
@@ -28,42 +28,42 @@ use Rattle.wat_fields_read.proofs.TypeRules.{Passes, IsTableType, limits_sound, 
 
 -- Type uses.
 
-listed_use_sound : (types : Types) (ts : List Terminal) (u : TypeUse) (us : List Terminal) → Gives (listed_use ts) u us → TypeUseIs types ts u us
+listed_use_sound : (types : Types) (ts : List Terminal) (u : NamedUse) (us : List Terminal) → Gives (listed_use ts) u us → TypeUseIs types ts u us
 listed_use_sound types ts u us g =
-    let (ps, rs, ds, k, e) = lists_sound (λ ps rs vs. Ok (type_use None ps rs, vs)) ts u us g in
-    subst (λ x. TypeUseIs types ts x us) e.0 (subst (λ x. TypeUseIs types ts (type_use None ps rs) x) e.1 (by_lists k.params k.results))
+    let (ps, rs, ds, k, e) = lists_sound (λ ps rs vs. Ok (named_use None ps rs, vs)) ts u us g in
+    subst (λ x. TypeUseIs types ts x us) e.0 (subst (λ x. TypeUseIs types ts (named_use None ps rs) x) e.1 (by_lists k.params k.results))
 
-both_sound : (types : Types) (w : List ℕ) (hs vs : List Terminal) (i : ℕ) (t : FunctionType) (ps rs : List Variable) (ds : List Terminal) (u : TypeUse) (us : List Terminal) → types.are_known ≡ true → w ≡ codes "type" → IndexIs types.names hs i (Close ∷ vs) → slice_get types.types i ≡ Some t → Listed ps rs vs ds
-    → (b : Bool) → same_type (function_type ps rs) t ≡ b → Gives (if b then Ok (type_use (Some i) ps rs, ds) else Err (OtherType, hs)) u us → TypeUseIs types (Open ∷ Word w ∷ hs) u us
+both_sound : (types : Types) (w : List ℕ) (hs vs : List Terminal) (i : ℕ) (t : FunctionType) (ps rs : List Variable) (ds : List Terminal) (u : NamedUse) (us : List Terminal) → types.are_known ≡ true → w ≡ codes "type" → IndexIs types.names hs i (Close ∷ vs) → slice_get types.types i ≡ Some t → Listed ps rs vs ds
+    → (b : Bool) → same_type (function_type ps rs) t ≡ b → Gives (if b then Ok (named_use (Some i) ps rs, ds) else Err (OtherType, hs)) u us → TypeUseIs types (Open ∷ Word w ∷ hs) u us
 both_sound types w hs vs i t ps rs ds u us q e n s k true b g =
     subst (λ x. TypeUseIs types (Open ∷ Word w ∷ hs) x us) g.0
-    (subst (λ x. TypeUseIs types (Open ∷ Word w ∷ hs) (type_use (Some i) ps rs) x) g.1
+    (subst (λ x. TypeUseIs types (Open ∷ Word w ∷ hs) (named_use (Some i) ps rs) x) g.1
     (by_both q e n (s ∙ ap (λ x. Some x) (sym (type_is (function_type ps rs) t b))) k.params k.results))
 both_sound types w hs vs i t ps rs ds u us q e n s k false b g = absurd g
 
-agreed_sound : (types : Types) (w : List ℕ) (hs vs : List Terminal) (i : ℕ) (t : FunctionType) (ps rs : List Variable) (ds : List Terminal) (u : TypeUse) (us : List Terminal) → types.are_known ≡ true → w ≡ codes "type" → IndexIs types.names hs i (Close ∷ vs) → slice_get types.types i ≡ Some t → Listed ps rs vs ds
+agreed_sound : (types : Types) (w : List ℕ) (hs vs : List Terminal) (i : ℕ) (t : FunctionType) (ps rs : List Variable) (ds : List Terminal) (u : NamedUse) (us : List Terminal) → types.are_known ≡ true → w ≡ codes "type" → IndexIs types.names hs i (Close ∷ vs) → slice_get types.types i ≡ Some t → Listed ps rs vs ds
     → Gives (agreed i t ps rs hs ds) u us → TypeUseIs types (Open ∷ Word w ∷ hs) u us
 agreed_sound types w hs vs i t [] [] ds u us q e n s k g =
     subst (λ x. TypeUseIs types (Open ∷ Word w ∷ hs) x us) g.0
-    (subst (λ x. TypeUseIs types (Open ∷ Word w ∷ hs) (type_use (Some i) (map unnamed t.params) (map unnamed t.results)) x) g.1
+    (subst (λ x. TypeUseIs types (Open ∷ Word w ∷ hs) (named_use (Some i) (map unnamed t.params) (map unnamed t.results)) x) g.1
     (by_index q e n s k.params k.results))
 agreed_sound types w hs vs i t [] (r ∷ rs) ds u us q e n s k g = both_sound types w hs vs i t [] (r ∷ rs) ds u us q e n s k (same_type (function_type [] (r ∷ rs)) t) refl g
 agreed_sound types w hs vs i t (p ∷ ps) rs ds u us q e n s k g = both_sound types w hs vs i t (p ∷ ps) rs ds u us q e n s k (same_type (function_type (p ∷ ps) rs) t) refl g
 
-after_index : (types : Types) (w : List ℕ) (hs vs : List Terminal) (i : ℕ) (o : Option FunctionType) (u : TypeUse) (us : List Terminal) → types.are_known ≡ true → w ≡ codes "type" → IndexIs types.names hs i (Close ∷ vs) → slice_get types.types i ≡ o → Gives (lists_after i o hs vs) u us → TypeUseIs types (Open ∷ Word w ∷ hs) u us
+after_index : (types : Types) (w : List ℕ) (hs vs : List Terminal) (i : ℕ) (o : Option FunctionType) (u : NamedUse) (us : List Terminal) → types.are_known ≡ true → w ≡ codes "type" → IndexIs types.names hs i (Close ∷ vs) → slice_get types.types i ≡ o → Gives (lists_after i o hs vs) u us → TypeUseIs types (Open ∷ Word w ∷ hs) u us
 after_index types w hs vs i (Some t) u us q e n s g = let (ps, rs, ds, k, h) = lists_sound (λ ps rs ws. agreed i t ps rs hs ws) vs u us g in agreed_sound types w hs vs i t ps rs ds u us q e n s k h
 after_index types w hs vs i None u us q e n s g = absurd g
 
-unknown_sound : (types : Types) (w : List ℕ) (hs vs : List Terminal) (i : ℕ) (u : TypeUse) (us : List Terminal) → types.are_known ≡ false → w ≡ codes "type" → IndexIs types.names hs i (Close ∷ vs) → Gives (assumed_use i vs) u us → TypeUseIs types (Open ∷ Word w ∷ hs) u us
+unknown_sound : (types : Types) (w : List ℕ) (hs vs : List Terminal) (i : ℕ) (u : NamedUse) (us : List Terminal) → types.are_known ≡ false → w ≡ codes "type" → IndexIs types.names hs i (Close ∷ vs) → Gives (assumed_use i vs) u us → TypeUseIs types (Open ∷ Word w ∷ hs) u us
 unknown_sound types w hs vs i u us q e n g =
-    let (ps, rs, ds, k, h) = lists_sound (λ ps rs vs. Ok (type_use (Some i) ps rs, vs)) vs u us g in
-    subst (λ x. TypeUseIs types (Open ∷ Word w ∷ hs) x us) h.0 (subst (λ x. TypeUseIs types (Open ∷ Word w ∷ hs) (type_use (Some i) ps rs) x) h.1 (by_unknown q e n k.params k.results))
+    let (ps, rs, ds, k, h) = lists_sound (λ ps rs vs. Ok (named_use (Some i) ps rs, vs)) vs u us g in
+    subst (λ x. TypeUseIs types (Open ∷ Word w ∷ hs) x us) h.0 (subst (λ x. TypeUseIs types (Open ∷ Word w ∷ hs) (named_use (Some i) ps rs) x) h.1 (by_unknown q e n k.params k.results))
 
-either_sound : (types : Types) (w : List ℕ) (hs vs : List Terminal) (i : ℕ) (u : TypeUse) (us : List Terminal) (b : Bool) → types.are_known ≡ b → w ≡ codes "type" → IndexIs types.names hs i (Close ∷ vs) → Gives (if b then lists_after i (slice_get types.types i) hs vs else assumed_use i vs) u us → TypeUseIs types (Open ∷ Word w ∷ hs) u us
+either_sound : (types : Types) (w : List ℕ) (hs vs : List Terminal) (i : ℕ) (u : NamedUse) (us : List Terminal) (b : Bool) → types.are_known ≡ b → w ≡ codes "type" → IndexIs types.names hs i (Close ∷ vs) → Gives (if b then lists_after i (slice_get types.types i) hs vs else assumed_use i vs) u us → TypeUseIs types (Open ∷ Word w ∷ hs) u us
 either_sound types w hs vs i u us true q e n g = after_index types w hs vs i (slice_get types.types i) u us q e n refl g
 either_sound types w hs vs i u us false q e n g = unknown_sound types w hs vs i u us q e n g
 
-indexed_use_sound : (types : Types) (w : List ℕ) (hs : List Terminal) (u : TypeUse) (us : List Terminal) → w ≡ codes "type" → Gives (indexed_use types hs) u us → TypeUseIs types (Open ∷ Word w ∷ hs) u us
+indexed_use_sound : (types : Types) (w : List ℕ) (hs : List Terminal) (u : NamedUse) (us : List Terminal) → w ≡ codes "type" → Gives (indexed_use types hs) u us → TypeUseIs types (Open ∷ Word w ∷ hs) u us
 indexed_use_sound types w hs u us e g =
     let (i, xs, e1, g1) = and_then_inv (index types.names hs) (λ i us. and_then (closing i (closed us)) (λ i vs. either_use types i hs vs)) u us g in
     let (j, vs, e2, g2) = and_then_inv (closing i (closed xs)) (λ i vs. either_use types i hs vs) u us g1 in
@@ -71,7 +71,7 @@ indexed_use_sound types w hs u us e g =
     let n = index_sound types.names hs i xs (gives_of _ i xs e1) in
     either_sound types w hs vs j u us types.are_known refl e (subst (λ x. IndexIs types.names hs x (Close ∷ vs)) same (subst (λ x. IndexIs types.names hs i x) (closed_is xs vs shut) n)) g2
 
-use_sound : (types : Types) (ts : List Terminal) (u : TypeUse) (us : List Terminal) → Gives (use_at types ts) u us → TypeUseIs types ts u us
+use_sound : (types : Types) (ts : List Terminal) (u : NamedUse) (us : List Terminal) → Gives (use_at types ts) u us → TypeUseIs types ts u us
 unfolding use_at
 use_sound types ts u us g = by (after (codes "type") ts) refl g
   where
@@ -84,10 +84,10 @@ record NoUse (ds : List Terminal) : Type 0 where
   lists : NoLists ds
   no_type : Ends (codes "type") ds
 
-agreed_both : (i : ℕ) (ps rs : List Variable) (all ts : List Terminal) → agreed i (function_type ps rs) ps rs all ts ≡ Ok (type_use (Some i) ps rs, ts)
+agreed_both : (i : ℕ) (ps rs : List Variable) (all ts : List Terminal) → agreed i (function_type ps rs) ps rs all ts ≡ Ok (named_use (Some i) ps rs, ts)
 agreed_both i [] [] all ts = refl
-agreed_both i [] (r ∷ rs) all ts = ap (λ (b : Bool). if b then Ok (type_use (Some i) [] (r ∷ rs), ts) else Err (OtherType, all)) (type_same (function_type [] (r ∷ rs)))
-agreed_both i (p ∷ ps) rs all ts = ap (λ (b : Bool). if b then Ok (type_use (Some i) (p ∷ ps) rs, ts) else Err (OtherType, all)) (type_same (function_type (p ∷ ps) rs))
+agreed_both i [] (r ∷ rs) all ts = ap (λ (b : Bool). if b then Ok (named_use (Some i) [] (r ∷ rs), ts) else Err (OtherType, all)) (type_same (function_type [] (r ∷ rs)))
+agreed_both i (p ∷ ps) rs all ts = ap (λ (b : Bool). if b then Ok (named_use (Some i) (p ∷ ps) rs, ts) else Err (OtherType, all)) (type_same (function_type (p ∷ ps) rs))
 
 at_index : (types : Types) (w : List ℕ) (ts us : List Terminal) (i : ℕ) → w ≡ codes "type" → IndexIs types.names ts i (Close ∷ us) → use_at types (Open ∷ Word w ∷ ts) ≡ either_use types i ts us
 unfolding use_at
@@ -95,26 +95,26 @@ at_index types w ts us i e n =
     ap (λ o. use_by types o (Open ∷ Word w ∷ ts)) (after_is (codes "type") w ts e)
     ∙ ap (λ q. and_then q (λ i us. and_then (closing i (closed us)) (λ i vs. either_use types i ts vs))) (index_complete types.names ts i (Close ∷ us) n)
 
-indexed_complete : (types : Types) (w : List ℕ) (ts us : List Terminal) (i : ℕ) (t : FunctionType) (u : TypeUse) (ws : List Terminal) → types.are_known ≡ true → w ≡ codes "type" → IndexIs types.names ts i (Close ∷ us) → slice_get types.types i ≡ Some t → lists_after i (Some t) ts us ≡ Ok (u, ws) → use_at types (Open ∷ Word w ∷ ts) ≡ Ok (u, ws)
+indexed_complete : (types : Types) (w : List ℕ) (ts us : List Terminal) (i : ℕ) (t : FunctionType) (u : NamedUse) (ws : List Terminal) → types.are_known ≡ true → w ≡ codes "type" → IndexIs types.names ts i (Close ∷ us) → slice_get types.types i ≡ Some t → lists_after i (Some t) ts us ≡ Ok (u, ws) → use_at types (Open ∷ Word w ∷ ts) ≡ Ok (u, ws)
 indexed_complete types w ts us i t u ws q e n s h =
     at_index types w ts us i e n ∙ ap (λ (b : Bool). if b then lists_after i (slice_get types.types i) ts us else assumed_use i us) q ∙ ap (λ o. lists_after i o ts us) s ∙ h
 
-unknown_complete : (types : Types) (w : List ℕ) (ts us : List Terminal) (i : ℕ) (u : TypeUse) (ws : List Terminal) → types.are_known ≡ false → w ≡ codes "type" → IndexIs types.names ts i (Close ∷ us) → assumed_use i us ≡ Ok (u, ws) → use_at types (Open ∷ Word w ∷ ts) ≡ Ok (u, ws)
+unknown_complete : (types : Types) (w : List ℕ) (ts us : List Terminal) (i : ℕ) (u : NamedUse) (ws : List Terminal) → types.are_known ≡ false → w ≡ codes "type" → IndexIs types.names ts i (Close ∷ us) → assumed_use i us ≡ Ok (u, ws) → use_at types (Open ∷ Word w ∷ ts) ≡ Ok (u, ws)
 unknown_complete types w ts us i u ws q e n h = at_index types w ts us i e n ∙ ap (λ (b : Bool). if b then lists_after i (slice_get types.types i) ts us else assumed_use i us) q ∙ h
 
-listed_complete : (types : Types) (ts : List Terminal) (ps rs : List Variable) (us : List Terminal) → Listed ps rs ts us → NoUse us → use_at types ts ≡ Ok (type_use None ps rs, us)
+listed_complete : (types : Types) (ts : List Terminal) (ps rs : List Variable) (us : List Terminal) → Listed ps rs ts us → NoUse us → use_at types ts ≡ Ok (named_use None ps rs, us)
 unfolding use_at
 listed_complete types ts ps rs us k n =
-    ap (λ o. use_by types o ts) (ends_lists (codes "type") refl refl ps rs ts us k n.no_type) ∙ lists_complete (λ ps rs vs. Ok (type_use None ps rs, vs)) ts ps rs us k n.lists
+    ap (λ o. use_by types o ts) (ends_lists (codes "type") refl refl ps rs ts us k n.no_type) ∙ lists_complete (λ ps rs vs. Ok (named_use None ps rs, vs)) ts ps rs us k n.lists
 
-use_complete : (types : Types) (ts : List Terminal) (u : TypeUse) (us : List Terminal) → TypeUseIs types ts u us → NoUse us → use_at types ts ≡ Ok (u, us)
+use_complete : (types : Types) (ts : List Terminal) (u : NamedUse) (us : List Terminal) → TypeUseIs types ts u us → NoUse us → use_at types ts ≡ Ok (u, us)
 use_complete types ts _ us (by_lists {us = bs} {params = ps} {results = rs} a b) n = listed_complete types ts ps rs us (record { bs = bs; params = a; results = b }) n
 use_complete types _ _ us (by_index {w = w} {ts = ts} {us = hs} {vs = bs} {i = i} {t = t} q e k s a b) n =
     indexed_complete types w ts hs i t _ us q e k s (lists_complete (λ ps rs ws. agreed i t ps rs ts ws) hs [] [] us (record { bs = bs; params = a; results = b }) n.lists)
 use_complete types _ _ us (by_both {w = w} {ts = ts} {us = hs} {vs = bs} {i = i} {params = ps} {results = rs} q e k s a b) n =
     indexed_complete types w ts hs i (function_type ps rs) _ us q e k s (lists_complete (λ ps' rs' ws. agreed i (function_type ps rs) ps' rs' ts ws) hs ps rs us (record { bs = bs; params = a; results = b }) n.lists ∙ agreed_both i ps rs ts us)
 use_complete types _ _ us (by_unknown {w = w} {ts = ts} {us = hs} {vs = bs} {i = i} {params = ps} {results = rs} q e k a b) n =
-    unknown_complete types w ts hs i _ us q e k (lists_complete (λ ps rs vs. Ok (type_use (Some i) ps rs, vs)) hs ps rs us (record { bs = bs; params = a; results = b }) n.lists)
+    unknown_complete types w ts hs i _ us q e k (lists_complete (λ ps rs vs. Ok (named_use (Some i) ps rs, vs)) hs ps rs us (record { bs = bs; params = a; results = b }) n.lists)
 
 lists_keep : (ps rs : List Variable) (ts us : List Terminal) → Listed ps rs ts us → Keeps ts us
 lists_keep ps rs ts us k =
@@ -130,13 +130,13 @@ indexed_keep names w ts hs us i ps rs n k =
     let s = p.short in
     let c = lists_keep ps rs hs us k in let z = c.short in record { short = omega arith; same = λ d. p.same (suc d) ∙ c.same d }
 
-use_keeps : (types : Types) (ts : List Terminal) (u : TypeUse) (us : List Terminal) → TypeUseIs types ts u us → Keeps ts us
+use_keeps : (types : Types) (ts : List Terminal) (u : NamedUse) (us : List Terminal) → TypeUseIs types ts u us → Keeps ts us
 use_keeps types ts _ us (by_lists {us = bs} {params = ps} {results = rs} a b) = lists_keep ps rs ts us (record { bs = bs; params = a; results = b })
 use_keeps types _ _ us (by_index {w = w} {ts = ts} {us = hs} {vs = bs} {i = i} {t = t} q e k s a b) = indexed_keep types.names w ts hs us i [] [] k (record { bs = bs; params = a; results = b })
 use_keeps types _ _ us (by_both {w = w} {ts = ts} {us = hs} {vs = bs} {i = i} {params = ps} {results = rs} q e k s a b) = indexed_keep types.names w ts hs us i ps rs k (record { bs = bs; params = a; results = b })
 use_keeps types _ _ us (by_unknown {w = w} {ts = ts} {us = hs} {vs = bs} {i = i} {params = ps} {results = rs} q e k a b) = indexed_keep types.names w ts hs us i ps rs k (record { bs = bs; params = a; results = b })
 
-ends_use : (v : List ℕ) → bytes_eq (codes "param") v ≡ false → bytes_eq (codes "result") v ≡ false → bytes_eq (codes "type") v ≡ false → (types : Types) (ts : List Terminal) (u : TypeUse) (us : List Terminal) → TypeUseIs types ts u us → Ends v us → Ends v ts
+ends_use : (v : List ℕ) → bytes_eq (codes "param") v ≡ false → bytes_eq (codes "result") v ≡ false → bytes_eq (codes "type") v ≡ false → (types : Types) (ts : List Terminal) (u : NamedUse) (us : List Terminal) → TypeUseIs types ts u us → Ends v us → Ends v ts
 ends_use v a b c types ts _ us (by_lists {us = bs} {params = ps} {results = rs} x y) h = ends_lists v a b ps rs ts us (record { bs = bs; params = x; results = y }) h
 ends_use v a b c types _ _ us (by_index {w = w} {ts = ts} q e k s x y) h = other_word v (codes "type") w ts c e
 ends_use v a b c types _ _ us (by_both {w = w} {ts = ts} q e k s x y) h = other_word v (codes "type") w ts c e
@@ -144,7 +144,7 @@ ends_use v a b c types _ _ us (by_unknown {w = w} {ts = ts} q e k x y) h = other
 
 -- What is imported.
 
-func_type_sound : (types : Types) (ts us : List Terminal) (u : TypeUse) (t : ExternType) (r : List Terminal) (b : Bool) → TypeUseIs types ts u us → are_distinct (map name_of u.params) ≡ b → Gives (if b then Ok (FuncType (without_names u), us) else Err (Duplicate, ts)) t r → ExternIs types space.Func ts t r
+func_type_sound : (types : Types) (ts us : List Terminal) (u : NamedUse) (t : ExternType) (r : List Terminal) (b : Bool) → TypeUseIs types ts u us → are_distinct (map name_of u.params) ≡ b → Gives (if b then Ok (FuncType (without_names u), us) else Err (Duplicate, ts)) t r → ExternIs types space.Func ts t r
 func_type_sound types ts us u t r true k d g = subst (λ x. ExternIs types space.Func ts x r) g.0 (subst (λ x. ExternIs types space.Func ts (FuncType (without_names u)) x) g.1 (by_type_use k d))
 func_type_sound types ts us u t r false k d g = absurd g
 

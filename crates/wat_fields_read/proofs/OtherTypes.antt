@@ -13,7 +13,7 @@ use Rattle.wat_instructions.specs.Terminals.{Terminal, Open, Close, Word, Label}
 use Rattle.wat_instructions.specs.Types.{FunctionType, Types, brought}
 use Rattle.wat_instructions.specs.Uses.{AreAmong, MoreTypesKeep, UnknownTypesBring, and_more, expression_types, unknown, retyped}
 use Rattle.wat_fields.specs.declared.fields.IndexSpace.{IndexSpace}
-use Rattle.wat_fields.specs.Fields.{Variable, TypeUse, type_use, unnamed, name_of, type_of, without_names, ExternType, FuncType, Elements, Target, target, Many, by_none, by_more, TypeUseIs, by_lists, by_index, by_both, by_unknown, ExternIs, by_type_use, by_table_type, by_memory_type, by_global_type, ExpressionIs, by_word_expression, by_instruction, ItemIs, by_item, FunctionIs, by_function, ElementsAre, by_items, by_functions, Field, Function, Func, Import, Global, Table, Elem, ElemMode, Passive, Active, Declarative, Data, is_u32, table_of, FieldIs, by_type, by_import, by_inline_import, by_func, by_table, by_table_items, by_table_functions, by_memory, by_memory_data, by_global, by_export, by_start, by_passive_elem, by_declarative_elem, by_active_elem, by_function_elem, by_passive_data, by_active_data}
+use Rattle.wat_fields.specs.Fields.{Variable, NamedUse, named_use, unnamed, name_of, type_of, without_names, ExternType, FuncType, Elements, Target, target, Many, by_none, by_more, TypeUseIs, by_lists, by_index, by_both, by_unknown, ExternIs, by_type_use, by_table_type, by_memory_type, by_global_type, ExpressionIs, by_word_expression, by_instruction, ItemIs, by_item, FunctionIs, by_function, ElementsAre, by_items, by_functions, Field, Function, Func, Import, Global, Table, Elem, ElemMode, Passive, Active, Declarative, Data, is_u32, table_of, FieldIs, by_type, by_import, by_inline_import, by_func, by_table, by_table_items, by_table_functions, by_memory, by_memory_data, by_global, by_export, by_start, by_passive_elem, by_declarative_elem, by_active_elem, by_function_elem, by_passive_data, by_active_data}
 use Rattle.wat_fields.specs.ImplicitTypes.{extern_types, field_types}
 
 never : {A : Type 0} (same : Bool) → same ≡ false → same ≡ true → A
@@ -58,8 +58,8 @@ names_equal same ps qs vs e k = ap (λ x. map name_of (x ++ vs)) (e k)
 
 -- Type uses.
 
-record LikeUse (same : Bool) (others : Types) (ts : List Terminal) (u : TypeUse) (us : List Terminal) : Type 0 where
-  v : TypeUse
+record LikeUse (same : Bool) (others : Types) (ts : List Terminal) (u : NamedUse) (us : List Terminal) : Type 0 where
+  v : NamedUse
   spelled : TypeUseIs others ts v us
   equal : same ≡ true → u ≡ v
   brings : brought (without_names u) ≡ brought (without_names v)
@@ -70,18 +70,18 @@ get_more [] more i t e = cc
 get_more (u ∷ us) more zero t e = e
 get_more (u ∷ us) more (suc i) t e = get_more us more i t e
 
-the_same : (same : Bool) (others : Types) (ts : List Terminal) (u : TypeUse) (us : List Terminal) → TypeUseIs others ts u us → LikeUse same others ts u us
+the_same : (same : Bool) (others : Types) (ts : List Terminal) (u : NamedUse) (us : List Terminal) → TypeUseIs others ts u us → LikeUse same others ts u us
 the_same same others ts u us h = record { v = u; spelled = h; equal = λ k. refl; brings = refl; params = inl refl }
 
-uses_more : (types : Types) (more : List FunctionType) (ts : List Terminal) (u : TypeUse) (us : List Terminal) → TypeUseIs types ts u us → LikeUse true (and_more more types) ts u us
+uses_more : (types : Types) (more : List FunctionType) (ts : List Terminal) (u : NamedUse) (us : List Terminal) → TypeUseIs types ts u us → LikeUse true (and_more more types) ts u us
 uses_more types more _ _ us (by_lists a b) = the_same true (and_more more types) _ _ us (by_lists a b)
 uses_more types more _ _ us (by_index {i = i} {t = t} q e n s a b) = the_same true (and_more more types) _ _ us (by_index q e n (get_more types.types more i t s) a b)
 uses_more types more _ _ us (by_both {i = i} q e n s a b) = the_same true (and_more more types) _ _ us (by_both q e n (get_more types.types more i _ s) a b)
 uses_more types more _ _ us (by_unknown q e n a b) = the_same true (and_more more types) _ _ us (by_unknown q e n a b)
 
-uses_unknown : (types : Types) (ts : List Terminal) (u : TypeUse) (us : List Terminal) → TypeUseIs types ts u us → LikeUse false (unknown types) ts u us
+uses_unknown : (types : Types) (ts : List Terminal) (u : NamedUse) (us : List Terminal) → TypeUseIs types ts u us → LikeUse false (unknown types) ts u us
 uses_unknown types _ _ us (by_lists a b) = the_same false (unknown types) _ _ us (by_lists a b)
-uses_unknown types _ _ us (by_index {i = i} {t = t} q e n s a b) = record { v = type_use (Some i) [] []; spelled = by_unknown refl e n a b; equal = λ k. never false refl k; brings = refl; params = inr (refl, t.params, refl, refl) }
+uses_unknown types _ _ us (by_index {i = i} {t = t} q e n s a b) = record { v = named_use (Some i) [] []; spelled = by_unknown refl e n a b; equal = λ k. never false refl k; brings = refl; params = inr (refl, t.params, refl, refl) }
 uses_unknown types _ _ us (by_both q e n s a b) = the_same false (unknown types) _ _ us (by_unknown refl e n a b)
 uses_unknown types _ _ us (by_unknown q e n a b) = the_same false (unknown types) _ _ us (by_unknown refl e n a b)
 
@@ -95,7 +95,7 @@ record LikeCode (same : Bool) (context : Context) (ls : List Label) (folded : Bo
 
 -- Other types in the place of those of a context.
 pub record Change (same : Bool) (context : Context) (others : Types) : Type 0 where
-  uses : (ts : List Terminal) (u : TypeUse) (us : List Terminal) → TypeUseIs context.types ts u us → LikeUse same others ts u us
+  uses : (ts : List Terminal) (u : NamedUse) (us : List Terminal) → TypeUseIs context.types ts u us → LikeUse same others ts u us
   code : (ls ms labels : List Label) (folded : Bool) (ts : List Terminal) (is : List Instruction) (r : List Terminal) → (same ≡ true → ls ≡ ms) → AreAmong ls ms → Instructions (retyped context.types ls context) labels folded ts is r → LikeCode same (retyped others ms context) labels folded ts is r
 
 pub more_types : MoreTypesKeep → (context : Context) (more : List FunctionType) → Change true context (and_more more context.types)
@@ -190,7 +190,7 @@ record LikeFields (same : Bool) (others : Types) (context : Context) (ts : List 
   equal : same ≡ true → fs ≡ gs
   brings : flat_map field_types fs ≡ flat_map field_types gs
 
-abbrev function : Label → List (List ℕ) → List Variable → TypeUse → List Instruction → Function
+abbrev function : Label → List (List ℕ) → List Variable → NamedUse → List Instruction → Function
 function l ns ls u is = record { name = l; exports = ns; uses = without_names u; locals = map type_of ls; body = is }
 
 one : (f g : Field) → field_types f ≡ field_types g → flat_map field_types (f ∷ []) ≡ flat_map field_types (g ∷ [])

@@ -16,7 +16,7 @@ use Rattle.wat_fields.specs.declared.fields.IndexSpace.{IndexSpace}
 use Rattle.wat_fields.specs.declared.fields.IndexSpace.TheVariants as space
 use Rattle.wat_fields.specs.declared.fields.Limits.{Limits}
 use Rattle.wat_fields.specs.declared.fields.TableType.{TableType}
-use Rattle.wat_fields.specs.Fields.{Field, Func, Table, Memory, Global, Export, Import, TypeField, Start, Function, TypeUse, ExternType, FuncType, OfTable, OfMemory, OfGlobal, Definition, Binding, Variable, binding, definition, definition_type, function_type, type_use, variable, unnamed, name_of, names_of, context_of, type_of, types_in, with_locals, without_names, all_distinct, imports_first, space_of, starts_of, Data, Elem, ElemMode, Passive, Active, Declarative, Elements, ref_func, table_of, Target, target, is_u32, pages_of}
+use Rattle.wat_fields.specs.Fields.{Field, Func, Table, Memory, Global, Export, Import, TypeField, Start, Function, NamedUse, ExternType, FuncType, OfTable, OfMemory, OfGlobal, Definition, Binding, Variable, binding, definition, definition_type, function_type, named_use, variable, unnamed, name_of, names_of, context_of, type_of, types_in, with_locals, without_names, all_distinct, imports_first, space_of, starts_of, Data, Elem, ElemMode, Passive, Active, Declarative, Elements, ref_func, table_of, Target, target, is_u32, pages_of}
 use Rattle.wat_instructions.specs.Names.{are_distinct}
 use Rattle.wat_instructions.specs.Uses.{unknown}
 use Rattle.wat_fields.specs.ImplicitTypes.{types_of}
@@ -118,42 +118,42 @@ results ts = all (group_item (codes "result") false) ts
 abbrev pub locals : List Terminal → Read (List Variable)
 locals ts = all (group_item (codes "local") true) ts
 
-abbrev pub listed_use : List Terminal → Read TypeUse
-listed_use ts = and_then (params ts) (λ ps us. and_then (results us) (λ rs vs. Ok (type_use None ps rs, vs)))
+abbrev pub listed_use : List Terminal → Read NamedUse
+listed_use ts = and_then (params ts) (λ ps us. and_then (results us) (λ rs vs. Ok (named_use None ps rs, vs)))
 
 -- the type of an index with what is listed, after all these tokens
-abbrev pub agreed_lists : ℕ → FunctionType → List Variable → List Variable → List Terminal → List Terminal → Read TypeUse
-agreed_lists i t ps rs all ts = if same_type (function_type ps rs) t then Ok (type_use (Some i) ps rs, ts) else Err (OtherType, all)
+abbrev pub agreed_lists : ℕ → FunctionType → List Variable → List Variable → List Terminal → List Terminal → Read NamedUse
+agreed_lists i t ps rs all ts = if same_type (function_type ps rs) t then Ok (named_use (Some i) ps rs, ts) else Err (OtherType, all)
 
 abbrev pub list_nothing : List Variable → List Variable → Bool
 list_nothing [] [] = true
 list_nothing ps rs = false
 
-abbrev pub agreed : ℕ → FunctionType → List Variable → List Variable → List Terminal → List Terminal → Read TypeUse
-agreed i t ps rs all ts = if list_nothing ps rs then Ok (type_use (Some i) (map unnamed t.params) (map unnamed t.results), ts) else agreed_lists i t ps rs all ts
+abbrev pub agreed : ℕ → FunctionType → List Variable → List Variable → List Terminal → List Terminal → Read NamedUse
+agreed i t ps rs all ts = if list_nothing ps rs then Ok (named_use (Some i) (map unnamed t.params) (map unnamed t.results), ts) else agreed_lists i t ps rs all ts
 
-abbrev pub lists_after : ℕ → Option FunctionType → List Terminal → List Terminal → Read TypeUse
+abbrev pub lists_after : ℕ → Option FunctionType → List Terminal → List Terminal → Read NamedUse
 lists_after i None all ts = Err (UnknownName, all)
 lists_after i (Some t) all ts = and_then (params ts) (λ ps us. and_then (results us) (λ rs vs. agreed i t ps rs all vs))
 
 -- the same where the types are not known
-abbrev pub assumed_use : ℕ → List Terminal → Read TypeUse
-assumed_use i ts = and_then (params ts) (λ ps us. and_then (results us) (λ rs vs. Ok (type_use (Some i) ps rs, vs)))
+abbrev pub assumed_use : ℕ → List Terminal → Read NamedUse
+assumed_use i ts = and_then (params ts) (λ ps us. and_then (results us) (λ rs vs. Ok (named_use (Some i) ps rs, vs)))
 
-abbrev pub either_use : Types → ℕ → List Terminal → List Terminal → Read TypeUse
+abbrev pub either_use : Types → ℕ → List Terminal → List Terminal → Read NamedUse
 either_use types i all ts = if types.are_known then lists_after i (slice_get types.types i) all ts else assumed_use i ts
 
-abbrev pub indexed_use : Types → List Terminal → Read TypeUse
+abbrev pub indexed_use : Types → List Terminal → Read NamedUse
 indexed_use types ts = and_then (index types.names ts) (λ i us. and_then (closing i (closed us)) (λ i vs. either_use types i ts vs))
 
-abbrev pub use_by : Types → Option (List Terminal) → List Terminal → Read TypeUse
+abbrev pub use_by : Types → Option (List Terminal) → List Terminal → Read NamedUse
 use_by types None all = listed_use all
 use_by types (Some ts) all = indexed_use types ts
 
-unfoldable pub use_at : Types → List Terminal → Read TypeUse
+unfoldable pub use_at : Types → List Terminal → Read NamedUse
 use_at types ts = use_by types (after (codes "type") ts) ts
 
-abbrev pub function : Label → List (List ℕ) → TypeUse → List Variable → List Instruction → Function
+abbrev pub function : Label → List (List ℕ) → NamedUse → List Variable → List Instruction → Function
 function l ns u ls is = record { name = l; exports = ns; uses = without_names u; locals = map type_of ls; body = is }
 
 -- the instructions after parameters and local variables
@@ -317,7 +317,7 @@ defined types context space.Global l ns ts = global_at context l ns ts
 unfoldable pub import_names : List Terminal → Read (List ℕ × List ℕ)
 import_names ts = and_then (utf8_text ts) (λ m us. and_then (utf8_text us) (λ n vs. Ok ((m, n), vs)))
 
-abbrev pub func_type : TypeUse → List Terminal → List Terminal → Read ExternType
+abbrev pub func_type : NamedUse → List Terminal → List Terminal → Read ExternType
 func_type u all ts = if are_distinct (map name_of u.params) then Ok (FuncType (without_names u), ts) else Err (Duplicate, all)
 
 -- what is imported, after its name
@@ -615,7 +615,7 @@ abbrev pub fault_of : Fault → Fault → Fault
 fault_of (UnknownName, ts) g = g
 fault_of f g = f
 
--- by the types that fields define and type uses bring, as the fields have them that were read without the types; or the fault
+-- once more, by all types: those that fields define, and those that the fields bring, which were read without types; or the fault
 abbrev pub fields_again : Bool → List (List Terminal) → List Terminal → Fault → Read (List Field) → Result (List Field) Fault
 fields_again enclosed ss ts f (Ok (fs, us)) = fields_by enclosed ss (all_types ss fs) ts
 fields_again enclosed ss ts f (Err g) = Err (fault_of f g)

@@ -1,4 +1,4 @@
--- What the code's variables are in the definitions, and what a call that reads promises.
+-- What the code's tokens, names, variables and type uses are in the definitions, and what a call that reads promises.
 use Rattle.std.specs.Prelude.{◌≡◌, ◌≤◌, ◌+◌, ◌++◌, ℕ, List, [], map, Some, None, Ok, Err}
 use Rattle.wat_instructions.specs.declared.pieces.Refusal.{Refusal}
 use Rattle.wat_instructions.specs.declared.pieces.Refusal.TheVariants as refusal
@@ -10,11 +10,11 @@ use Rattle.wat_instructions.specs.Views.{type_of}
 use Rattle.wat_fields_read.specs.declared.module.Left as declared_left
 use Rattle.wat_fields_read.specs.declared.names.Binding as declared_binding
 use Rattle.wat_fields_read.specs.declared.names.Names as declared_names
-use Rattle.wat_fields_read.specs.declared.variables.TypeUse as declared_use
+use Rattle.wat_fields_read.specs.declared.variables.NamedUse as declared_use
 use Rattle.wat_fields_read.specs.declared.variables.Variable as declared_variable
 use Rattle.wat_fields_read.specs.declared.names.Depth as declared_depth
 use Rattle.wat_fields_read.specs.declared.names.Depth.TheVariants as depths
-use Rattle.wat_fields.specs.Fields.{Binding, TypeUse, Variable, binding, type_use, variable}
+use Rattle.wat_fields.specs.Fields.{Binding, NamedUse, Variable, binding, named_use, variable}
 use Rattle.wat_fields_read.specs.Reading.{Item, Depth, Before, Inside}
 
 -- the tokens at a place
@@ -27,8 +27,8 @@ binding_of h = binding h.space (label h.name)
 abbrev pub variable_of : declared_variable.Variable → Variable
 variable_of v = variable (label v.name) v.of
 
-abbrev pub use_of : declared_use.TypeUse → TypeUse
-use_of u = type_use u.index (map variable_of u.params.items) (map variable_of u.results.items)
+abbrev pub use_of : declared_use.NamedUse → NamedUse
+use_of u = named_use u.index (map variable_of u.params.items) (map variable_of u.results.items)
 
 abbrev pub types_of : declared_names.Names → Types
 types_of n = record { names = n.type_names; types = map type_of n.types.items; are_known = n.are_types_known }

@@ -2,7 +2,7 @@
 ghost use Rattle.std.specs.Prelude.{◌≡◌, [], ◌∷◌, Ok, Err, Some, codes, map, MatchOption, MatchResult};
 ghost use Rattle.wat_fields.specs.Fields as grammar;
 ghost use Rattle.wat_fields_read.specs.Reading as reading;
-ghost use Rattle.wat_fields.specs.Views.{expression_of, field_of, items_of, mode_of, text_of};
+ghost use Rattle.wat_fields.specs.Views.{expression_of, field_of, expressions_of, mode_of, text_of};
 ghost use Rattle.wat_fields_read.specs.Views.{IsItem, ItemFaults, NoItem, context_of};
 ghost use Rattle.wat_instructions.specs.Grammar.{label_of, reference_type};
 ghost use Rattle.wat_instructions.specs.Parts.{Faults, fault_of};
@@ -129,7 +129,7 @@ fn either<'p, 'a>(
     pieces: &'p [Piece<'a>],
 ) -> Result<(Elements, &'p [Piece<'a>]), Refusal<'p, 'a>>
     ensures { MatchResult result
-        (λ r. reading.either_at (context_of names.now) (map terminal pieces.now) ≡ Ok (items_of r.0, map terminal r.1.now))
+        (λ r. reading.either_at (context_of names.now) (map terminal pieces.now) ≡ Ok (expressions_of r.0, map terminal r.1.now))
         (λ e. Faults (reading.either_at (context_of names.now) (map terminal pieces.now)) e) }
 {
     match pieces {
@@ -252,8 +252,8 @@ fn table_with<'p, 'a>(
     rest: &'p [Piece<'a>],
 ) -> Result<(Field<'a>, &'p [Piece<'a>]), Fault<'p, 'a>>
     ensures { MatchResult result
-        (λ r. reading.table_with (label name.entry) (map text_of exports.entry.items) of (map terminal all.now) (items_of elements) (map terminal rest.now) ≡ Ok (field_of r.0 ∷ [], map terminal r.1.now))
-        (λ f. reading.table_with (label name.entry) (map text_of exports.entry.items) of (map terminal all.now) (items_of elements) (map terminal rest.now) ≡ Err (fault_of f)) }
+        (λ r. reading.table_with (label name.entry) (map text_of exports.entry.items) of (map terminal all.now) (expressions_of elements) (map terminal rest.now) ≡ Ok (field_of r.0 ∷ [], map terminal r.1.now))
+        (λ f. reading.table_with (label name.entry) (map text_of exports.entry.items) of (map terminal all.now) (expressions_of elements) (map terminal rest.now) ≡ Err (fault_of f)) }
 {
     if elements.len() >= 0x1_0000_0000 {
         return Err(Fault {
@@ -287,7 +287,7 @@ fn elements<'p, 'a>(
     pieces: &'p [Piece<'a>],
 ) -> Result<((ReferenceType, Elements), &'p [Piece<'a>]), Refusal<'p, 'a>>
     ensures { MatchResult result
-        (λ r. reading.elements_at (context_of names.now) (map terminal pieces.now) ≡ Ok ((r.0.0, items_of r.0.1), map terminal r.1.now))
+        (λ r. reading.elements_at (context_of names.now) (map terminal pieces.now) ≡ Ok ((r.0.0, expressions_of r.0.1), map terminal r.1.now))
         (λ e. Faults (reading.elements_at (context_of names.now) (map terminal pieces.now)) e) }
 {
     match pieces {
@@ -308,7 +308,7 @@ fn elements_after<'p, 'a>(
     pieces: &'p [Piece<'a>],
 ) -> Result<((ReferenceType, Elements), &'p [Piece<'a>]), Refusal<'p, 'a>>
     ensures { MatchResult result
-        (λ r. reading.elements_by (context_of names.now) word.now (reference_type word.now) (map terminal all.now) (map terminal pieces.now) ≡ Ok ((r.0.0, items_of r.0.1), map terminal r.1.now))
+        (λ r. reading.elements_by (context_of names.now) word.now (reference_type word.now) (map terminal all.now) (map terminal pieces.now) ≡ Ok ((r.0.0, expressions_of r.0.1), map terminal r.1.now))
         (λ e. Faults (reading.elements_by (context_of names.now) word.now (reference_type word.now) (map terminal all.now) (map terminal pieces.now)) e) }
 {
     match reading::reference_type(word) {

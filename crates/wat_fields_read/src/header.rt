@@ -1,5 +1,5 @@
 //! Inline exports, and groups of parameters, results and local variables.
-ghost use Rattle.std.specs.Prelude.{◌≡◌, [], ◌++◌, ◌∷◌, Ok, Err, map, true, false, codes, IfOk, OnOk, None, Some, MatchOption, MatchResult};
+ghost use Rattle.std.specs.Prelude.{◌≡◌, [], ◌++◌, ◌∷◌, Ok, Err, map, true, false, IfOk, OnOk, None, Some, MatchOption, MatchResult};
 ghost use Rattle.std.specs.Str.{is_utf8};
 ghost use Rattle.wat_fields.specs.Fields.{unnamed};
 ghost use Rattle.wat_fields_read.specs.Reading as reading;

@@ -18,7 +18,7 @@ use crate::names::{Names, names_in, names_of, variable_names, with_types, withou
 use crate::segments::{memory_at, segment};
 use crate::types::{global_type, limits, space_of, table_type, twice_closed};
 use crate::uses::{type_at, type_use};
-use crate::variables::{TypeUse, Variable, value_types, without_names};
+use crate::variables::{NamedUse, Variable, value_types, without_names};
 use std::alloc::Global;
 use wat_fields::fields::{Export, ExternType, Field, Function, GlobalVariable, Import, IndexSpace};
 use wat_fields::implicit_types;
@@ -499,7 +499,7 @@ fn extern_type<'p, 'a>(
 /// An imported function, of which no two parameters have the same name.
 fn func_type<'p, 'a>(
     alloc: Global,
-    uses: TypeUse<'a>,
+    uses: NamedUse<'a>,
     all: &'p [Piece<'a>],
     rest: &'p [Piece<'a>],
 ) -> Result<(ExternType, &'p [Piece<'a>]), Refusal<'p, 'a>>

@@ -2,7 +2,6 @@
 ghost use Rattle.std.specs.Prelude.{◌≡◌, ◌++◌, ◌∷◌, [], true, IfOk, IfSome, MatchOption, is_some, map};
 ghost use Rattle.std.specs.List.{flat_map};
 ghost use Rattle.wat_fields.specs.Fields.{all_distinct, definition_name, definition_type, is_space, name_of, names_in, names_of};
-ghost use Rattle.wat_fields.specs.Fields as grammar;
 ghost use Rattle.wat_fields_read.specs.Reading as reading;
 ghost use Rattle.wat_fields.specs.Views.{definition_of};
 ghost use Rattle.wat_fields_read.specs.Views.{binding_of, context_of, depth_of, left_of, types_of, variable_of};

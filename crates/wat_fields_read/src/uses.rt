@@ -4,14 +4,14 @@ ghost use Rattle.wat_fields.specs.Fields as grammar;
 ghost use Rattle.wat_fields_read.specs.Reading as reading;
 ghost use Rattle.wat_fields.specs.Views.{definition_of};
 ghost use Rattle.wat_fields_read.specs.Views.{types_of, use_of, variable_of};
-ghost use Rattle.wat_instructions.specs.Parts.{Faults, fault_of};
+ghost use Rattle.wat_instructions.specs.Parts.{Faults};
 ghost use Rattle.wat_instructions.specs.Terminals.{label, terminal};
 ghost use Rattle.wat_instructions.specs.Views.{type_of};
 
 use crate::header::{after, closed, unnamed, variables};
 use crate::names::Names;
 use crate::types::twice_closed;
-use crate::variables::{TypeUse, Variable, function_type};
+use crate::variables::{NamedUse, Variable, function_type};
 use std::alloc::{AllocError, Global};
 use wat_fields::fields::Definition;
 use wat_instructions::pieces::{Fault, FaultKind, Name, Piece, Refusal};
@@ -24,7 +24,7 @@ pub(crate) fn type_use<'p, 'a>(
     alloc: Global,
     names: &Names<'a>,
     pieces: &'p [Piece<'a>],
-) -> Result<(TypeUse<'a>, &'p [Piece<'a>]), Refusal<'p, 'a>>
+) -> Result<(NamedUse<'a>, &'p [Piece<'a>]), Refusal<'p, 'a>>
     ensures { MatchResult result
         (λ r. reading.use_at (types_of names.now) (map terminal pieces.now) ≡ Ok (use_of r.0, map terminal r.1.now))
         (λ e. Faults (reading.use_at (types_of names.now) (map terminal pieces.now)) e) }
@@ -39,7 +39,7 @@ pub(crate) fn type_use<'p, 'a>(
 fn listed_use<'p, 'a>(
     alloc: Global,
     pieces: &'p [Piece<'a>],
-) -> Result<(TypeUse<'a>, &'p [Piece<'a>]), Refusal<'p, 'a>>
+) -> Result<(NamedUse<'a>, &'p [Piece<'a>]), Refusal<'p, 'a>>
     ensures { MatchResult result
         (λ r. reading.listed_use (map terminal pieces.now) ≡ Ok (use_of r.0, map terminal r.1.now))
         (λ e. Faults (reading.listed_use (map terminal pieces.now)) e) }
@@ -48,7 +48,7 @@ fn listed_use<'p, 'a>(
     let (results, rest) = variables(alloc, "result", false, rest)?;
     let index = None;
     Ok((
-        TypeUse {
+        NamedUse {
             index,
             params,
             results,
@@ -62,7 +62,7 @@ fn indexed_use<'p, 'a>(
     alloc: Global,
     names: &Names<'a>,
     pieces: &'p [Piece<'a>],
-) -> Result<(TypeUse<'a>, &'p [Piece<'a>]), Refusal<'p, 'a>>
+) -> Result<(NamedUse<'a>, &'p [Piece<'a>]), Refusal<'p, 'a>>
     ensures { MatchResult result
         (λ r. reading.indexed_use (types_of names.now) (map terminal pieces.now) ≡ Ok (use_of r.0, map terminal r.1.now))
         (λ e. Faults (reading.indexed_use (types_of names.now) (map terminal pieces.now)) e) }
@@ -83,7 +83,7 @@ fn known_use<'p, 'a>(
     index: usize,
     all: &'p [Piece<'a>],
     pieces: &'p [Piece<'a>],
-) -> Result<(TypeUse<'a>, &'p [Piece<'a>]), Refusal<'p, 'a>>
+) -> Result<(NamedUse<'a>, &'p [Piece<'a>]), Refusal<'p, 'a>>
     ensures { MatchResult result
         (λ r. reading.lists_after index (slice_get (types_of names.now).types index) (map terminal all.now) (map terminal pieces.now) ≡ Ok (use_of r.0, map terminal r.1.now))
         (λ e. Faults (reading.lists_after index (slice_get (types_of names.now).types index) (map terminal all.now) (map terminal pieces.now)) e) }
@@ -102,7 +102,7 @@ fn assumed_use<'p, 'a>(
     alloc: Global,
     index: usize,
     pieces: &'p [Piece<'a>],
-) -> Result<(TypeUse<'a>, &'p [Piece<'a>]), Refusal<'p, 'a>>
+) -> Result<(NamedUse<'a>, &'p [Piece<'a>]), Refusal<'p, 'a>>
     ensures { MatchResult result
         (λ r. reading.assumed_use index (map terminal pieces.now) ≡ Ok (use_of r.0, map terminal r.1.now))
         (λ e. Faults (reading.assumed_use index (map terminal pieces.now)) e) }
@@ -111,7 +111,7 @@ fn assumed_use<'p, 'a>(
     let (results, rest) = variables(alloc, "result", false, rest)?;
     let index = Some(index);
     Ok((
-        TypeUse {
+        NamedUse {
             index,
             params,
             results,
@@ -134,7 +134,7 @@ fn lists<'p, 'a>(
     of: &FunctionType,
     all: &'p [Piece<'a>],
     pieces: &'p [Piece<'a>],
-) -> Result<(TypeUse<'a>, &'p [Piece<'a>]), Refusal<'p, 'a>>
+) -> Result<(NamedUse<'a>, &'p [Piece<'a>]), Refusal<'p, 'a>>
     ensures { MatchResult result
         (λ r. reading.lists_after index (Some (type_of of.now)) (map terminal all.now) (map terminal pieces.now) ≡ Ok (use_of r.0, map terminal r.1.now))
         (λ e. Faults (reading.lists_after index (Some (type_of of.now)) (map terminal all.now) (map terminal pieces.now)) e) }
@@ -142,7 +142,7 @@ fn lists<'p, 'a>(
     let (params, rest) = variables(alloc, "param", true, pieces)?;
     let (results, rest) = variables(alloc, "result", false, rest)?;
     if list_nothing(&params, &results) {
-        let uses = unnamed_use(alloc, index, of)?;
+        let uses = index_use(alloc, index, of)?;
         return Ok((uses, rest));
     }
     let listed = function_type(alloc, &params, &results)?;
@@ -154,7 +154,7 @@ fn lists<'p, 'a>(
     }
     let index = Some(index);
     Ok((
-        TypeUse {
+        NamedUse {
             index,
             params,
             results,
@@ -177,17 +177,13 @@ fn list_nothing(params: &[Variable<'_>], results: &[Variable<'_>]) -> bool
 }
 
 /// The use of a type by its index alone.
-fn unnamed_use<'a>(
-    alloc: Global,
-    index: usize,
-    of: &FunctionType,
-) -> Result<TypeUse<'a>, AllocError>
-    ensures { IfOk result (λ u. use_of u ≡ grammar.type_use (Some index) (map grammar.unnamed of.now.params.items) (map grammar.unnamed of.now.results.items)) }
+fn index_use<'a>(alloc: Global, index: usize, of: &FunctionType) -> Result<NamedUse<'a>, AllocError>
+    ensures { IfOk result (λ u. use_of u ≡ grammar.named_use (Some index) (map grammar.unnamed of.now.params.items) (map grammar.unnamed of.now.results.items)) }
 {
     let params = unnamed(alloc, &of.params)?;
     let results = unnamed(alloc, &of.results)?;
     let index = Some(index);
-    Ok(TypeUse {
+    Ok(NamedUse {
         index,
         params,
         results,

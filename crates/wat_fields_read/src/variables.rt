@@ -2,12 +2,12 @@
 ghost use Rattle.std.specs.Prelude.{◌≡◌, map, IfOk};
 ghost use Rattle.wat_fields.specs.Fields as grammar;
 ghost use Rattle.wat_fields_read.specs.Views.{use_of, variable_of};
-ghost use Rattle.wat_instructions.specs.Views as unnamed;
+ghost use Rattle.wat_instructions.specs.Views as bare;
 ghost use Rattle.wat_instructions.specs.Views.{type_of};
 
 use std::alloc::{AllocError, Global};
 use wat_instructions::pieces::{Name, ValueType};
-use wat_instructions::types::{FunctionType, UnnamedUse};
+use wat_instructions::types::{FunctionType, TypeUse};
 
 /// A parameter, a result or a local variable.
 #[derive(Clone, Copy)]
@@ -16,9 +16,9 @@ pub(crate) struct Variable<'a> {
     pub(crate) of: ValueType,
 }
 
-/// A type use: the index of its type, where it says one; and its parameters and results.
+/// A type use with names: the index of its type, where it says one; and its parameters and results.
 #[derive(Drop)]
-pub(crate) struct TypeUse<'a> {
+pub(crate) struct NamedUse<'a> {
     pub(crate) index: Option<usize>,
     pub(crate) params: Vec<Variable<'a>>,
     pub(crate) results: Vec<Variable<'a>>,
@@ -52,11 +52,11 @@ pub(crate) fn function_type(
 }
 
 /// A type use without names.
-pub(crate) fn without_names(alloc: Global, uses: &TypeUse<'_>) -> Result<UnnamedUse, AllocError>
-    ensures { IfOk result (λ u. unnamed.use_of u ≡ grammar.without_names (use_of uses.now)) }
+pub(crate) fn without_names(alloc: Global, uses: &NamedUse<'_>) -> Result<TypeUse, AllocError>
+    ensures { IfOk result (λ u. bare.use_of u ≡ grammar.without_names (use_of uses.now)) }
 {
     let of = function_type(alloc, &uses.params, &uses.results)?;
-    Ok(UnnamedUse {
+    Ok(TypeUse {
         index: uses.index,
         of,
     })

@@ -16,7 +16,7 @@ use Rattle.wat_instructions.specs.Grammar.{Context, Fault, Instructions, plain, 
 use Rattle.wat_instructions.specs.Grammar as grammar
 use Rattle.wat_instructions.specs.Table.{Mnemonic, found, mnemonics}
 use Rattle.wat_instructions.specs.Terminals.{Terminal, Open, Close, Word, Id, Integer, Text, Float, Other, Label}
-use Rattle.wat_instructions.specs.Types.{FunctionType, Types, UnnamedUse, brought, indirect_call, same_type, unnamed_use}
+use Rattle.wat_instructions.specs.Types.{FunctionType, Types, TypeUse, brought, indirect_call, same_type, type_use}
 use Rattle.wat_instructions.specs.Uses.{AreAmong, Alike, MoreTypesKeep, UnknownTypesBring, and_more, argument_types, expression_types, instruction_types, unknown, retyped}
 
 -- where the first is read, the other is read up to the same place, and the values are alike
@@ -29,7 +29,7 @@ follows Like like (Ok (a, us)) = (a, refl, like a)
 follows Like like (Err f) = tt
 
 -- Type uses: the same; or, where that is not asked, two that have an index.
-abbrev LikeUse : Bool → UnnamedUse → UnnamedUse → Type 0
+abbrev LikeUse : Bool → TypeUse → TypeUse → Type 0
 LikeUse same u v = (u ≡ v) ⊎ ((same ≡ false) × (i : ℕ) × (j : ℕ) × (u.index ≡ Some i) × (v.index ≡ Some j))
 
 -- What is the same, where that is asked, and brings the same types.
@@ -48,7 +48,7 @@ LikeNames same ls ms = (x : List ℕ) (n : ℕ) → position 0 x ls ≡ Some n �
 abbrev LikeTypes : Bool → Types → Types → Type 0
 LikeTypes same types others = (ts : List Terminal) → Follows (LikeUse same) (grammar.use_of types ts) (grammar.use_of others ts)
 
-same_use : (same : Bool) (u : UnnamedUse) → LikeUse same u u
+same_use : (same : Bool) (u : TypeUse) → LikeUse same u u
 same_use same u = inl refl
 
 same_argument : (same : Bool) (a : Argument) → LikeArgument same a a
@@ -100,8 +100,8 @@ uses_more types more ts = use_by_more types more (grammar.after (codes "type") t
 
 -- Type uses, without the types.
 
-agreed_unknown : (b : Bool) (i : ℕ) (t u : FunctionType) (all ts : List Terminal) → Follows (LikeUse false) (if b then Ok (unnamed_use (Some i) t, ts) else Err (OtherType, all)) (Ok (unnamed_use (Some 0) u, ts))
-agreed_unknown true i t u all ts = (unnamed_use (Some 0) u, refl, inr (refl, i, 0, refl, refl))
+agreed_unknown : (b : Bool) (i : ℕ) (t u : FunctionType) (all ts : List Terminal) → Follows (LikeUse false) (if b then Ok (type_use (Some i) t, ts) else Err (OtherType, all)) (Ok (type_use (Some 0) u, ts))
+agreed_unknown true i t u all ts = (type_use (Some 0) u, refl, inr (refl, i, 0, refl, refl))
 agreed_unknown false i t u all ts = tt
 
 lists_unknown : (i : ℕ) (t : FunctionType) (all : List Terminal) (q : Result (FunctionType × List Terminal) Fault) → Follows (LikeUse false) (grammar.agreed i t all q) (grammar.assumed q)
@@ -144,14 +144,14 @@ uses_unknown types ts = use_by_unknown types (grammar.after (codes "type") ts) t
 like_equal : (same : Bool) (a b : Argument) → a ≡ b → LikeArgument same a b
 like_equal same a b e = (λ k. e, ap argument_types e)
 
-indirect_brings : (n : ℕ) (u : UnnamedUse) (i : ℕ) → u.index ≡ Some i → argument_types (argument.Indirect (indirect_call n u)) ≡ []
-indirect_brings n u i e = ap (λ o. brought (unnamed_use o u.type)) e
+indirect_brings : (n : ℕ) (u : TypeUse) (i : ℕ) → u.index ≡ Some i → argument_types (argument.Indirect (indirect_call n u)) ≡ []
+indirect_brings n u i e = ap (λ o. brought (type_use o u.type)) e
 
-like_indirect : (same : Bool) (n : ℕ) (u v : UnnamedUse) → LikeUse same u v → LikeArgument same (argument.Indirect (indirect_call n u)) (argument.Indirect (indirect_call n v))
+like_indirect : (same : Bool) (n : ℕ) (u v : TypeUse) → LikeUse same u v → LikeArgument same (argument.Indirect (indirect_call n u)) (argument.Indirect (indirect_call n v))
 like_indirect same n u v (inl e) = like_equal same _ _ (ap (λ x. argument.Indirect (indirect_call n x)) e)
 like_indirect same n u v (inr (f, i, j, a, b)) = (λ k. never same f k, indirect_brings n u i a ∙ sym (indirect_brings n v j b))
 
-with_use_alike : (same : Bool) (n : ℕ) (q p : Result (UnnamedUse × List Terminal) Fault) → Follows (LikeUse same) q p → Follows (LikeArgument same) (grammar.with_use n q) (grammar.with_use n p)
+with_use_alike : (same : Bool) (n : ℕ) (q p : Result (TypeUse × List Terminal) Fault) → Follows (LikeUse same) q p → Follows (LikeArgument same) (grammar.with_use n q) (grammar.with_use n p)
 with_use_alike same n (Ok (u, ts)) p (v, e, l) = (argument.Indirect (indirect_call n v), ap (grammar.with_use n) e, like_indirect same n u v l)
 with_use_alike same n (Err f) p h = tt
 
@@ -233,14 +233,14 @@ plain_alike same context types locals ls c w ts = plain_by_alike same context ty
 
 -- Blocks.
 
-block_brings : (u : UnnamedUse) (i : ℕ) → u.index ≡ Some i → argument_types (grammar.block_of u.index u.type.params u.type.results u) ≡ []
-block_brings u i e = ap (λ o. argument_types (grammar.block_of o u.type.params u.type.results u)) e ∙ ap (λ o. brought (unnamed_use o u.type)) e
+block_brings : (u : TypeUse) (i : ℕ) → u.index ≡ Some i → argument_types (grammar.block_of u.index u.type.params u.type.results u) ≡ []
+block_brings u i e = ap (λ o. argument_types (grammar.block_of o u.type.params u.type.results u)) e ∙ ap (λ o. brought (type_use o u.type)) e
 
-like_block : (same : Bool) (u v : UnnamedUse) → LikeUse same u v → LikeArgument same (grammar.block_of u.index u.type.params u.type.results u) (grammar.block_of v.index v.type.params v.type.results v)
+like_block : (same : Bool) (u v : TypeUse) → LikeUse same u v → LikeArgument same (grammar.block_of u.index u.type.params u.type.results u) (grammar.block_of v.index v.type.params v.type.results v)
 like_block same u v (inl e) = like_equal same _ _ (ap (λ x. grammar.block_of x.index x.type.params x.type.results x) e)
 like_block same u v (inr (f, i, j, a, b)) = (λ k. never same f k, block_brings u i a ∙ sym (block_brings v j b))
 
-block_by_alike : (same : Bool) (q p : Result (UnnamedUse × List Terminal) Fault) → Follows (LikeUse same) q p → Follows (LikeArgument same) (grammar.block_by q) (grammar.block_by p)
+block_by_alike : (same : Bool) (q p : Result (TypeUse × List Terminal) Fault) → Follows (LikeUse same) q p → Follows (LikeArgument same) (grammar.block_by q) (grammar.block_by p)
 block_by_alike same (Ok (u, ts)) p (v, e, l) = (grammar.block_of v.index v.type.params v.type.results v, ap grammar.block_by e, like_block same u v l)
 block_by_alike same (Err f) p h = tt
 

@@ -17,7 +17,7 @@ use Rattle.wat_instructions.specs.Branches.{Branches}
 use Rattle.wat_instructions.specs.declared.table.Immediate.TheVariants as immediate
 use Rattle.wat_instructions.specs.declared.vectors.Lane.TheVariants as lane
 use Rattle.wat_instructions.specs.Table.{Mnemonic, found, mnemonics}
-use Rattle.wat_instructions.specs.Types.{FunctionType, Types, UnnamedUse, same_type, unnamed_use}
+use Rattle.wat_instructions.specs.Types.{FunctionType, Types, TypeUse, same_type, type_use}
 use Rattle.wat_instructions.specs.Terminals.{Terminal, Open, Close, Word, Id, Integer, Text, Float, Other, Label}
 use Rattle.wat_instructions.specs.Grammar.{Context, Fault, Instructions, plain, label_of, end_label, block_type}
 use Rattle.wat_instructions.specs.Grammar as grammar
@@ -284,7 +284,7 @@ listed_use_keeps : (q : Result (FunctionType × List Terminal) Fault) (ts : List
 listed_use_keeps (Ok (t, us)) ts h = h
 listed_use_keeps (Err f) ts h = tt
 
-agreed_by : (b : Bool) (i : ℕ) (t : FunctionType) (all ts us : List Terminal) → Passes ts us → Keeps (if b then Ok (unnamed_use (Some i) t, us) else Err (OtherType, all)) ts
+agreed_by : (b : Bool) (i : ℕ) (t : FunctionType) (all ts us : List Terminal) → Passes ts us → Keeps (if b then Ok (type_use (Some i) t, us) else Err (OtherType, all)) ts
 agreed_by true i t all ts us h = h
 agreed_by false i t all ts us h = tt
 
@@ -346,7 +346,7 @@ use_keeps types (Text v ∷ ts) = listed_alone types (Text v ∷ ts)
 use_keeps types (Float narrow wide ∷ ts) = listed_alone types (Float narrow wide ∷ ts)
 use_keeps types (Other ∷ ts) = listed_alone types (Other ∷ ts)
 
-block_by_keeps : (q : Result (UnnamedUse × List Terminal) Fault) (ts : List Terminal) → Keeps q ts → Keeps (grammar.block_by q) ts
+block_by_keeps : (q : Result (TypeUse × List Terminal) Fault) (ts : List Terminal) → Keeps q ts → Keeps (grammar.block_by q) ts
 block_by_keeps (Ok (u, us)) ts h = h
 block_by_keeps (Err f) ts h = tt
 
@@ -364,7 +364,7 @@ table_keeps ls (Text v ∷ ts) = stay (Text v ∷ ts)
 table_keeps ls (Float narrow wide ∷ ts) = stay (Float narrow wide ∷ ts)
 table_keeps ls (Other ∷ ts) = stay (Other ∷ ts)
 
-with_use_keeps : (n : ℕ) (q : Result (UnnamedUse × List Terminal) Fault) (ts us : List Terminal) → Passes ts us → Keeps q us → Keeps (grammar.with_use n q) ts
+with_use_keeps : (n : ℕ) (q : Result (TypeUse × List Terminal) Fault) (ts us : List Terminal) → Passes ts us → Keeps q us → Keeps (grammar.with_use n q) ts
 with_use_keeps n (Ok (u, vs)) ts us h k = on ts us vs h k
 with_use_keeps n (Err f) ts us h k = tt
 

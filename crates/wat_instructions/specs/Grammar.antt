@@ -28,7 +28,7 @@ use Rattle.wat_instructions.specs.Branches.{Branches, branches}
 use Rattle.wat_instructions.specs.Memory.{offset, align}
 use Rattle.wat_instructions.specs.Table.{Mnemonic, found, mnemonics}
 use Rattle.wat_instructions.specs.Terminals.{Terminal, Open, Close, Word, Id, Integer, Float, Label, Text, Other}
-use Rattle.wat_instructions.specs.Types.{FunctionType, Types, UnnamedUse, from_to, indirect_call, same_type, unnamed_use}
+use Rattle.wat_instructions.specs.Types.{FunctionType, Types, TypeUse, from_to, indirect_call, same_type, type_use}
 
 -- what is wrong, and the tokens from the one where it is
 abbrev pub Fault : Type 0
@@ -326,30 +326,30 @@ list_nothing ps rs = false
 
 -- 6.6.3: typeuse = param* result*; or `(` type index `)` param* result*, where the lists are those of the type, or list nothing
 
-abbrev pub listed_use : Result (FunctionType × List Terminal) Fault → Result (UnnamedUse × List Terminal) Fault
-listed_use (Ok (t, ts)) = Ok (unnamed_use None t, ts)
+abbrev pub listed_use : Result (FunctionType × List Terminal) Fault → Result (TypeUse × List Terminal) Fault
+listed_use (Ok (t, ts)) = Ok (type_use None t, ts)
 listed_use (Err f) = Err f
 
 -- the type of an index, with what is listed; all these tokens begin with the index
-abbrev pub agreed : ℕ → FunctionType → List Terminal → Result (FunctionType × List Terminal) Fault → Result (UnnamedUse × List Terminal) Fault
-agreed i t all (Ok (u, ts)) = if list_nothing u.params u.results || same_type u t then Ok (unnamed_use (Some i) t, ts) else Err (OtherType, all)
+abbrev pub agreed : ℕ → FunctionType → List Terminal → Result (FunctionType × List Terminal) Fault → Result (TypeUse × List Terminal) Fault
+agreed i t all (Ok (u, ts)) = if list_nothing u.params u.results || same_type u t then Ok (type_use (Some i) t, ts) else Err (OtherType, all)
 agreed i t all (Err f) = Err f
 
-abbrev pub indexed_by : ℕ → Option FunctionType → List Terminal → List Terminal → Result (UnnamedUse × List Terminal) Fault
+abbrev pub indexed_by : ℕ → Option FunctionType → List Terminal → List Terminal → Result (TypeUse × List Terminal) Fault
 indexed_by i None all ts = Err (UnknownName, all)
 indexed_by i (Some t) all ts = agreed i t all (lists_of ts)
 
 -- the same where the types are not known, which is so in no module: 0 stands for the index, whatever it is, and the type is the one that is listed
-abbrev pub assumed : Result (FunctionType × List Terminal) Fault → Result (UnnamedUse × List Terminal) Fault
-assumed (Ok (t, ts)) = Ok (unnamed_use (Some 0) t, ts)
+abbrev pub assumed : Result (FunctionType × List Terminal) Fault → Result (TypeUse × List Terminal) Fault
+assumed (Ok (t, ts)) = Ok (type_use (Some 0) t, ts)
 assumed (Err f) = Err f
 
-abbrev pub closed_index : Types → ℕ → List Terminal → List Terminal → Result (UnnamedUse × List Terminal) Fault
+abbrev pub closed_index : Types → ℕ → List Terminal → List Terminal → Result (TypeUse × List Terminal) Fault
 closed_index types i all (Close ∷ ts) = if types.are_known then indexed_by i (slice_get types.types i) all ts else assumed (lists_of ts)
 closed_index types i all ts = Err (Unexpected, ts)
 
 -- after `(` type
-abbrev pub indexed_use : Types → List Terminal → Result (ℕ × List Terminal) Fault → Result (UnnamedUse × List Terminal) Fault
+abbrev pub indexed_use : Types → List Terminal → Result (ℕ × List Terminal) Fault → Result (TypeUse × List Terminal) Fault
 indexed_use types all (Ok (i, ts)) = closed_index types i all ts
 indexed_use types all (Err f) = Err f
 
@@ -362,11 +362,11 @@ abbrev pub after : List ℕ → List Terminal → Option (List Terminal)
 after word (Open ∷ ts) = after_word word ts
 after word ts = None
 
-abbrev pub use_by : Types → Option (List Terminal) → List Terminal → Result (UnnamedUse × List Terminal) Fault
+abbrev pub use_by : Types → Option (List Terminal) → List Terminal → Result (TypeUse × List Terminal) Fault
 use_by types None all = listed_use (lists_of all)
 use_by types (Some ts) all = indexed_use types ts (index types.names ts)
 
-unfoldable pub use_of : Types → List Terminal → Result (UnnamedUse × List Terminal) Fault
+unfoldable pub use_of : Types → List Terminal → Result (TypeUse × List Terminal) Fault
 use_of types ts = use_by types (after (codes "type") ts) ts
 
 -- 6.5.2, 6.5.6: the table of call_indirect, or of a table instruction: an index, or none, which is 0
@@ -375,7 +375,7 @@ table_of ls (Integer s n ∷ ts) = small s n (Integer s n ∷ ts) ts
 table_of ls (Id x ∷ ts) = named (position 0 x ls) (Id x ∷ ts) ts
 table_of ls ts = Ok (0, ts)
 
-abbrev pub with_use : ℕ → Result (UnnamedUse × List Terminal) Fault → Result (Argument × List Terminal) Fault
+abbrev pub with_use : ℕ → Result (TypeUse × List Terminal) Fault → Result (Argument × List Terminal) Fault
 with_use n (Ok (u, ts)) = Ok (argument.Indirect (indirect_call n u), ts)
 with_use n (Err f) = Err f
 
@@ -528,12 +528,12 @@ is_if o = o == 0x04
 
 -- 6.5.2: blocktype = (result valtype) or nothing; or a type use (6.6.3), whose parameters have no names. The first where both may be: a type use by its
 -- lists alone, with no parameter and one result at most, is no type use.
-abbrev pub block_of : Option ℕ → List ValueType → List ValueType → UnnamedUse → Argument
+abbrev pub block_of : Option ℕ → List ValueType → List ValueType → TypeUse → Argument
 block_of None [] [] u = argument.Block None
 block_of None [] (t ∷ []) u = argument.Block (Some t)
 block_of i ps rs u = argument.BlockUse u
 
-abbrev pub block_by : Result (UnnamedUse × List Terminal) Fault → Result (Argument × List Terminal) Fault
+abbrev pub block_by : Result (TypeUse × List Terminal) Fault → Result (Argument × List Terminal) Fault
 block_by (Ok (u, ts)) = Ok (block_of u.index u.type.params u.type.results u, ts)
 block_by (Err f) = Err f
 

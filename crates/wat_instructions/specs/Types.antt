@@ -22,20 +22,20 @@ pub record Types : Type 0 where
   pub types : List FunctionType
   pub are_known : Bool
 
--- 6.6.3: a type use without the names of its parameters: the index of its type, where it says one, and its type
-pub record UnnamedUse : Type 0 where
+-- 6.6.3: a type use, without the names of its parameters: the index of its type, where it says one, and its type
+pub record TypeUse : Type 0 where
   pub index : Option ℕ
   pub type : FunctionType
 
-abbrev pub unnamed_use : Option ℕ → FunctionType → UnnamedUse
-unnamed_use i t = record { index = i; type = t }
+abbrev pub type_use : Option ℕ → FunctionType → TypeUse
+type_use i t = record { index = i; type = t }
 
--- 6.6.3: the type that a type use brings: one without an index its own, and one with an index none
 abbrev pub brought_by : Option ℕ → FunctionType → List FunctionType
 brought_by None t = t ∷ []
 brought_by (Some i) t = []
 
-abbrev pub brought : UnnamedUse → List FunctionType
+-- 6.6.3: the types that a type use brings: its own where it says no index, else none
+abbrev pub brought : TypeUse → List FunctionType
 brought u = brought_by u.index u.type
 
 -- an index that is said, or another
@@ -46,9 +46,9 @@ index_or None n = n
 -- 6.5.2: what call_indirect says: the index of a table, and a type use
 pub record IndirectCall : Type 0 where
   pub table : ℕ
-  pub uses : UnnamedUse
+  pub uses : TypeUse
 
-abbrev pub indirect_call : ℕ → UnnamedUse → IndirectCall
+abbrev pub indirect_call : ℕ → TypeUse → IndirectCall
 indirect_call n u = record { table = n; uses = u }
 
 -- 5.3.3 reference types

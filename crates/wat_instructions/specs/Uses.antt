@@ -1,6 +1,6 @@
 -- WebAssembly 2.0 specification, 6.6.3: the types that instructions bring, by type uses without an index. And that these do not depend on the types of the
 -- context.
-use Rattle.std.specs.Prelude.{◌≡◌, ℕ, Bool, true, false, List, [], ◌++◌, Option, Some}
+use Rattle.std.specs.Prelude.{◌≡◌, ℕ, Bool, false, List, [], ◌++◌, Some}
 use Rattle.std.specs.List.{flat_map}
 use Rattle.wat_instructions.specs.declared.pieces.Argument.{Argument}
 use Rattle.wat_instructions.specs.declared.pieces.Argument.TheVariants as argument
@@ -19,7 +19,8 @@ abbrev pub instruction_types : Instruction → List FunctionType
 instruction_types i = argument_types i.argument
 
 -- the types that instructions bring, in their order: those of operands before that of their folded instruction (6.5.10), and a block's own before those of its
--- body. Whether a folded instruction's type use or those of its operands are expanded first, 6.1.2 and 6.6.3 leave open: a choice of our own, that of `wat2wasm`.
+-- body. 6.6.3 has abbreviations of type uses expanded in the order in which they appear; a folded instruction is an abbreviation too, and which of both is
+-- expanded first is not said: a choice of our own, that of `wat2wasm`.
 abbrev pub expression_types : List Instruction → List FunctionType
 expression_types is = flat_map instruction_types is
 

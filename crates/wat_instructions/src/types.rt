@@ -14,10 +14,10 @@ pub struct FunctionType {
     pub results: Vec<ValueType>,
 }
 
-/// A type use whose parameters have no names: the index of its type, where it says one; and its
-/// type.
+/// A type use without the names of its parameters: the index of its type, where it says one; and
+/// its type.
 #[derive(Drop)]
-pub struct UnnamedUse {
+pub struct TypeUse {
     pub index: Option<usize>,
     pub of: FunctionType,
 }
@@ -25,14 +25,14 @@ pub struct UnnamedUse {
 /// The same in a box. Its index is below 2^63, as that of all that is in memory.
 #[derive(Drop)]
 pub struct BoxedUse {
-    uses: Box<UnnamedUse>,
+    uses: Box<TypeUse>,
 }
 
 impl Model for BoxedUse {
     ghost use Rattle.wat_instructions.specs.Types as spec;
     ghost use Rattle.std.specs.Prelude.{◌<◌, ◌^◌};
 
-    ghost Value = { spec.UnnamedUse };
+    ghost Value = { spec.TypeUse };
 
     ghost use Rattle.wat_instructions.specs.Views.{use_of};
 
@@ -43,7 +43,7 @@ impl Model for BoxedUse {
 
 impl BoxedUse {
     /// This type use.
-    pub fn new(alloc: Global, uses: UnnamedUse) -> Result<BoxedUse, AllocError>
+    pub fn new(alloc: Global, uses: TypeUse) -> Result<BoxedUse, AllocError>
         requires { spec.index_or uses.index 0 < 2 ^ 63 }
         ensures { IfOk result (λ u. u ≡ use_of uses) }
     {
@@ -54,7 +54,7 @@ impl BoxedUse {
     }
 
     /// What it is.
-    pub fn uses(&self) -> &UnnamedUse
+    pub fn uses(&self) -> &TypeUse
         ensures is { use_of result.now ≡ self.now }
         ensures small { spec.index_or result.now.index 0 < 2 ^ 63 }
     {
@@ -66,7 +66,7 @@ impl BoxedUse {
 #[derive(Drop)]
 struct Call {
     table: usize,
-    uses: UnnamedUse,
+    uses: TypeUse,
 }
 
 /// What `call_indirect` says, in a box.
@@ -87,7 +87,7 @@ impl Model for IndirectCall {
 
 impl IndirectCall {
     /// A call by this table and this type use.
-    pub fn new(alloc: Global, table: usize, uses: UnnamedUse) -> Result<IndirectCall, AllocError>
+    pub fn new(alloc: Global, table: usize, uses: TypeUse) -> Result<IndirectCall, AllocError>
         ensures { IfOk result (λ c. c ≡ spec.indirect_call table (use_of uses)) }
     {
         match Box::new(alloc, Call { table, uses }) {
@@ -104,7 +104,7 @@ impl IndirectCall {
     }
 
     /// Its type use.
-    pub fn uses(&self) -> &UnnamedUse
+    pub fn uses(&self) -> &TypeUse
         ensures { use_of result.now ≡ self.now.uses }
     {
         &self.call.uses

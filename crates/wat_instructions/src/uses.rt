@@ -10,9 +10,7 @@ ghost use Rattle.wat_instructions.specs.Views.{type_of, use_of};
 use crate::names::IndexedNames;
 use crate::pieces::{Argument, Fault, FaultKind, Piece, Refusal, ValueType, unexpected};
 use crate::reading::{Scope, index, value_type};
-use crate::types::{
-    BoxedUse, FunctionType, IndirectCall, SelectTypes, UnnamedUse, copied, same_type,
-};
+use crate::types::{BoxedUse, FunctionType, IndirectCall, SelectTypes, TypeUse, copied, same_type};
 use std::alloc::{AllocError, Global};
 
 /// What is left to read, and whether it begins in a group.
@@ -162,7 +160,7 @@ fn type_use<'p, 'a>(
     alloc: Global,
     scope: &Scope<'_, '_>,
     pieces: &'p [Piece<'a>],
-) -> Result<(UnnamedUse, &'p [Piece<'a>]), Refusal<'p, 'a>>
+) -> Result<(TypeUse, &'p [Piece<'a>]), Refusal<'p, 'a>>
     ensures is { MatchResult result
         (λ r. grammar.use_of (scope_of scope.now).types (map terminal pieces.now) ≡ Ok (use_of r.0, map terminal r.1.now))
         (λ e. Faults (grammar.use_of (scope_of scope.now).types (map terminal pieces.now)) e) }
@@ -178,7 +176,7 @@ fn type_use<'p, 'a>(
 fn listed_use<'p, 'a>(
     alloc: Global,
     pieces: &'p [Piece<'a>],
-) -> Result<(UnnamedUse, &'p [Piece<'a>]), Refusal<'p, 'a>>
+) -> Result<(TypeUse, &'p [Piece<'a>]), Refusal<'p, 'a>>
     ensures is { MatchResult result
         (λ r. grammar.listed_use (grammar.lists_of (map terminal pieces.now)) ≡ Ok (use_of r.0, map terminal r.1.now))
         (λ e. Faults (grammar.listed_use (grammar.lists_of (map terminal pieces.now))) e) }
@@ -186,7 +184,7 @@ fn listed_use<'p, 'a>(
 {
     let (of, rest) = lists(alloc, pieces)?;
     let index = None;
-    Ok((UnnamedUse { index, of }, rest))
+    Ok((TypeUse { index, of }, rest))
 }
 
 /// A type use after `(type`.
@@ -194,7 +192,7 @@ fn indexed_use<'p, 'a>(
     alloc: Global,
     scope: &Scope<'_, '_>,
     pieces: &'p [Piece<'a>],
-) -> Result<(UnnamedUse, &'p [Piece<'a>]), Refusal<'p, 'a>>
+) -> Result<(TypeUse, &'p [Piece<'a>]), Refusal<'p, 'a>>
     ensures is { MatchResult result
         (λ r. grammar.indexed_use (scope_of scope.now).types (map terminal pieces.now) (grammar.index (scope_of scope.now).types.names (map terminal pieces.now)) ≡ Ok (use_of r.0, map terminal r.1.now))
         (λ e. Faults (grammar.indexed_use (scope_of scope.now).types (map terminal pieces.now) (grammar.index (scope_of scope.now).types.names (map terminal pieces.now))) e) }
@@ -211,7 +209,7 @@ fn closed_use<'p, 'a>(
     index: usize,
     all: &'p [Piece<'a>],
     pieces: &'p [Piece<'a>],
-) -> Result<(UnnamedUse, &'p [Piece<'a>]), Refusal<'p, 'a>>
+) -> Result<(TypeUse, &'p [Piece<'a>]), Refusal<'p, 'a>>
     ensures is { MatchResult result
         (λ r. grammar.closed_index (scope_of scope.now).types index (map terminal all.now) (map terminal pieces.now) ≡ Ok (use_of r.0, map terminal r.1.now))
         (λ e. Faults (grammar.closed_index (scope_of scope.now).types index (map terminal all.now) (map terminal pieces.now)) e) }
@@ -233,7 +231,7 @@ fn closed_use<'p, 'a>(
 fn assumed_use<'p, 'a>(
     alloc: Global,
     pieces: &'p [Piece<'a>],
-) -> Result<(UnnamedUse, &'p [Piece<'a>]), Refusal<'p, 'a>>
+) -> Result<(TypeUse, &'p [Piece<'a>]), Refusal<'p, 'a>>
     ensures is { MatchResult result
         (λ r. grammar.assumed (grammar.lists_of (map terminal pieces.now)) ≡ Ok (use_of r.0, map terminal r.1.now))
         (λ e. Faults (grammar.assumed (grammar.lists_of (map terminal pieces.now))) e) }
@@ -241,7 +239,7 @@ fn assumed_use<'p, 'a>(
 {
     let (of, rest) = lists(alloc, pieces)?;
     let index = Some(0);
-    Ok((UnnamedUse { index, of }, rest))
+    Ok((TypeUse { index, of }, rest))
 }
 
 /// The type of an index.
@@ -259,7 +257,7 @@ fn typed_use<'p, 'a>(
     index: usize,
     all: &'p [Piece<'a>],
     pieces: &'p [Piece<'a>],
-) -> Result<(UnnamedUse, &'p [Piece<'a>]), Refusal<'p, 'a>>
+) -> Result<(TypeUse, &'p [Piece<'a>]), Refusal<'p, 'a>>
     ensures is { MatchResult result
         (λ r. grammar.indexed_by index (slice_get (map type_of types.now) index) (map terminal all.now) (map terminal pieces.now) ≡ Ok (use_of r.0, map terminal r.1.now))
         (λ e. Faults (grammar.indexed_by index (slice_get (map type_of types.now) index) (map terminal all.now) (map terminal pieces.now)) e) }
@@ -294,7 +292,7 @@ fn agreed<'p, 'a>(
     of: &FunctionType,
     all: &'p [Piece<'a>],
     pieces: &'p [Piece<'a>],
-) -> Result<(UnnamedUse, &'p [Piece<'a>]), Refusal<'p, 'a>>
+) -> Result<(TypeUse, &'p [Piece<'a>]), Refusal<'p, 'a>>
     requires { index < 2 ^ 63 }
     ensures is { MatchResult result
         (λ r. grammar.agreed index (type_of of.now) (map terminal all.now) (grammar.lists_of (map terminal pieces.now)) ≡ Ok (use_of r.0, map terminal r.1.now))
@@ -305,7 +303,7 @@ fn agreed<'p, 'a>(
     if list_nothing(&listed.params, &listed.results) || same_type(&listed, of) {
         let of = copied(alloc, of)?;
         let index = Some(index);
-        return Ok((UnnamedUse { index, of }, rest));
+        return Ok((TypeUse { index, of }, rest));
     }
     Err(Refusal::Text(Fault {
         kind: FaultKind::OtherType,
@@ -386,8 +384,8 @@ fn short_form(
     results: &[ValueType],
 ) -> Option<Option<ValueType>>
     ensures { MatchOption result
-        ((u : spec.UnnamedUse) → grammar.block_of index params.now results.now u ≡ argument.BlockUse u)
-        (λ of. (u : spec.UnnamedUse) → grammar.block_of index params.now results.now u ≡ argument.Block of) }
+        ((u : spec.TypeUse) → grammar.block_of index params.now results.now u ≡ argument.BlockUse u)
+        (λ of. (u : spec.TypeUse) → grammar.block_of index params.now results.now u ≡ argument.Block of) }
 {
     if index.is_some() {
         return None;
@@ -403,7 +401,7 @@ fn short_form(
 }
 
 /// The type of a block.
-fn block_argument(alloc: Global, uses: UnnamedUse) -> Result<Argument, AllocError>
+fn block_argument(alloc: Global, uses: TypeUse) -> Result<Argument, AllocError>
     requires { spec.index_or uses.index 0 < 2 ^ 63 }
     ensures { IfOk result (λ a. a ≡ grammar.block_of uses.index uses.of.params.items uses.of.results.items (use_of uses)) }
 {

@@ -2,7 +2,7 @@
 //! grammar and binary format, by theorem.
 #![tactic(auto)]
 
-ghost use Rattle.std.specs.Prelude.{◌≡◌, ◌<◌, ◌^◌, true, length, map, IfOk, List, None, Option, string_bytes};
+ghost use Rattle.std.specs.Prelude.{◌≡◌, ◌<◌, ◌^◌, true, length, map, IfOk, List, None, Option};
 ghost use Rattle.wat_fields.specs.Fields.{Field};
 ghost use Rattle.wat_instructions.specs.Terminals.{terminal};
 ghost use Rattle.wat_lex.specs.declared.lexer.kinds.Token.{Token};

@@ -18,7 +18,7 @@ use Rattle.wat_instructions.specs.declared.pieces.ReferenceType.TheVariants as r
 use Rattle.wat_instructions.specs.declared.pieces.Opcode.{Opcode}
 use Rattle.wat_instructions.specs.declared.pieces.Opcode.TheVariants.{Byte, Prefixed}
 use Rattle.wat_instructions.specs.declared.pieces.ValueType.{ValueType}
-use Rattle.wat_instructions.specs.Types.{FunctionType, UnnamedUse, index_or, reference_byte, type_byte}
+use Rattle.wat_instructions.specs.Types.{FunctionType, TypeUse, index_or, reference_byte, type_byte}
 use Rattle.wat_fields.specs.declared.fields.GlobalType.{GlobalType}
 use Rattle.wat_fields.specs.declared.fields.IndexSpace.{IndexSpace}
 use Rattle.wat_fields.specs.declared.fields.IndexSpace.TheVariants as space
@@ -37,8 +37,9 @@ block_byte (Some t) = type_byte t
 unfoldable pub type_bytes : FunctionType → List ℕ
 type_bytes t = 0x60 ∷ (text_encoding (map type_byte t.params) ++ text_encoding (map type_byte t.results))
 
--- 6.6.3: the index of the type that is used: the one that is said, at which that type is (TypeUseIs); or the least, at which it is too (Law)
-abbrev pub used_index : List FunctionType → UnnamedUse → ℕ
+-- 6.6.3: the index of a type use: the one that it says, at which its type is (TypeUseIs; of instructions, agreed); where it says none, the least at which
+-- its type is (Law)
+abbrev pub used_index : List FunctionType → TypeUse → ℕ
 used_index types u = index_or u.index (type_index u.type types)
 
 -- 5.4: what follows the opcode of an instruction, where these are the module's types; 5.1.3 vectors; 5.2.3 floats: their bits, the lowest byte first;
@@ -242,7 +243,7 @@ elements_after before (f ∷ fs) = field_elements before f ++ elements_after (be
 unfoldable pub elements_of : List Field → List ElementSegment
 elements_of fs = elements_after [] fs
 
--- the function of an element that is `ref.func`
+-- the index that an immediate is
 abbrev pub index_of : Argument → Option ℕ
 index_of (argument.Index x) = Some x
 index_of a = None
@@ -251,6 +252,7 @@ abbrev pub is_byte : ℕ → Opcode → Bool
 is_byte b (Byte c) = c == b
 is_byte b (Prefixed p n) = false
 
+-- the function of an element that is `ref.func`
 abbrev pub function_in : List Instruction → Option ℕ
 function_in (i ∷ []) = if is_byte 0xD2 i.opcode then index_of i.argument else None
 function_in is = None

@@ -1,4 +1,4 @@
--- What the code's variables and functions are in the definitions.
+-- What the code's imports, exports, counts, segments and runs are in the definitions; and the code's steps.
 use Rattle.std.specs.Prelude.{suc, ◌∷◌, ◌<◌, ◌==◌, ◌+◌, ◌++◌, ℕ, List, [], length, map, Option, Some, None, if◌then◌else◌}
 use Rattle.wat_fields.specs.declared.fields.Import as declared_import
 use Rattle.wat_fields.specs.declared.fields.Export as declared_export
@@ -17,7 +17,7 @@ use Rattle.wat_instructions.specs.Types.{FunctionType}
 use Rattle.wat_sections.specs.Binary.{mode_bytes, Export, ImportEntry, Run, export, next_index, run, section, ElementSegment, element_segment, DataSegment, at_zero, data_segment}
 use Rattle.wat_fields.specs.Fields.{Field, TypeField, Import, Func, Table, Memory, Global, Start, extern_space, Data, Elem, ElemMode, Passive, Active, Declarative, Target, target}
 use Rattle.wat_fields.specs.Fields as field
-use Rattle.wat_fields.specs.Views.{extern_of, items_of, together}
+use Rattle.wat_fields.specs.Views.{extern_of, expressions_of, together}
 
 abbrev pub import_of : declared_import.Import → ImportEntry
 import_of i = record { from = i.from.now; name = i.item.now; what = extern_of i.what }
@@ -133,7 +133,7 @@ elem_place_of (elem_places.At t) = Active (target t.now.index t.now.offset.items
 elem_place_of (elem_places.Begin i) = Active (target i at_zero)
 
 abbrev pub element_segment_of : declared_elements.ElementSegment → ElementSegment
-element_segment_of s = element_segment (elem_place_of s.place) s.of (items_of s.elements.now)
+element_segment_of s = element_segment (elem_place_of s.place) s.of (expressions_of s.elements.now)
 
 -- functions before others
 abbrev pub put_before : List ℕ → Option (List ℕ) → Option (List ℕ)

@@ -2,8 +2,7 @@
 ghost use Rattle.std.specs.Prelude.{◌≡◌, ◌<◌, ◌≤◌, pos, ◌+◌, ◌++◌, ◌^◌, ◌∷◌, [], OnOk, IfErr, IfOk, MatchOption, length, map, None, Some};
 ghost use Rattle.std.specs.List.{flat_map, list_any};
 ghost use Rattle.wat_fields.specs.Fields as grammar;
-ghost use Rattle.wat_fields.specs.ImplicitTypes as implicit;
-ghost use Rattle.wat_fields.specs.Views.{extern_of, field_of, fields_of, function_of, text_of, expression_of, items_of, mode_of, together};
+ghost use Rattle.wat_fields.specs.Views.{extern_of, field_of, fields_of, function_of, text_of, expression_of, expressions_of, mode_of, together};
 ghost use Rattle.wat_instructions.specs.Types.{index_or, type_byte};
 ghost use Rattle.wat_instructions.specs.Views.{type_of, use_of};
 ghost use Rattle.wat_lex.specs.binary.Encoding.{list_encoding, text_encoding};
@@ -20,7 +19,7 @@ use wat_fields::implicit_types::types_of;
 use wat_fields::indexed_types::IndexedTypes;
 use wat_fields::strings::len_of;
 use wat_instructions::pieces::{Argument, Instruction, Opcode, ReferenceType, ValueType};
-use wat_instructions::types::{FunctionType, UnnamedUse, reference_byte, type_byte};
+use wat_instructions::types::{FunctionType, TypeUse, reference_byte, type_byte};
 use wat_lex::encode::{Encode, EncodeError};
 
 /// The magic number and the version.
@@ -212,7 +211,7 @@ fn value_bytes(alloc: Global, types: &[ValueType]) -> Result<Vec<u8>, AllocError
 }
 
 /// The index of the type that is used.
-fn used_index(types: &IndexedTypes, uses: &UnnamedUse) -> Result<usize, AllocError>
+fn used_index(types: &IndexedTypes, uses: &TypeUse) -> Result<usize, AllocError>
     ensures is { IfOk result (λ n. n ≡ binary.used_index types.now (use_of uses.now)) }
     ensures small { index_or uses.now.index 0 < 2 ^ 63 → IfOk result (λ n. n < 2 ^ 63) }
 {
@@ -1102,7 +1101,7 @@ fn put_elements_of(
     types: &IndexedTypes,
     elements: &Elements,
 ) -> Result<(), AllocError>
-    ensures { OnOk result (out.new.items ≡ out.old.items ++ binary.element_list types.now (items_of elements.now)) }
+    ensures { OnOk result (out.new.items ≡ out.old.items ++ binary.element_list types.now (expressions_of elements.now)) }
 {
     match elements {
         Elements::Functions(functions) => put_references(out, types, functions),
@@ -1212,7 +1211,7 @@ fn put_active_elements(
     of: ReferenceType,
     elements: &Elements,
 ) -> Result<(), AllocError>
-    ensures { OnOk result (out.new.items ≡ out.old.items ++ binary.other_segment types.now (grammar.Active (grammar.target index offset.now)) of (items_of elements.now)) }
+    ensures { OnOk result (out.new.items ≡ out.old.items ++ binary.other_segment types.now (grammar.Active (grammar.target index offset.now)) of (expressions_of elements.now)) }
 {
     if index == 0 && is_funcref(of) {
         out.push(0x04)?;
@@ -1234,7 +1233,7 @@ fn put_other_segment(
     of: ReferenceType,
     elements: &Elements,
 ) -> Result<(), AllocError>
-    ensures { OnOk result (out.new.items ≡ out.old.items ++ binary.other_segment types.now (elem_place_of place.entry) of (items_of elements.now)) }
+    ensures { OnOk result (out.new.items ≡ out.old.items ++ binary.other_segment types.now (elem_place_of place.entry) of (expressions_of elements.now)) }
 {
     match place {
         ElemPlace::Passive => {
@@ -1262,7 +1261,7 @@ fn put_indices(
     segment: ElementSegment<'_>,
     functions: &[usize],
 ) -> Result<(), AllocError>
-    requires { items_of segment.elements.now ≡ map grammar.ref_func functions.now }
+    requires { expressions_of segment.elements.now ≡ map grammar.ref_func functions.now }
     ensures { OnOk result (out.new.items ≡ out.old.items ++ binary.elem_bytes types.now (element_segment_of segment.entry)) }
 {
     match segment.of {
@@ -1281,7 +1280,7 @@ fn put_items(
     segment: ElementSegment<'_>,
     expressions: &[Vec<Instruction>],
 ) -> Result<(), AllocError>
-    requires { items_of segment.elements.now ≡ map expression_of expressions.now }
+    requires { expressions_of segment.elements.now ≡ map expression_of expressions.now }
     ensures { OnOk result (out.new.items ≡ out.old.items ++ binary.elem_bytes types.now (element_segment_of segment.entry)) }
 {
     match functions_by(alloc, segment.of, expressions)? {

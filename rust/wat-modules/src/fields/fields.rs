@@ -3,7 +3,7 @@
 
 use wat_lex::shim::prelude::*;
 use crate::instructions::pieces::{Instruction, Name, ReferenceType, ValueType};
-use crate::instructions::types::{FunctionType, UnnamedUse};
+use crate::instructions::types::{FunctionType, TypeUse};
 
 /// A type that a field defines.
 pub struct Definition<'p> {
@@ -15,7 +15,7 @@ pub struct Definition<'p> {
 pub struct Function<'p> {
     pub name: Name<'p>,
     pub exports: Vec<&'p [u8]>,
-    pub uses: UnnamedUse,
+    pub uses: TypeUse,
     pub locals: Vec<ValueType>,
     pub body: Vec<Instruction>,
 }
@@ -50,7 +50,7 @@ pub struct GlobalType {
     pub value: ValueType,
 }
 
-/// Elements: functions by their indices, each of which is an expression of `ref.func` alone; or
+/// Elements: functions by their indices, each in the place of an expression of `ref.func` alone; or
 /// any expressions, by their instructions.
 pub enum Elements {
     Functions(Vec<usize>),
@@ -63,7 +63,7 @@ impl Elements {
     /// # Proved
     ///
     /// ```text
-    /// ensures is { result ≡ length (items_of self.now) }
+    /// ensures is { result ≡ length (expressions_of self.now) }
     /// ensures small { result < 2 ^ 63 }
     /// ```
     pub fn len(&self) -> usize {
@@ -128,7 +128,7 @@ pub struct GlobalVariable<'p> {
 
 /// What is imported.
 pub enum ExternType {
-    Func(UnnamedUse),
+    Func(TypeUse),
     Table(TableType),
     Memory(Limits),
     Global(GlobalType),

@@ -6,7 +6,7 @@ use crate::fields::fields::{ElemMode, Elements, ExternType, Field};
 use crate::fields::indexed_types::IndexedTypes;
 use wat_lex::shim::alloc::{AllocError, Global};
 use crate::instructions::pieces::{Argument, Instruction};
-use crate::instructions::types::{UnnamedUse, copied};
+use crate::instructions::types::{TypeUse, copied};
 
 /// The types that fields define.
 ///
@@ -32,7 +32,7 @@ fn defined_types(alloc: Global, fields: &[Field<'_>]) -> Result<IndexedTypes, Al
 /// ```text
 /// ensures { MatchOption result (brought (use_of uses.now) ≡ []) (λ u. brought (use_of uses.now) ≡ type_of u.now.of ∷ []) }
 /// ```
-fn bringing(uses: &UnnamedUse) -> Option<&UnnamedUse> {
+fn bringing(uses: &TypeUse) -> Option<&TypeUse> {
     match uses.index {
         Some(_) => None,
         None => Some(uses),
@@ -46,7 +46,7 @@ fn bringing(uses: &UnnamedUse) -> Option<&UnnamedUse> {
 /// ```text
 /// ensures { MatchOption result (instruction_types instruction.now ≡ []) (λ u. instruction_types instruction.now ≡ type_of u.now.of ∷ []) }
 /// ```
-fn instruction_use(instruction: &Instruction) -> Option<&UnnamedUse> {
+fn instruction_use(instruction: &Instruction) -> Option<&TypeUse> {
     match &instruction.argument {
         Argument::Indirect(call) => bringing(call.uses()),
         Argument::BlockUse(uses) => bringing(uses.uses()),
@@ -75,7 +75,7 @@ fn add_instructions(types: &mut IndexedTypes, all: &[Instruction]) -> Result<(),
 /// # Proved
 ///
 /// ```text
-/// ensures { OnOk result (types.new ≡ implicit.types_after types.old (flat_map expression_types (items_of elements.now))) }
+/// ensures { OnOk result (types.new ≡ implicit.types_after types.old (flat_map expression_types (expressions_of elements.now))) }
 /// ```
 fn add_elements(types: &mut IndexedTypes, elements: &Elements) -> Result<(), AllocError> {
     match elements {
@@ -122,8 +122,8 @@ fn add_mode(types: &mut IndexedTypes, mode: &ElemMode) -> Result<(), AllocError>
 /// ```text
 /// ensures { OnOk result (types.new ≡ implicit.types_after types.old (brought (use_of uses.now))) }
 /// ```
-fn add_use(types: &mut IndexedTypes, uses: &UnnamedUse) -> Result<(), AllocError> {
-    if uses.index.is_none() {
+fn add_use(types: &mut IndexedTypes, uses: &TypeUse) -> Result<(), AllocError> {
+    if let Some(uses) = bringing(uses) {
         types.add(&uses.of)?;
     }
     Ok(())

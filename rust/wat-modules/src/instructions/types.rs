@@ -11,16 +11,16 @@ pub struct FunctionType {
     pub results: Vec<ValueType>,
 }
 
-/// A type use whose parameters have no names: the index of its type, where it says one; and its
-/// type.
-pub struct UnnamedUse {
+/// A type use without the names of its parameters: the index of its type, where it says one; and
+/// its type.
+pub struct TypeUse {
     pub index: Option<usize>,
     pub of: FunctionType,
 }
 
 /// The same in a box. Its index is below 2^63, as that of all that is in memory.
 pub struct BoxedUse {
-    uses: Box<UnnamedUse>,
+    uses: Box<TypeUse>,
 }
 
 impl BoxedUse {
@@ -32,7 +32,7 @@ impl BoxedUse {
     /// requires { spec.index_or uses.index 0 < 2 ^ 63 }
     /// ensures { IfOk result (λ u. u ≡ use_of uses) }
     /// ```
-    pub fn new(alloc: Global, uses: UnnamedUse) -> Result<BoxedUse, AllocError> {
+    pub fn new(alloc: Global, uses: TypeUse) -> Result<BoxedUse, AllocError> {
         match Box::new(alloc, uses) {
             Ok(uses) => Ok(BoxedUse { uses }),
             Err(failed) => Err(AllocError::from(failed)),
@@ -47,7 +47,7 @@ impl BoxedUse {
     /// ensures is { use_of result.now ≡ self.now }
     /// ensures small { spec.index_or result.now.index 0 < 2 ^ 63 }
     /// ```
-    pub fn uses(&self) -> &UnnamedUse {
+    pub fn uses(&self) -> &TypeUse {
         &self.uses
     }
 }
@@ -55,7 +55,7 @@ impl BoxedUse {
 /// The index of a table, and a type use.
 struct Call {
     table: usize,
-    uses: UnnamedUse,
+    uses: TypeUse,
 }
 
 /// What `call_indirect` says, in a box.
@@ -71,7 +71,7 @@ impl IndirectCall {
     /// ```text
     /// ensures { IfOk result (λ c. c ≡ spec.indirect_call table (use_of uses)) }
     /// ```
-    pub fn new(alloc: Global, table: usize, uses: UnnamedUse) -> Result<IndirectCall, AllocError> {
+    pub fn new(alloc: Global, table: usize, uses: TypeUse) -> Result<IndirectCall, AllocError> {
         match Box::new(alloc, Call { table, uses }) {
             Ok(call) => Ok(IndirectCall { call }),
             Err(failed) => Err(AllocError::from(failed)),
@@ -96,7 +96,7 @@ impl IndirectCall {
     /// ```text
     /// ensures { use_of result.now ≡ self.now.uses }
     /// ```
-    pub fn uses(&self) -> &UnnamedUse {
+    pub fn uses(&self) -> &TypeUse {
         &self.call.uses
     }
 }

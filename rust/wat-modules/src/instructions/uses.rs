@@ -6,7 +6,7 @@ use crate::instructions::names::IndexedNames;
 use crate::instructions::pieces::{Argument, Fault, FaultKind, Piece, Refusal, ValueType, unexpected};
 use crate::instructions::reading::{Scope, index, value_type};
 use crate::instructions::types::{
-    BoxedUse, FunctionType, IndirectCall, SelectTypes, UnnamedUse, copied, same_type,
+    BoxedUse, FunctionType, IndirectCall, SelectTypes, TypeUse, copied, same_type,
 };
 use wat_lex::shim::alloc::{AllocError, Global};
 
@@ -196,7 +196,7 @@ fn type_use<'p, 'a>(
     alloc: Global,
     scope: &Scope<'_, '_>,
     pieces: &'p [Piece<'a>],
-) -> Result<(UnnamedUse, &'p [Piece<'a>]), Refusal<'p, 'a>> {
+) -> Result<(TypeUse, &'p [Piece<'a>]), Refusal<'p, 'a>> {
     match after("type", pieces) {
         Some(rest) => indexed_use(alloc, scope, rest),
         None => listed_use(alloc, pieces),
@@ -216,10 +216,10 @@ fn type_use<'p, 'a>(
 fn listed_use<'p, 'a>(
     alloc: Global,
     pieces: &'p [Piece<'a>],
-) -> Result<(UnnamedUse, &'p [Piece<'a>]), Refusal<'p, 'a>> {
+) -> Result<(TypeUse, &'p [Piece<'a>]), Refusal<'p, 'a>> {
     let (of, rest) = lists(alloc, pieces)?;
     let index = None;
-    Ok((UnnamedUse { index, of }, rest))
+    Ok((TypeUse { index, of }, rest))
 }
 
 /// A type use after `(type`.
@@ -236,7 +236,7 @@ fn indexed_use<'p, 'a>(
     alloc: Global,
     scope: &Scope<'_, '_>,
     pieces: &'p [Piece<'a>],
-) -> Result<(UnnamedUse, &'p [Piece<'a>]), Refusal<'p, 'a>> {
+) -> Result<(TypeUse, &'p [Piece<'a>]), Refusal<'p, 'a>> {
     let (index, rest) = index(scope.type_names, pieces)?;
     closed_use(alloc, scope, index, pieces, rest)
 }
@@ -257,7 +257,7 @@ fn closed_use<'p, 'a>(
     index: usize,
     all: &'p [Piece<'a>],
     pieces: &'p [Piece<'a>],
-) -> Result<(UnnamedUse, &'p [Piece<'a>]), Refusal<'p, 'a>> {
+) -> Result<(TypeUse, &'p [Piece<'a>]), Refusal<'p, 'a>> {
     match pieces {
         [Piece::Close, rest @ ..] => {
             if scope.are_types_known {
@@ -283,10 +283,10 @@ fn closed_use<'p, 'a>(
 fn assumed_use<'p, 'a>(
     alloc: Global,
     pieces: &'p [Piece<'a>],
-) -> Result<(UnnamedUse, &'p [Piece<'a>]), Refusal<'p, 'a>> {
+) -> Result<(TypeUse, &'p [Piece<'a>]), Refusal<'p, 'a>> {
     let (of, rest) = lists(alloc, pieces)?;
     let index = Some(0);
-    Ok((UnnamedUse { index, of }, rest))
+    Ok((TypeUse { index, of }, rest))
 }
 
 /// The type of an index.
@@ -317,7 +317,7 @@ fn typed_use<'p, 'a>(
     index: usize,
     all: &'p [Piece<'a>],
     pieces: &'p [Piece<'a>],
-) -> Result<(UnnamedUse, &'p [Piece<'a>]), Refusal<'p, 'a>> {
+) -> Result<(TypeUse, &'p [Piece<'a>]), Refusal<'p, 'a>> {
     match type_at_index(types, index) {
         Some(of) => agreed(alloc, index, of, all, pieces),
         None => Err(Refusal::Text(Fault {
@@ -361,12 +361,12 @@ fn agreed<'p, 'a>(
     of: &FunctionType,
     all: &'p [Piece<'a>],
     pieces: &'p [Piece<'a>],
-) -> Result<(UnnamedUse, &'p [Piece<'a>]), Refusal<'p, 'a>> {
+) -> Result<(TypeUse, &'p [Piece<'a>]), Refusal<'p, 'a>> {
     let (listed, rest) = lists(alloc, pieces)?;
     if list_nothing(&listed.params, &listed.results) || same_type(&listed, of) {
         let of = copied(alloc, of)?;
         let index = Some(index);
-        return Ok((UnnamedUse { index, of }, rest));
+        return Ok((TypeUse { index, of }, rest));
     }
     Err(Refusal::Text(Fault {
         kind: FaultKind::OtherType,
@@ -462,8 +462,8 @@ pub(crate) fn block_type<'p, 'a>(
 ///
 /// ```text
 /// ensures { MatchOption result
-/// ((u : spec.UnnamedUse) → grammar.block_of index params.now results.now u ≡ argument.BlockUse u)
-/// (λ of. (u : spec.UnnamedUse) → grammar.block_of index params.now results.now u ≡ argument.Block of) }
+/// ((u : spec.TypeUse) → grammar.block_of index params.now results.now u ≡ argument.BlockUse u)
+/// (λ of. (u : spec.TypeUse) → grammar.block_of index params.now results.now u ≡ argument.Block of) }
 /// ```
 fn short_form(
     index: Option<usize>,
@@ -491,7 +491,7 @@ fn short_form(
 /// requires { spec.index_or uses.index 0 < 2 ^ 63 }
 /// ensures { IfOk result (λ a. a ≡ grammar.block_of uses.index uses.of.params.items uses.of.results.items (use_of uses)) }
 /// ```
-fn block_argument(alloc: Global, uses: UnnamedUse) -> Result<Argument, AllocError> {
+fn block_argument(alloc: Global, uses: TypeUse) -> Result<Argument, AllocError> {
     match short_form(uses.index, &uses.of.params, &uses.of.results) {
         Some(of) => Ok(Argument::Block(of)),
         None => {

@@ -133,7 +133,7 @@ fn next_function<'p, 'a>(
 ///
 /// ```text
 /// ensures { MatchResult result
-/// (λ r. reading.either_at (context_of names.now) (map terminal pieces.now) ≡ Ok (items_of r.0, map terminal r.1.now))
+/// (λ r. reading.either_at (context_of names.now) (map terminal pieces.now) ≡ Ok (expressions_of r.0, map terminal r.1.now))
 /// (λ e. Faults (reading.either_at (context_of names.now) (map terminal pieces.now)) e) }
 /// ```
 fn either<'p, 'a>(
@@ -272,8 +272,8 @@ fn table_elements<'p, 'a>(
 ///
 /// ```text
 /// ensures { MatchResult result
-/// (λ r. reading.table_with (label name.entry) (map text_of exports.entry.items) of (map terminal all.now) (items_of elements) (map terminal rest.now) ≡ Ok (field_of r.0 ∷ [], map terminal r.1.now))
-/// (λ f. reading.table_with (label name.entry) (map text_of exports.entry.items) of (map terminal all.now) (items_of elements) (map terminal rest.now) ≡ Err (fault_of f)) }
+/// (λ r. reading.table_with (label name.entry) (map text_of exports.entry.items) of (map terminal all.now) (expressions_of elements) (map terminal rest.now) ≡ Ok (field_of r.0 ∷ [], map terminal r.1.now))
+/// (λ f. reading.table_with (label name.entry) (map text_of exports.entry.items) of (map terminal all.now) (expressions_of elements) (map terminal rest.now) ≡ Err (fault_of f)) }
 /// ```
 fn table_with<'p, 'a>(
     name: Name<'a>,
@@ -313,7 +313,7 @@ fn table_with<'p, 'a>(
 ///
 /// ```text
 /// ensures { MatchResult result
-/// (λ r. reading.elements_at (context_of names.now) (map terminal pieces.now) ≡ Ok ((r.0.0, items_of r.0.1), map terminal r.1.now))
+/// (λ r. reading.elements_at (context_of names.now) (map terminal pieces.now) ≡ Ok ((r.0.0, expressions_of r.0.1), map terminal r.1.now))
 /// (λ e. Faults (reading.elements_at (context_of names.now) (map terminal pieces.now)) e) }
 /// ```
 fn elements<'p, 'a>(
@@ -336,7 +336,7 @@ fn elements<'p, 'a>(
 ///
 /// ```text
 /// ensures { MatchResult result
-/// (λ r. reading.elements_by (context_of names.now) word.now (reference_type word.now) (map terminal all.now) (map terminal pieces.now) ≡ Ok ((r.0.0, items_of r.0.1), map terminal r.1.now))
+/// (λ r. reading.elements_by (context_of names.now) word.now (reference_type word.now) (map terminal all.now) (map terminal pieces.now) ≡ Ok ((r.0.0, expressions_of r.0.1), map terminal r.1.now))
 /// (λ e. Faults (reading.elements_by (context_of names.now) word.now (reference_type word.now) (map terminal all.now) (map terminal pieces.now)) e) }
 /// ```
 fn elements_after<'p, 'a>(

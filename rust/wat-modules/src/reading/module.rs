@@ -8,7 +8,7 @@ use crate::reading::names::{Names, names_in, names_of, variable_names, with_type
 use crate::reading::segments::{memory_at, segment};
 use crate::reading::types::{global_type, limits, space_of, table_type, twice_closed};
 use crate::reading::uses::{type_at, type_use};
-use crate::reading::variables::{TypeUse, Variable, value_types, without_names};
+use crate::reading::variables::{NamedUse, Variable, value_types, without_names};
 use wat_lex::shim::alloc::Global;
 use crate::fields::fields::{Export, ExternType, Field, Function, GlobalVariable, Import, IndexSpace};
 use crate::fields::implicit_types;
@@ -592,7 +592,7 @@ fn extern_type<'p, 'a>(
 /// ```
 fn func_type<'p, 'a>(
     alloc: Global,
-    uses: TypeUse<'a>,
+    uses: NamedUse<'a>,
     all: &'p [Piece<'a>],
     rest: &'p [Piece<'a>],
 ) -> Result<(ExternType, &'p [Piece<'a>]), Refusal<'p, 'a>> {

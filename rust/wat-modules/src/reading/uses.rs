@@ -5,7 +5,7 @@ use wat_lex::shim::prelude::*;
 use crate::reading::header::{after, closed, unnamed, variables};
 use crate::reading::names::Names;
 use crate::reading::types::twice_closed;
-use crate::reading::variables::{TypeUse, Variable, function_type};
+use crate::reading::variables::{NamedUse, Variable, function_type};
 use wat_lex::shim::alloc::{AllocError, Global};
 use crate::fields::fields::Definition;
 use crate::instructions::pieces::{Fault, FaultKind, Name, Piece, Refusal};
@@ -25,7 +25,7 @@ pub(crate) fn type_use<'p, 'a>(
     alloc: Global,
     names: &Names<'a>,
     pieces: &'p [Piece<'a>],
-) -> Result<(TypeUse<'a>, &'p [Piece<'a>]), Refusal<'p, 'a>> {
+) -> Result<(NamedUse<'a>, &'p [Piece<'a>]), Refusal<'p, 'a>> {
     match after("type", pieces) {
         Some(rest) => indexed_use(alloc, names, rest),
         None => listed_use(alloc, pieces),
@@ -44,12 +44,12 @@ pub(crate) fn type_use<'p, 'a>(
 fn listed_use<'p, 'a>(
     alloc: Global,
     pieces: &'p [Piece<'a>],
-) -> Result<(TypeUse<'a>, &'p [Piece<'a>]), Refusal<'p, 'a>> {
+) -> Result<(NamedUse<'a>, &'p [Piece<'a>]), Refusal<'p, 'a>> {
     let (params, rest) = variables(alloc, "param", true, pieces)?;
     let (results, rest) = variables(alloc, "result", false, rest)?;
     let index = None;
     Ok((
-        TypeUse {
+        NamedUse {
             index,
             params,
             results,
@@ -71,7 +71,7 @@ fn indexed_use<'p, 'a>(
     alloc: Global,
     names: &Names<'a>,
     pieces: &'p [Piece<'a>],
-) -> Result<(TypeUse<'a>, &'p [Piece<'a>]), Refusal<'p, 'a>> {
+) -> Result<(NamedUse<'a>, &'p [Piece<'a>]), Refusal<'p, 'a>> {
     let (index, rest) = reading::index(&names.type_names, pieces)?;
     let rest = closed(rest)?;
     if names.are_types_known {
@@ -96,7 +96,7 @@ fn known_use<'p, 'a>(
     index: usize,
     all: &'p [Piece<'a>],
     pieces: &'p [Piece<'a>],
-) -> Result<(TypeUse<'a>, &'p [Piece<'a>]), Refusal<'p, 'a>> {
+) -> Result<(NamedUse<'a>, &'p [Piece<'a>]), Refusal<'p, 'a>> {
     match type_at_index(&names.types, index) {
         Some(of) => lists(alloc, index, of, all, pieces),
         None => Err(Refusal::Text(Fault {
@@ -119,12 +119,12 @@ fn assumed_use<'p, 'a>(
     alloc: Global,
     index: usize,
     pieces: &'p [Piece<'a>],
-) -> Result<(TypeUse<'a>, &'p [Piece<'a>]), Refusal<'p, 'a>> {
+) -> Result<(NamedUse<'a>, &'p [Piece<'a>]), Refusal<'p, 'a>> {
     let (params, rest) = variables(alloc, "param", true, pieces)?;
     let (results, rest) = variables(alloc, "result", false, rest)?;
     let index = Some(index);
     Ok((
-        TypeUse {
+        NamedUse {
             index,
             params,
             results,
@@ -159,11 +159,11 @@ fn lists<'p, 'a>(
     of: &FunctionType,
     all: &'p [Piece<'a>],
     pieces: &'p [Piece<'a>],
-) -> Result<(TypeUse<'a>, &'p [Piece<'a>]), Refusal<'p, 'a>> {
+) -> Result<(NamedUse<'a>, &'p [Piece<'a>]), Refusal<'p, 'a>> {
     let (params, rest) = variables(alloc, "param", true, pieces)?;
     let (results, rest) = variables(alloc, "result", false, rest)?;
     if list_nothing(&params, &results) {
-        let uses = unnamed_use(alloc, index, of)?;
+        let uses = index_use(alloc, index, of)?;
         return Ok((uses, rest));
     }
     let listed = function_type(alloc, &params, &results)?;
@@ -175,7 +175,7 @@ fn lists<'p, 'a>(
     }
     let index = Some(index);
     Ok((
-        TypeUse {
+        NamedUse {
             index,
             params,
             results,
@@ -206,17 +206,17 @@ fn list_nothing(params: &[Variable<'_>], results: &[Variable<'_>]) -> bool {
 /// # Proved
 ///
 /// ```text
-/// ensures { IfOk result (λ u. use_of u ≡ grammar.type_use (Some index) (map grammar.unnamed of.now.params.items) (map grammar.unnamed of.now.results.items)) }
+/// ensures { IfOk result (λ u. use_of u ≡ grammar.named_use (Some index) (map grammar.unnamed of.now.params.items) (map grammar.unnamed of.now.results.items)) }
 /// ```
-fn unnamed_use<'a>(
+fn index_use<'a>(
     alloc: Global,
     index: usize,
     of: &FunctionType,
-) -> Result<TypeUse<'a>, AllocError> {
+) -> Result<NamedUse<'a>, AllocError> {
     let params = unnamed(alloc, &of.params)?;
     let results = unnamed(alloc, &of.results)?;
     let index = Some(index);
-    Ok(TypeUse {
+    Ok(NamedUse {
         index,
         params,
         results,

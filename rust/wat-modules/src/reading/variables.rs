@@ -4,7 +4,7 @@
 use wat_lex::shim::prelude::*;
 use wat_lex::shim::alloc::{AllocError, Global};
 use crate::instructions::pieces::{Name, ValueType};
-use crate::instructions::types::{FunctionType, UnnamedUse};
+use crate::instructions::types::{FunctionType, TypeUse};
 
 /// A parameter, a result or a local variable.
 #[derive(Clone, Copy)]
@@ -13,8 +13,8 @@ pub(crate) struct Variable<'a> {
     pub(crate) of: ValueType,
 }
 
-/// A type use: the index of its type, where it says one; and its parameters and results.
-pub(crate) struct TypeUse<'a> {
+/// A type use with names: the index of its type, where it says one; and its parameters and results.
+pub(crate) struct NamedUse<'a> {
     pub(crate) index: Option<usize>,
     pub(crate) params: Vec<Variable<'a>>,
     pub(crate) results: Vec<Variable<'a>>,
@@ -60,11 +60,11 @@ pub(crate) fn function_type(
 /// # Proved
 ///
 /// ```text
-/// ensures { IfOk result (λ u. unnamed.use_of u ≡ grammar.without_names (use_of uses.now)) }
+/// ensures { IfOk result (λ u. bare.use_of u ≡ grammar.without_names (use_of uses.now)) }
 /// ```
-pub(crate) fn without_names(alloc: Global, uses: &TypeUse<'_>) -> Result<UnnamedUse, AllocError> {
+pub(crate) fn without_names(alloc: Global, uses: &NamedUse<'_>) -> Result<TypeUse, AllocError> {
     let of = function_type(alloc, &uses.params, &uses.results)?;
-    Ok(UnnamedUse {
+    Ok(TypeUse {
         index: uses.index,
         of,
     })

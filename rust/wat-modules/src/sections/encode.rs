@@ -11,7 +11,7 @@ use crate::fields::implicit_types::types_of;
 use crate::fields::indexed_types::IndexedTypes;
 use crate::fields::strings::len_of;
 use crate::instructions::pieces::{Argument, Instruction, Opcode, ReferenceType, ValueType};
-use crate::instructions::types::{FunctionType, UnnamedUse, reference_byte, type_byte};
+use crate::instructions::types::{FunctionType, TypeUse, reference_byte, type_byte};
 use wat_lex::proved::encode::{Encode, EncodeError};
 
 /// The magic number and the version.
@@ -270,7 +270,7 @@ fn value_bytes(alloc: Global, types: &[ValueType]) -> Result<Vec<u8>, AllocError
 /// ensures is { IfOk result (λ n. n ≡ binary.used_index types.now (use_of uses.now)) }
 /// ensures small { index_or uses.now.index 0 < 2 ^ 63 → IfOk result (λ n. n < 2 ^ 63) }
 /// ```
-fn used_index(types: &IndexedTypes, uses: &UnnamedUse) -> Result<usize, AllocError> {
+fn used_index(types: &IndexedTypes, uses: &TypeUse) -> Result<usize, AllocError> {
     match uses.index {
         Some(index) => Ok(index),
         None => types.index(&uses.of),
@@ -1372,7 +1372,7 @@ fn put_expression(
 /// # Proved
 ///
 /// ```text
-/// ensures { OnOk result (out.new.items ≡ out.old.items ++ binary.element_list types.now (items_of elements.now)) }
+/// ensures { OnOk result (out.new.items ≡ out.old.items ++ binary.element_list types.now (expressions_of elements.now)) }
 /// ```
 fn put_elements_of(
     out: &mut Vec<u8>,
@@ -1499,7 +1499,7 @@ fn is_funcref(of: ReferenceType) -> bool {
 /// # Proved
 ///
 /// ```text
-/// ensures { OnOk result (out.new.items ≡ out.old.items ++ binary.other_segment types.now (grammar.Active (grammar.target index offset.now)) of (items_of elements.now)) }
+/// ensures { OnOk result (out.new.items ≡ out.old.items ++ binary.other_segment types.now (grammar.Active (grammar.target index offset.now)) of (expressions_of elements.now)) }
 /// ```
 fn put_active_elements(
     out: &mut Vec<u8>,
@@ -1526,7 +1526,7 @@ fn put_active_elements(
 /// # Proved
 ///
 /// ```text
-/// ensures { OnOk result (out.new.items ≡ out.old.items ++ binary.other_segment types.now (elem_place_of place.entry) of (items_of elements.now)) }
+/// ensures { OnOk result (out.new.items ≡ out.old.items ++ binary.other_segment types.now (elem_place_of place.entry) of (expressions_of elements.now)) }
 /// ```
 fn put_other_segment(
     out: &mut Vec<u8>,
@@ -1558,7 +1558,7 @@ fn put_other_segment(
 /// # Proved
 ///
 /// ```text
-/// requires { items_of segment.elements.now ≡ map grammar.ref_func functions.now }
+/// requires { expressions_of segment.elements.now ≡ map grammar.ref_func functions.now }
 /// ensures { OnOk result (out.new.items ≡ out.old.items ++ binary.elem_bytes types.now (element_segment_of segment.entry)) }
 /// ```
 fn put_indices(
@@ -1580,7 +1580,7 @@ fn put_indices(
 /// # Proved
 ///
 /// ```text
-/// requires { items_of segment.elements.now ≡ map expression_of expressions.now }
+/// requires { expressions_of segment.elements.now ≡ map expression_of expressions.now }
 /// ensures { OnOk result (out.new.items ≡ out.old.items ++ binary.elem_bytes types.now (element_segment_of segment.entry)) }
 /// ```
 fn put_items(
