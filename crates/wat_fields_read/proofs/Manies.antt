@@ -1,14 +1,11 @@
 -- Items one after another: what is read of them is what the grammar spells.
 use Rattle.std.proofs.Common.{◌≡◌, ◌<◌, ◌≤◌, ℕ, zero, suc, List, [], ◌++◌, length, Some, None, Ok, Err, refl, sym, ap, subst, ◌∙◌, arith, append_assoc, append-nil}
-use Rattle.std.specs.Prelude.{map}
-use Rattle.std.proofs.lemmas.List.{length-map}
-use Rattle.wat_instructions.specs.declared.pieces.Piece.{Piece}
 use Rattle.wat_instructions.specs.declared.pieces.Refusal.{Refusal}
 use Rattle.wat_instructions.specs.declared.pieces.Refusal.TheVariants as refusal
 use Rattle.wat_instructions.specs.Parts.{Faults, fault_of}
 use Rattle.wat_instructions.specs.Grammar.{Fault}
 use Rattle.wat_instructions.specs.Law.{past}
-use Rattle.wat_instructions.specs.Terminals.{Terminal, terminal}
+use Rattle.wat_instructions.specs.Terminals.{Terminal}
 use Rattle.wat_fields.specs.Fields.{Many, by_none, by_more}
 use Rattle.wat_fields_read.specs.Views.{ItemFaults}
 use Rattle.wat_fields_read.specs.Reading.{Read, Item, and_then, many, many_by, all}
@@ -132,9 +129,5 @@ pub faulted : {V : Type 0} (item : List Terminal → Item V) (vs ws : List V) (t
 faulted item vs ws ts us (refusal.Text f) e inv h = leads_from item vs ts (Err (fault_of f)) e (inv (Err (fault_of f)) (leads_into item ws us (fault_of f) h))
 faulted item vs ws ts us (refusal.Memory m) e inv h = tt
 
-pub smaller : {V : Type 0} (item : List Terminal → Item V) (R : One V) → Reads item R → (xs ys : List Piece) (vs : List V) → item (map terminal xs) ≡ Some (Ok (vs, map terminal ys)) → length ys < length xs
-smaller item R k xs ys vs e =
-    let h = k.takes (map terminal xs) vs (map terminal ys) (k.sound (map terminal xs) vs (map terminal ys) (brings_of (item (map terminal xs)) vs (map terminal ys) e)) in omega (arith, h, length-map xs terminal, length-map ys terminal)
-
-pub smaller_terminals : {V : Type 0} (item : List Terminal → Item V) (R : One V) → Reads item R → (ts us : List Terminal) (vs : List V) → item ts ≡ Some (Ok (vs, us)) → length us < length ts
-smaller_terminals item R k ts us vs e = k.takes ts vs us (k.sound ts vs us (brings_of (item ts) vs us e))
+pub smaller : {V : Type 0} (item : List Terminal → Item V) (R : One V) → Reads item R → (ts us : List Terminal) (vs : List V) → item ts ≡ Some (Ok (vs, us)) → length us < length ts
+smaller item R k ts us vs e = k.takes ts vs us (k.sound ts vs us (brings_of (item ts) vs us e))

@@ -1,19 +1,19 @@
 -- What fields are by the types of a context, they are by others: by more types the same; without the types they bring the same types.
-use Rattle.std.proofs.Common.{◌≡◌, ◌⊎◌, inl, inr, ℕ, zero, suc, Bool, true, false, List, [], ◌∷◌, ◌++◌, length, Option, Some, None, Result, Ok, Err, refl, sym, ap, subst, ◌∙◌, map, append-nil}
-use Rattle.std.specs.Prelude.{if◌then◌else◌, bytes_eq, codes, slice_get}
+use Rattle.std.proofs.Common.{◌≡◌, ◌⊎◌, inl, inr, ℕ, zero, suc, Bool, true, false, List, [], ◌∷◌, ◌++◌, length, Some, None, refl, sym, ap, subst, ◌∙◌, map, append-nil}
+use Rattle.std.specs.Prelude.{if◌then◌else◌, codes, slice_get}
 use Rattle.std.specs.List.{flat_map}
 use Rattle.std.proofs.lemmas.Grind.{flat_map-append}
 use Rattle.wat_instructions.specs.declared.pieces.Instruction.{Instruction}
 use Rattle.wat_instructions.specs.declared.pieces.ReferenceType.{ReferenceType}
 use Rattle.wat_instructions.specs.declared.pieces.ReferenceType.TheVariants as reference
 use Rattle.wat_instructions.specs.declared.pieces.ValueType.{ValueType}
-use Rattle.wat_instructions.specs.Grammar.{Context, Folded, by_group, Instructions, is_name, label_of, past, position}
+use Rattle.wat_instructions.specs.Grammar.{Context, by_group, Instructions, is_name, label_of, position}
 use Rattle.wat_instructions.specs.Names.{are_distinct}
-use Rattle.wat_instructions.specs.Terminals.{Terminal, Open, Close, Word, Label}
+use Rattle.wat_instructions.specs.Terminals.{Terminal, Open, Close, Label}
 use Rattle.wat_instructions.specs.Types.{FunctionType, Types, brought}
 use Rattle.wat_instructions.specs.Uses.{AreAmong, MoreTypesKeep, UnknownTypesBring, and_more, expression_types, unknown, retyped}
 use Rattle.wat_fields.specs.declared.fields.IndexSpace.{IndexSpace}
-use Rattle.wat_fields.specs.Fields.{Variable, NamedUse, named_use, unnamed, name_of, type_of, without_names, ExternType, FuncType, Elements, Target, target, Many, by_none, by_more, TypeUseIs, by_lists, by_index, by_both, by_unknown, ExternIs, by_type_use, by_table_type, by_memory_type, by_global_type, ExpressionIs, by_word_expression, by_instruction, ItemIs, by_item, FunctionIs, by_function, ElementsAre, by_items, by_functions, Field, Function, Func, Import, Global, Table, Elem, ElemMode, Passive, Active, Declarative, Data, is_u32, table_of, FieldIs, by_type, by_import, by_inline_import, by_func, by_table, by_table_items, by_table_functions, by_memory, by_memory_data, by_global, by_export, by_start, by_passive_elem, by_declarative_elem, by_active_elem, by_function_elem, by_passive_data, by_active_data}
+use Rattle.wat_fields.specs.Fields.{Variable, NamedUse, named_use, unnamed, name_of, type_of, without_names, ExternType, FuncType, Elements, target, Many, by_none, by_more, TypeUseIs, by_lists, by_index, by_both, by_unknown, ExternIs, by_type_use, by_table_type, by_memory_type, by_global_type, ExpressionIs, by_word_expression, by_instruction, ItemIs, by_item, FunctionIs, by_function, ElementsAre, by_items, by_functions, Field, Function, Func, Import, Global, Table, Elem, Passive, Active, Declarative, Data, is_u32, table_of, FieldIs, by_type, by_import, by_inline_import, by_func, by_table, by_table_items, by_table_functions, by_memory, by_memory_data, by_global, by_export, by_start, by_passive_elem, by_declarative_elem, by_active_elem, by_function_elem, by_passive_data, by_active_data}
 use Rattle.wat_fields.specs.ImplicitTypes.{extern_types, field_types}
 
 never : {A : Type 0} (same : Bool) → same ≡ false → same ≡ true → A

@@ -1,10 +1,11 @@
 -- What the code's tokens, names, variables and type uses are in the definitions, and what a call that reads promises.
-use Rattle.std.specs.Prelude.{◌≡◌, ◌≤◌, ◌+◌, ◌++◌, ℕ, List, [], map, Some, None, Ok, Err}
+use Rattle.std.specs.Prelude.{◌≡◌, ◌≤◌, ◌++◌, ℕ, List, [], map, Some, None, Ok, Err}
 use Rattle.wat_instructions.specs.declared.pieces.Refusal.{Refusal}
 use Rattle.wat_instructions.specs.declared.pieces.Refusal.TheVariants as refusal
 use Rattle.wat_instructions.specs.Parts.{fault_of}
 use Rattle.wat_instructions.specs.Grammar.{Context}
-use Rattle.wat_instructions.specs.Terminals.{Terminal, Label, label, terminal}
+use Rattle.wat_instructions.specs.Pieces.{terminals_of}
+use Rattle.wat_instructions.specs.Terminals.{Terminal, Label, label}
 use Rattle.wat_instructions.specs.Types.{Types}
 use Rattle.wat_instructions.specs.Views.{type_of}
 use Rattle.wat_fields_read.specs.declared.module.Left as declared_left
@@ -19,7 +20,7 @@ use Rattle.wat_fields_read.specs.Reading.{Item, Depth, Before, Inside}
 
 -- the tokens at a place
 abbrev pub left_of : declared_left.Left → List Terminal
-left_of l = map terminal l.pieces.now
+left_of l = terminals_of l.pieces
 
 abbrev pub binding_of : declared_binding.Binding → Binding
 binding_of h = binding h.space (label h.name)

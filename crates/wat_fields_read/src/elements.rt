@@ -5,8 +5,9 @@ ghost use Rattle.wat_fields_read.specs.Reading as reading;
 ghost use Rattle.wat_fields.specs.Views.{expression_of, field_of, expressions_of, mode_of, text_of};
 ghost use Rattle.wat_fields_read.specs.Views.{IsItem, ItemFaults, NoItem, context_of};
 ghost use Rattle.wat_instructions.specs.Grammar.{label_of, reference_type};
+ghost use Rattle.wat_instructions.specs.Pieces.{terminals_of};
 ghost use Rattle.wat_instructions.specs.Parts.{Faults, fault_of};
-ghost use Rattle.wat_instructions.specs.Terminals.{label, terminal};
+ghost use Rattle.wat_instructions.specs.Terminals.{label};
 
 use crate::header::{after, closed};
 use crate::module::Left;
@@ -19,16 +20,17 @@ use wat_instructions::pieces::{
     Fault, FaultKind, Instruction, Name, Piece, ReferenceType, Refusal,
 };
 use wat_instructions::reading;
+use wat_instructions::source::Pieces;
 
 /// Elements by their instructions.
 fn items<'p, 'a>(
     alloc: Global,
     names: &Names<'a>,
-    pieces: &'p [Piece<'a>],
-) -> Result<(Vec<Vec<Instruction>>, &'p [Piece<'a>]), Refusal<'p, 'a>>
+    pieces: Pieces<'p, 'a>,
+) -> Result<(Vec<Vec<Instruction>>, Pieces<'p, 'a>), Refusal<'p, 'a>>
     ensures { MatchResult result
-        (λ r. reading.all (reading.element_item (context_of names.now)) (map terminal pieces.now) ≡ Ok (map expression_of r.0.items, map terminal r.1.now))
-        (λ e. Faults (reading.all (reading.element_item (context_of names.now)) (map terminal pieces.now)) e) }
+        (λ r. reading.all (reading.element_item (context_of names.now)) (terminals_of pieces.entry) ≡ Ok (map expression_of r.0.items, terminals_of r.1))
+        (λ e. Faults (reading.all (reading.element_item (context_of names.now)) (terminals_of pieces.entry)) e) }
 {
     wat_instructions::laws::machine_is_grammar();
     wat_instructions::laws::folded_is_grammar();
@@ -56,12 +58,12 @@ fn next_item<'p, 'a>(
 ) -> Result<Option<Left<'p, 'a>>, Refusal<'p, 'a>>
     ensures { MatchResult result
         (λ o. MatchOption o
-        (NoItem (reading.element_item (context_of names.now) (map terminal left.entry.pieces.now)) (map expression_of found.old.items) (map expression_of found.new.items))
-        (λ l. IsItem (reading.element_item (context_of names.now) (map terminal left.entry.pieces.now)) (map expression_of found.old.items) (map expression_of found.new.items) (map terminal l.pieces.now)))
-        (λ e. ItemFaults (reading.element_item (context_of names.now) (map terminal left.entry.pieces.now)) e) }
+        (NoItem (reading.element_item (context_of names.now) (terminals_of left.entry.pieces)) (map expression_of found.old.items) (map expression_of found.new.items))
+        (λ l. IsItem (reading.element_item (context_of names.now) (terminals_of left.entry.pieces)) (map expression_of found.old.items) (map expression_of found.new.items) (terminals_of l.pieces)))
+        (λ e. ItemFaults (reading.element_item (context_of names.now) (terminals_of left.entry.pieces)) e) }
 {
-    match left.pieces {
-        [Piece::Open, ..] => match expression(alloc, names, "item", left.pieces) {
+    match left.pieces.first() {
+        Some((Piece::Open, _)) => match expression(alloc, names, "item", left.pieces) {
             Ok((element, pieces)) => {
                 found.push(element)?;
                 Ok(Some(Left { pieces }))
@@ -76,11 +78,11 @@ fn next_item<'p, 'a>(
 fn functions<'p, 'a>(
     alloc: Global,
     names: &Names<'a>,
-    pieces: &'p [Piece<'a>],
-) -> Result<(Vec<usize>, &'p [Piece<'a>]), Refusal<'p, 'a>>
+    pieces: Pieces<'p, 'a>,
+) -> Result<(Vec<usize>, Pieces<'p, 'a>), Refusal<'p, 'a>>
     ensures { MatchResult result
-        (λ r. reading.all (reading.function_item (context_of names.now)) (map terminal pieces.now) ≡ Ok (map grammar.ref_func r.0.items, map terminal r.1.now))
-        (λ e. Faults (reading.all (reading.function_item (context_of names.now)) (map terminal pieces.now)) e) }
+        (λ r. reading.all (reading.function_item (context_of names.now)) (terminals_of pieces.entry) ≡ Ok (map grammar.ref_func r.0.items, terminals_of r.1))
+        (λ e. Faults (reading.all (reading.function_item (context_of names.now)) (terminals_of pieces.entry)) e) }
 {
     wat_instructions::laws::machine_is_grammar();
     wat_instructions::laws::folded_is_grammar();
@@ -107,12 +109,12 @@ fn next_function<'p, 'a>(
 ) -> Result<Option<Left<'p, 'a>>, Refusal<'p, 'a>>
     ensures { MatchResult result
         (λ o. MatchOption o
-        (NoItem (reading.function_item (context_of names.now) (map terminal left.entry.pieces.now)) (map grammar.ref_func found.old.items) (map grammar.ref_func found.new.items))
-        (λ l. IsItem (reading.function_item (context_of names.now) (map terminal left.entry.pieces.now)) (map grammar.ref_func found.old.items) (map grammar.ref_func found.new.items) (map terminal l.pieces.now)))
-        (λ e. ItemFaults (reading.function_item (context_of names.now) (map terminal left.entry.pieces.now)) e) }
+        (NoItem (reading.function_item (context_of names.now) (terminals_of left.entry.pieces)) (map grammar.ref_func found.old.items) (map grammar.ref_func found.new.items))
+        (λ l. IsItem (reading.function_item (context_of names.now) (terminals_of left.entry.pieces)) (map grammar.ref_func found.old.items) (map grammar.ref_func found.new.items) (terminals_of l.pieces)))
+        (λ e. ItemFaults (reading.function_item (context_of names.now) (terminals_of left.entry.pieces)) e) }
 {
-    match left.pieces {
-        [Piece::Integer(_, _) | Piece::Id(_), ..] => {
+    match left.pieces.first() {
+        Some((Piece::Integer(_, _) | Piece::Id(_), _)) => {
             let (index, pieces) = reading::index(&names.funcs, left.pieces)?;
             found.push(index)?;
             Ok(Some(Left { pieces }))
@@ -126,14 +128,14 @@ fn next_function<'p, 'a>(
 fn either<'p, 'a>(
     alloc: Global,
     names: &Names<'a>,
-    pieces: &'p [Piece<'a>],
-) -> Result<(Elements, &'p [Piece<'a>]), Refusal<'p, 'a>>
+    pieces: Pieces<'p, 'a>,
+) -> Result<(Elements, Pieces<'p, 'a>), Refusal<'p, 'a>>
     ensures { MatchResult result
-        (λ r. reading.either_at (context_of names.now) (map terminal pieces.now) ≡ Ok (expressions_of r.0, map terminal r.1.now))
-        (λ e. Faults (reading.either_at (context_of names.now) (map terminal pieces.now)) e) }
+        (λ r. reading.either_at (context_of names.now) (terminals_of pieces.entry) ≡ Ok (expressions_of r.0, terminals_of r.1))
+        (λ e. Faults (reading.either_at (context_of names.now) (terminals_of pieces.entry)) e) }
 {
-    match pieces {
-        [Piece::Open, ..] => {
+    match pieces.first() {
+        Some((Piece::Open, _)) => {
             let (expressions, rest) = items(alloc, names, pieces)?;
             Ok((Elements::Expressions(expressions), rest))
         }
@@ -151,31 +153,33 @@ pub(crate) fn table_at<'p, 'a>(
     names: &Names<'a>,
     name: Name<'a>,
     exports: Vec<&'a [u8]>,
-    pieces: &'p [Piece<'a>],
-) -> Result<(Field<'a>, &'p [Piece<'a>]), Refusal<'p, 'a>>
+    pieces: Pieces<'p, 'a>,
+) -> Result<(Field<'a>, Pieces<'p, 'a>), Refusal<'p, 'a>>
     ensures { MatchResult result
-        (λ r. reading.table_at (context_of names.now) (label name.entry) (map text_of exports.entry.items) (map terminal pieces.now) ≡ Ok (field_of r.0 ∷ [], map terminal r.1.now))
-        (λ e. Faults (reading.table_at (context_of names.now) (label name.entry) (map text_of exports.entry.items) (map terminal pieces.now)) e) }
+        (λ r. reading.table_at (context_of names.now) (label name.entry) (map text_of exports.entry.items) (terminals_of pieces.entry) ≡ Ok (field_of r.0 ∷ [], terminals_of r.1))
+        (λ e. Faults (reading.table_at (context_of names.now) (label name.entry) (map text_of exports.entry.items) (terminals_of pieces.entry)) e) }
 {
-    match pieces {
-        [Piece::Word(word), rest @ ..] => match reading::reference_type(word) {
+    match pieces.first() {
+        Some((Piece::Word(word), rest)) => match reading::reference_type(word) {
             Some(of) => table_open(alloc, names, name, exports, of, rest),
             None => Err(Refusal::Text(Fault {
                 kind: FaultKind::UnknownWord,
                 left: pieces,
             })),
         },
-        [
-            Piece::Open
-            | Piece::Close
-            | Piece::Id(_)
-            | Piece::Integer(_, _)
-            | Piece::Text(_)
-            | Piece::Float(_, _)
-            | Piece::Other,
-            ..
-        ] => Ok(table_limits(name, exports, pieces)?),
-        [] => Ok(table_limits(name, exports, pieces)?),
+        Some(
+            (
+                Piece::Open
+                | Piece::Close
+                | Piece::Id(_)
+                | Piece::Integer(_, _)
+                | Piece::Text(_)
+                | Piece::Float(_)
+                | Piece::Other,
+                _,
+            ),
+        ) => Ok(table_limits(name, exports, pieces)?),
+        None => Ok(table_limits(name, exports, pieces)?),
     }
 }
 
@@ -183,11 +187,11 @@ pub(crate) fn table_at<'p, 'a>(
 fn table_limits<'p, 'a>(
     name: Name<'a>,
     exports: Vec<&'a [u8]>,
-    pieces: &'p [Piece<'a>],
-) -> Result<(Field<'a>, &'p [Piece<'a>]), Fault<'p, 'a>>
+    pieces: Pieces<'p, 'a>,
+) -> Result<(Field<'a>, Pieces<'p, 'a>), Fault<'p, 'a>>
     ensures { MatchResult result
-        (λ r. reading.table_limits (label name.entry) (map text_of exports.entry.items) (map terminal pieces.now) ≡ Ok (field_of r.0 ∷ [], map terminal r.1.now))
-        (λ f. reading.table_limits (label name.entry) (map text_of exports.entry.items) (map terminal pieces.now) ≡ Err (fault_of f)) }
+        (λ r. reading.table_limits (label name.entry) (map text_of exports.entry.items) (terminals_of pieces.entry) ≡ Ok (field_of r.0 ∷ [], terminals_of r.1))
+        (λ f. reading.table_limits (label name.entry) (map text_of exports.entry.items) (terminals_of pieces.entry) ≡ Err (fault_of f)) }
 {
     let (of, rest) = table_type(pieces)?;
     let rest = closed(rest)?;
@@ -209,11 +213,11 @@ fn table_open<'p, 'a>(
     name: Name<'a>,
     exports: Vec<&'a [u8]>,
     of: ReferenceType,
-    pieces: &'p [Piece<'a>],
-) -> Result<(Field<'a>, &'p [Piece<'a>]), Refusal<'p, 'a>>
+    pieces: Pieces<'p, 'a>,
+) -> Result<(Field<'a>, Pieces<'p, 'a>), Refusal<'p, 'a>>
     ensures { MatchResult result
-        (λ r. reading.table_by (context_of names.now) (label name.entry) (map text_of exports.entry.items) (Some of) (map terminal pieces.now) (map terminal pieces.now) ≡ Ok (field_of r.0 ∷ [], map terminal r.1.now))
-        (λ e. Faults (reading.table_by (context_of names.now) (label name.entry) (map text_of exports.entry.items) (Some of) (map terminal pieces.now) (map terminal pieces.now)) e) }
+        (λ r. reading.table_by (context_of names.now) (label name.entry) (map text_of exports.entry.items) (Some of) (terminals_of pieces.entry) (terminals_of pieces.entry) ≡ Ok (field_of r.0 ∷ [], terminals_of r.1))
+        (λ e. Faults (reading.table_by (context_of names.now) (label name.entry) (map text_of exports.entry.items) (Some of) (terminals_of pieces.entry) (terminals_of pieces.entry)) e) }
 {
     match after("elem", pieces) {
         Some(rest) => table_elements(alloc, names, name, exports, of, rest),
@@ -231,11 +235,11 @@ fn table_elements<'p, 'a>(
     name: Name<'a>,
     exports: Vec<&'a [u8]>,
     of: ReferenceType,
-    pieces: &'p [Piece<'a>],
-) -> Result<(Field<'a>, &'p [Piece<'a>]), Refusal<'p, 'a>>
+    pieces: Pieces<'p, 'a>,
+) -> Result<(Field<'a>, Pieces<'p, 'a>), Refusal<'p, 'a>>
     ensures { MatchResult result
-        (λ r. reading.table_elements (context_of names.now) (label name.entry) (map text_of exports.entry.items) of (map terminal pieces.now) ≡ Ok (field_of r.0 ∷ [], map terminal r.1.now))
-        (λ e. Faults (reading.table_elements (context_of names.now) (label name.entry) (map text_of exports.entry.items) of (map terminal pieces.now)) e) }
+        (λ r. reading.table_elements (context_of names.now) (label name.entry) (map text_of exports.entry.items) of (terminals_of pieces.entry) ≡ Ok (field_of r.0 ∷ [], terminals_of r.1))
+        (λ e. Faults (reading.table_elements (context_of names.now) (label name.entry) (map text_of exports.entry.items) of (terminals_of pieces.entry)) e) }
 {
     let (elements, rest) = either(alloc, names, pieces)?;
     let rest = twice_closed(rest)?;
@@ -247,13 +251,13 @@ fn table_with<'p, 'a>(
     name: Name<'a>,
     exports: Vec<&'a [u8]>,
     of: ReferenceType,
-    all: &'p [Piece<'a>],
+    all: Pieces<'p, 'a>,
     elements: Elements,
-    rest: &'p [Piece<'a>],
-) -> Result<(Field<'a>, &'p [Piece<'a>]), Fault<'p, 'a>>
+    rest: Pieces<'p, 'a>,
+) -> Result<(Field<'a>, Pieces<'p, 'a>), Fault<'p, 'a>>
     ensures { MatchResult result
-        (λ r. reading.table_with (label name.entry) (map text_of exports.entry.items) of (map terminal all.now) (expressions_of elements) (map terminal rest.now) ≡ Ok (field_of r.0 ∷ [], map terminal r.1.now))
-        (λ f. reading.table_with (label name.entry) (map text_of exports.entry.items) of (map terminal all.now) (expressions_of elements) (map terminal rest.now) ≡ Err (fault_of f)) }
+        (λ r. reading.table_with (label name.entry) (map text_of exports.entry.items) of (terminals_of all.entry) (expressions_of elements) (terminals_of rest.entry) ≡ Ok (field_of r.0 ∷ [], terminals_of r.1))
+        (λ f. reading.table_with (label name.entry) (map text_of exports.entry.items) of (terminals_of all.entry) (expressions_of elements) (terminals_of rest.entry) ≡ Err (fault_of f)) }
 {
     if elements.len() >= 0x1_0000_0000 {
         return Err(Fault {
@@ -284,14 +288,14 @@ fn table_with<'p, 'a>(
 fn elements<'p, 'a>(
     alloc: Global,
     names: &Names<'a>,
-    pieces: &'p [Piece<'a>],
-) -> Result<((ReferenceType, Elements), &'p [Piece<'a>]), Refusal<'p, 'a>>
+    pieces: Pieces<'p, 'a>,
+) -> Result<((ReferenceType, Elements), Pieces<'p, 'a>), Refusal<'p, 'a>>
     ensures { MatchResult result
-        (λ r. reading.elements_at (context_of names.now) (map terminal pieces.now) ≡ Ok ((r.0.0, expressions_of r.0.1), map terminal r.1.now))
-        (λ e. Faults (reading.elements_at (context_of names.now) (map terminal pieces.now)) e) }
+        (λ r. reading.elements_at (context_of names.now) (terminals_of pieces.entry) ≡ Ok ((r.0.0, expressions_of r.0.1), terminals_of r.1))
+        (λ e. Faults (reading.elements_at (context_of names.now) (terminals_of pieces.entry)) e) }
 {
-    match pieces {
-        [Piece::Word(word), rest @ ..] => elements_after(alloc, names, *word, pieces, rest),
+    match pieces.first() {
+        Some((Piece::Word(word), rest)) => elements_after(alloc, names, word, pieces, rest),
         _ => Err(Refusal::Text(Fault {
             kind: FaultKind::Unexpected,
             left: pieces,
@@ -304,12 +308,12 @@ fn elements_after<'p, 'a>(
     alloc: Global,
     names: &Names<'a>,
     word: &str,
-    all: &'p [Piece<'a>],
-    pieces: &'p [Piece<'a>],
-) -> Result<((ReferenceType, Elements), &'p [Piece<'a>]), Refusal<'p, 'a>>
+    all: Pieces<'p, 'a>,
+    pieces: Pieces<'p, 'a>,
+) -> Result<((ReferenceType, Elements), Pieces<'p, 'a>), Refusal<'p, 'a>>
     ensures { MatchResult result
-        (λ r. reading.elements_by (context_of names.now) word.now (reference_type word.now) (map terminal all.now) (map terminal pieces.now) ≡ Ok ((r.0.0, expressions_of r.0.1), map terminal r.1.now))
-        (λ e. Faults (reading.elements_by (context_of names.now) word.now (reference_type word.now) (map terminal all.now) (map terminal pieces.now)) e) }
+        (λ r. reading.elements_by (context_of names.now) word.now (reference_type word.now) (terminals_of all.entry) (terminals_of pieces.entry) ≡ Ok ((r.0.0, expressions_of r.0.1), terminals_of r.1))
+        (λ e. Faults (reading.elements_by (context_of names.now) word.now (reference_type word.now) (terminals_of all.entry) (terminals_of pieces.entry)) e) }
 {
     match reading::reference_type(word) {
         Some(of) => {
@@ -336,11 +340,11 @@ fn elem_list<'p, 'a>(
     names: &Names<'a>,
     name: Name<'a>,
     mode: ElemMode,
-    pieces: &'p [Piece<'a>],
-) -> Result<(Field<'a>, &'p [Piece<'a>]), Refusal<'p, 'a>>
+    pieces: Pieces<'p, 'a>,
+) -> Result<(Field<'a>, Pieces<'p, 'a>), Refusal<'p, 'a>>
     ensures { MatchResult result
-        (λ r. reading.elem_list (context_of names.now) (label name.entry) (mode_of mode) (map terminal pieces.now) ≡ Ok (field_of r.0 ∷ [], map terminal r.1.now))
-        (λ e. Faults (reading.elem_list (context_of names.now) (label name.entry) (mode_of mode) (map terminal pieces.now)) e) }
+        (λ r. reading.elem_list (context_of names.now) (label name.entry) (mode_of mode) (terminals_of pieces.entry) ≡ Ok (field_of r.0 ∷ [], terminals_of r.1))
+        (λ e. Faults (reading.elem_list (context_of names.now) (label name.entry) (mode_of mode) (terminals_of pieces.entry)) e) }
 {
     let ((of, elements), rest) = elements(alloc, names, pieces)?;
     let rest = closed(rest)?;
@@ -361,11 +365,11 @@ fn functions_list<'p, 'a>(
     names: &Names<'a>,
     name: Name<'a>,
     mode: ElemMode,
-    pieces: &'p [Piece<'a>],
-) -> Result<(Field<'a>, &'p [Piece<'a>]), Refusal<'p, 'a>>
+    pieces: Pieces<'p, 'a>,
+) -> Result<(Field<'a>, Pieces<'p, 'a>), Refusal<'p, 'a>>
     ensures { MatchResult result
-        (λ r. reading.functions_list (context_of names.now) (label name.entry) (mode_of mode) (map terminal pieces.now) ≡ Ok (field_of r.0 ∷ [], map terminal r.1.now))
-        (λ e. Faults (reading.functions_list (context_of names.now) (label name.entry) (mode_of mode) (map terminal pieces.now)) e) }
+        (λ r. reading.functions_list (context_of names.now) (label name.entry) (mode_of mode) (terminals_of pieces.entry) ≡ Ok (field_of r.0 ∷ [], terminals_of r.1))
+        (λ e. Faults (reading.functions_list (context_of names.now) (label name.entry) (mode_of mode) (terminals_of pieces.entry)) e) }
 {
     let (functions, rest) = functions(alloc, names, pieces)?;
     let rest = closed(rest)?;
@@ -387,14 +391,14 @@ fn first_table<'p, 'a>(
     names: &Names<'a>,
     name: Name<'a>,
     mode: ElemMode,
-    pieces: &'p [Piece<'a>],
-) -> Result<(Field<'a>, &'p [Piece<'a>]), Refusal<'p, 'a>>
+    pieces: Pieces<'p, 'a>,
+) -> Result<(Field<'a>, Pieces<'p, 'a>), Refusal<'p, 'a>>
     ensures { MatchResult result
-        (λ r. reading.first_table (context_of names.now) (label name.entry) (mode_of mode) (map terminal pieces.now) ≡ Ok (field_of r.0 ∷ [], map terminal r.1.now))
-        (λ e. Faults (reading.first_table (context_of names.now) (label name.entry) (mode_of mode) (map terminal pieces.now)) e) }
+        (λ r. reading.first_table (context_of names.now) (label name.entry) (mode_of mode) (terminals_of pieces.entry) ≡ Ok (field_of r.0 ∷ [], terminals_of r.1))
+        (λ e. Faults (reading.first_table (context_of names.now) (label name.entry) (mode_of mode) (terminals_of pieces.entry)) e) }
 {
-    match pieces {
-        [Piece::Word(_), ..] => elem_list(alloc, names, name, mode, pieces),
+    match pieces.first() {
+        Some((Piece::Word(_), _)) => elem_list(alloc, names, name, mode, pieces),
         _ => functions_list(alloc, names, name, mode, pieces),
     }
 }
@@ -404,11 +408,11 @@ fn said_table<'p, 'a>(
     alloc: Global,
     names: &Names<'a>,
     name: Name<'a>,
-    pieces: &'p [Piece<'a>],
-) -> Result<(Field<'a>, &'p [Piece<'a>]), Refusal<'p, 'a>>
+    pieces: Pieces<'p, 'a>,
+) -> Result<(Field<'a>, Pieces<'p, 'a>), Refusal<'p, 'a>>
     ensures { MatchResult result
-        (λ r. reading.said_table (context_of names.now) (label name.entry) (map terminal pieces.now) ≡ Ok (field_of r.0 ∷ [], map terminal r.1.now))
-        (λ e. Faults (reading.said_table (context_of names.now) (label name.entry) (map terminal pieces.now)) e) }
+        (λ r. reading.said_table (context_of names.now) (label name.entry) (terminals_of pieces.entry) ≡ Ok (field_of r.0 ∷ [], terminals_of r.1))
+        (λ e. Faults (reading.said_table (context_of names.now) (label name.entry) (terminals_of pieces.entry)) e) }
 {
     let (index, rest) = used("table", &names.tables, pieces)?;
     let (offset, rest) = expression(alloc, names, "offset", rest)?;
@@ -421,11 +425,11 @@ fn active_elem<'p, 'a>(
     alloc: Global,
     names: &Names<'a>,
     name: Name<'a>,
-    pieces: &'p [Piece<'a>],
-) -> Result<(Field<'a>, &'p [Piece<'a>]), Refusal<'p, 'a>>
+    pieces: Pieces<'p, 'a>,
+) -> Result<(Field<'a>, Pieces<'p, 'a>), Refusal<'p, 'a>>
     ensures { MatchResult result
-        (λ r. reading.active_elem (context_of names.now) (label name.entry) (reading.after (codes "table") (map terminal pieces.now)) (map terminal pieces.now) ≡ Ok (field_of r.0 ∷ [], map terminal r.1.now))
-        (λ e. Faults (reading.active_elem (context_of names.now) (label name.entry) (reading.after (codes "table") (map terminal pieces.now)) (map terminal pieces.now)) e) }
+        (λ r. reading.active_elem (context_of names.now) (label name.entry) (reading.after (codes "table") (terminals_of pieces.entry)) (terminals_of pieces.entry) ≡ Ok (field_of r.0 ∷ [], terminals_of r.1))
+        (λ e. Faults (reading.active_elem (context_of names.now) (label name.entry) (reading.after (codes "table") (terminals_of pieces.entry)) (terminals_of pieces.entry)) e) }
 {
     match after("table", pieces) {
         Some(_) => said_table(alloc, names, name, pieces),
@@ -447,11 +451,11 @@ fn active_elem<'p, 'a>(
 pub(crate) fn elem_at<'p, 'a>(
     alloc: Global,
     names: &Names<'a>,
-    pieces: &'p [Piece<'a>],
-) -> Result<(Field<'a>, &'p [Piece<'a>]), Refusal<'p, 'a>>
+    pieces: Pieces<'p, 'a>,
+) -> Result<(Field<'a>, Pieces<'p, 'a>), Refusal<'p, 'a>>
     ensures { MatchResult result
-        (λ r. reading.elem_at (context_of names.now) (label_of (map terminal pieces.now)) ≡ Ok (field_of r.0 ∷ [], map terminal r.1.now))
-        (λ e. Faults (reading.elem_at (context_of names.now) (label_of (map terminal pieces.now))) e) }
+        (λ r. reading.elem_at (context_of names.now) (label_of (terminals_of pieces.entry)) ≡ Ok (field_of r.0 ∷ [], terminals_of r.1))
+        (λ e. Faults (reading.elem_at (context_of names.now) (label_of (terminals_of pieces.entry))) e) }
 {
     let (name, rest) = reading::label(pieces);
     elem_after(alloc, names, name, rest)
@@ -463,15 +467,15 @@ fn elem_after<'p, 'a>(
     alloc: Global,
     names: &Names<'a>,
     name: Name<'a>,
-    pieces: &'p [Piece<'a>],
-) -> Result<(Field<'a>, &'p [Piece<'a>]), Refusal<'p, 'a>>
+    pieces: Pieces<'p, 'a>,
+) -> Result<(Field<'a>, Pieces<'p, 'a>), Refusal<'p, 'a>>
     ensures { MatchResult result
-        (λ r. reading.elem_after (context_of names.now) (label name.entry) (map terminal pieces.now) ≡ Ok (field_of r.0 ∷ [], map terminal r.1.now))
-        (λ e. Faults (reading.elem_after (context_of names.now) (label name.entry) (map terminal pieces.now)) e) }
+        (λ r. reading.elem_after (context_of names.now) (label name.entry) (terminals_of pieces.entry) ≡ Ok (field_of r.0 ∷ [], terminals_of r.1))
+        (λ e. Faults (reading.elem_after (context_of names.now) (label name.entry) (terminals_of pieces.entry)) e) }
 {
-    match pieces {
-        [Piece::Open, ..] => active_elem(alloc, names, name, pieces),
-        [Piece::Word(word), rest @ ..] => elem_word(alloc, names, name, *word, pieces, rest),
+    match pieces.first() {
+        Some((Piece::Open, _)) => active_elem(alloc, names, name, pieces),
+        Some((Piece::Word(word), rest)) => elem_word(alloc, names, name, word, pieces, rest),
         _ => Err(Refusal::Text(Fault {
             kind: FaultKind::Unexpected,
             left: pieces,
@@ -486,12 +490,12 @@ fn elem_word<'p, 'a>(
     names: &Names<'a>,
     name: Name<'a>,
     word: &str,
-    all: &'p [Piece<'a>],
-    pieces: &'p [Piece<'a>],
-) -> Result<(Field<'a>, &'p [Piece<'a>]), Refusal<'p, 'a>>
+    all: Pieces<'p, 'a>,
+    pieces: Pieces<'p, 'a>,
+) -> Result<(Field<'a>, Pieces<'p, 'a>), Refusal<'p, 'a>>
     ensures { MatchResult result
-        (λ r. reading.elem_word (context_of names.now) (label name.entry) word.now (map terminal all.now) (map terminal pieces.now) ≡ Ok (field_of r.0 ∷ [], map terminal r.1.now))
-        (λ e. Faults (reading.elem_word (context_of names.now) (label name.entry) word.now (map terminal all.now) (map terminal pieces.now)) e) }
+        (λ r. reading.elem_word (context_of names.now) (label name.entry) word.now (terminals_of all.entry) (terminals_of pieces.entry) ≡ Ok (field_of r.0 ∷ [], terminals_of r.1))
+        (λ e. Faults (reading.elem_word (context_of names.now) (label name.entry) word.now (terminals_of all.entry) (terminals_of pieces.entry)) e) }
 {
     if word == "declare" {
         return elem_list(alloc, names, name, ElemMode::Declarative, pieces);

@@ -5,8 +5,8 @@ ghost use Rattle.wat_fields.specs.Fields.{unnamed};
 ghost use Rattle.wat_fields_read.specs.Reading as reading;
 ghost use Rattle.wat_fields.specs.Views.{text_of};
 ghost use Rattle.wat_fields_read.specs.Views.{IsItem, ItemFaults, NoItem, variable_of};
+ghost use Rattle.wat_instructions.specs.Pieces.{terminals_of};
 ghost use Rattle.wat_instructions.specs.Parts.{Faults, fault_of};
-ghost use Rattle.wat_instructions.specs.Terminals.{terminal};
 
 use crate::module::Left;
 use crate::variables::Variable;
@@ -14,15 +14,16 @@ use std::alloc::{AllocError, Global};
 use std::str;
 use wat_instructions::pieces::{Fault, FaultKind, Name, Piece, Refusal, ValueType};
 use wat_instructions::reading::value_type;
+use wat_instructions::source::Pieces;
 
 /// The names under which an item is exported.
 pub(crate) fn exports<'p, 'a>(
     alloc: Global,
-    pieces: &'p [Piece<'a>],
-) -> Result<(Vec<&'a [u8]>, &'p [Piece<'a>]), Refusal<'p, 'a>>
+    pieces: Pieces<'p, 'a>,
+) -> Result<(Vec<&'a [u8]>, Pieces<'p, 'a>), Refusal<'p, 'a>>
     ensures { MatchResult result
-        (λ r. reading.all reading.export_item (map terminal pieces.now) ≡ Ok (map text_of r.0.items, map terminal r.1.now))
-        (λ e. Faults (reading.all reading.export_item (map terminal pieces.now)) e) }
+        (λ r. reading.all reading.export_item (terminals_of pieces.entry) ≡ Ok (map text_of r.0.items, terminals_of r.1))
+        (λ e. Faults (reading.all reading.export_item (terminals_of pieces.entry)) e) }
 {
     let mut found = Vec::new(alloc);
     let mut left = Left { pieces };
@@ -42,11 +43,11 @@ pub(crate) fn variables<'p, 'a>(
     alloc: Global,
     word: &str,
     may_have_name: bool,
-    pieces: &'p [Piece<'a>],
-) -> Result<(Vec<Variable<'a>>, &'p [Piece<'a>]), Refusal<'p, 'a>>
+    pieces: Pieces<'p, 'a>,
+) -> Result<(Vec<Variable<'a>>, Pieces<'p, 'a>), Refusal<'p, 'a>>
     ensures { MatchResult result
-        (λ r. reading.all (reading.group_item word.now may_have_name) (map terminal pieces.now) ≡ Ok (map variable_of r.0.items, map terminal r.1.now))
-        (λ e. Faults (reading.all (reading.group_item word.now may_have_name) (map terminal pieces.now)) e) }
+        (λ r. reading.all (reading.group_item word.now may_have_name) (terminals_of pieces.entry) ≡ Ok (map variable_of r.0.items, terminals_of r.1))
+        (λ e. Faults (reading.all (reading.group_item word.now may_have_name) (terminals_of pieces.entry)) e) }
 {
     let mut found = Vec::new(alloc);
     let mut left = Left { pieces };
@@ -64,11 +65,11 @@ pub(crate) fn variables<'p, 'a>(
 /// Value types.
 fn values<'p, 'a>(
     alloc: Global,
-    pieces: &'p [Piece<'a>],
-) -> Result<(Vec<ValueType>, &'p [Piece<'a>]), Refusal<'p, 'a>>
+    pieces: Pieces<'p, 'a>,
+) -> Result<(Vec<ValueType>, Pieces<'p, 'a>), Refusal<'p, 'a>>
     ensures { MatchResult result
-        (λ r. reading.all reading.value_item (map terminal pieces.now) ≡ Ok (r.0.items, map terminal r.1.now))
-        (λ e. Faults (reading.all reading.value_item (map terminal pieces.now)) e) }
+        (λ r. reading.all reading.value_item (terminals_of pieces.entry) ≡ Ok (r.0.items, terminals_of r.1))
+        (λ e. Faults (reading.all reading.value_item (terminals_of pieces.entry)) e) }
 {
     let mut found = Vec::new(alloc);
     let mut left = Left { pieces };
@@ -84,33 +85,33 @@ fn values<'p, 'a>(
 }
 
 /// What comes after `(` and a word, where the tokens begin so.
-pub(crate) fn after<'p, 'a>(word: &str, pieces: &'p [Piece<'a>]) -> Option<&'p [Piece<'a>]>
-    ensures { MatchOption result (reading.after word.now (map terminal pieces.now) ≡ None) (λ r. reading.after word.now (map terminal pieces.now) ≡ Some (map terminal r.now)) }
+pub(crate) fn after<'p, 'a>(word: &str, pieces: Pieces<'p, 'a>) -> Option<Pieces<'p, 'a>>
+    ensures { MatchOption result (reading.after word.now (terminals_of pieces.entry) ≡ None) (λ r. reading.after word.now (terminals_of pieces.entry) ≡ Some (terminals_of r)) }
 {
-    match pieces {
-        [Piece::Open, rest @ ..] => after_word(word, rest),
+    match pieces.first() {
+        Some((Piece::Open, rest)) => after_word(word, rest),
         _ => None,
     }
 }
 
 /// What comes after a word, where the tokens begin with it.
-fn after_word<'p, 'a>(word: &str, pieces: &'p [Piece<'a>]) -> Option<&'p [Piece<'a>]>
-    ensures { MatchOption result (reading.after_word word.now (map terminal pieces.now) ≡ None) (λ r. reading.after_word word.now (map terminal pieces.now) ≡ Some (map terminal r.now)) }
+fn after_word<'p, 'a>(word: &str, pieces: Pieces<'p, 'a>) -> Option<Pieces<'p, 'a>>
+    ensures { MatchOption result (reading.after_word word.now (terminals_of pieces.entry) ≡ None) (λ r. reading.after_word word.now (terminals_of pieces.entry) ≡ Some (terminals_of r)) }
 {
-    match pieces {
-        [Piece::Word(of), rest @ ..] => { if *of == word { Some(rest) } else { None } }
+    match pieces.first() {
+        Some((Piece::Word(of), rest)) => { if of == word { Some(rest) } else { None } }
         _ => None,
     }
 }
 
 /// What comes after `)`.
-pub(crate) fn closed<'p, 'a>(pieces: &'p [Piece<'a>]) -> Result<&'p [Piece<'a>], Fault<'p, 'a>>
+pub(crate) fn closed<'p, 'a>(pieces: Pieces<'p, 'a>) -> Result<Pieces<'p, 'a>, Fault<'p, 'a>>
     ensures { MatchResult result
-        (λ r. reading.closed (map terminal pieces.now) ≡ Ok (map terminal r.now))
-        (λ f. reading.closed (map terminal pieces.now) ≡ Err (fault_of f)) }
+        (λ r. reading.closed (terminals_of pieces.entry) ≡ Ok (terminals_of r))
+        (λ f. reading.closed (terminals_of pieces.entry) ≡ Err (fault_of f)) }
 {
-    match pieces {
-        [Piece::Close, rest @ ..] => Ok(rest),
+    match pieces.first() {
+        Some((Piece::Close, rest)) => Ok(rest),
         _ => Err(Fault {
             kind: FaultKind::Unexpected,
             left: pieces,
@@ -130,16 +131,16 @@ fn is_utf8(bytes: &[u8]) -> bool
 
 /// A string that is UTF-8.
 pub(crate) fn utf8_text<'p, 'a>(
-    pieces: &'p [Piece<'a>],
-) -> Result<(&'a [u8], &'p [Piece<'a>]), Fault<'p, 'a>>
+    pieces: Pieces<'p, 'a>,
+) -> Result<(&'a [u8], Pieces<'p, 'a>), Fault<'p, 'a>>
     ensures { MatchResult result
-        (λ r. reading.utf8_text (map terminal pieces.now) ≡ Ok (r.0.now, map terminal r.1.now))
-        (λ f. reading.utf8_text (map terminal pieces.now) ≡ Err (fault_of f)) }
+        (λ r. reading.utf8_text (terminals_of pieces.entry) ≡ Ok (r.0.now, terminals_of r.1))
+        (λ f. reading.utf8_text (terminals_of pieces.entry) ≡ Err (fault_of f)) }
 {
-    match pieces {
-        [Piece::Text(text), rest @ ..] => {
+    match pieces.first() {
+        Some((Piece::Text(text), rest)) => {
             if is_utf8(text) {
-                Ok((*text, rest))
+                Ok((text, rest))
             } else {
                 Err(Fault {
                     kind: FaultKind::NotUtf8,
@@ -156,10 +157,10 @@ pub(crate) fn utf8_text<'p, 'a>(
 
 /// The name of an export, and `)`.
 #[tactic(auto, unfolding(crate::specs::Reading::export))]
-fn export<'p, 'a>(pieces: &'p [Piece<'a>]) -> Result<(&'a [u8], &'p [Piece<'a>]), Fault<'p, 'a>>
+fn export<'p, 'a>(pieces: Pieces<'p, 'a>) -> Result<(&'a [u8], Pieces<'p, 'a>), Fault<'p, 'a>>
     ensures { MatchResult result
-        (λ r. reading.export (map terminal pieces.now) ≡ Ok (r.0.now ∷ [], map terminal r.1.now))
-        (λ f. reading.export (map terminal pieces.now) ≡ Err (fault_of f)) }
+        (λ r. reading.export (terminals_of pieces.entry) ≡ Ok (r.0.now ∷ [], terminals_of r.1))
+        (λ f. reading.export (terminals_of pieces.entry) ≡ Err (fault_of f)) }
 {
     let (name, rest) = utf8_text(pieces)?;
     let rest = closed(rest)?;
@@ -174,9 +175,9 @@ fn next_export<'p, 'a>(
 ) -> Result<Option<Left<'p, 'a>>, Refusal<'p, 'a>>
     ensures { MatchResult result
         (λ o. MatchOption o
-        (NoItem (reading.export_item (map terminal left.entry.pieces.now)) (map text_of found.old.items) (map text_of found.new.items))
-        (λ l. IsItem (reading.export_item (map terminal left.entry.pieces.now)) (map text_of found.old.items) (map text_of found.new.items) (map terminal l.pieces.now)))
-        (λ e. ItemFaults (reading.export_item (map terminal left.entry.pieces.now)) e) }
+        (NoItem (reading.export_item (terminals_of left.entry.pieces)) (map text_of found.old.items) (map text_of found.new.items))
+        (λ l. IsItem (reading.export_item (terminals_of left.entry.pieces)) (map text_of found.old.items) (map text_of found.new.items) (terminals_of l.pieces)))
+        (λ e. ItemFaults (reading.export_item (terminals_of left.entry.pieces)) e) }
 {
     match after("export", left.pieces) {
         Some(rest) => {
@@ -199,9 +200,9 @@ fn next_group<'p, 'a>(
 ) -> Result<Option<Left<'p, 'a>>, Refusal<'p, 'a>>
     ensures { MatchResult result
         (λ o. MatchOption o
-        (NoItem (reading.group_item word.now may_have_name (map terminal left.entry.pieces.now)) (map variable_of found.old.items) (map variable_of found.new.items))
-        (λ l. IsItem (reading.group_item word.now may_have_name (map terminal left.entry.pieces.now)) (map variable_of found.old.items) (map variable_of found.new.items) (map terminal l.pieces.now)))
-        (λ e. ItemFaults (reading.group_item word.now may_have_name (map terminal left.entry.pieces.now)) e) }
+        (NoItem (reading.group_item word.now may_have_name (terminals_of left.entry.pieces)) (map variable_of found.old.items) (map variable_of found.new.items))
+        (λ l. IsItem (reading.group_item word.now may_have_name (terminals_of left.entry.pieces)) (map variable_of found.old.items) (map variable_of found.new.items) (terminals_of l.pieces)))
+        (λ e. ItemFaults (reading.group_item word.now may_have_name (terminals_of left.entry.pieces)) e) }
 {
     match after(word, left.pieces) {
         Some(rest) => match group(alloc, may_have_name, rest) {
@@ -237,12 +238,12 @@ fn next_value<'p, 'a>(
 ) -> Result<Option<Left<'p, 'a>>, Refusal<'p, 'a>>
     ensures { MatchResult result
         (λ o. MatchOption o
-        (NoItem (reading.value_item (map terminal left.entry.pieces.now)) (found.old.items) (found.new.items))
-        (λ l. IsItem (reading.value_item (map terminal left.entry.pieces.now)) (found.old.items) (found.new.items) (map terminal l.pieces.now)))
-        (λ e. ItemFaults (reading.value_item (map terminal left.entry.pieces.now)) e) }
+        (NoItem (reading.value_item (terminals_of left.entry.pieces)) (found.old.items) (found.new.items))
+        (λ l. IsItem (reading.value_item (terminals_of left.entry.pieces)) (found.old.items) (found.new.items) (terminals_of l.pieces)))
+        (λ e. ItemFaults (reading.value_item (terminals_of left.entry.pieces)) e) }
 {
-    match left.pieces {
-        [Piece::Word(word), pieces @ ..] => match value_type(word) {
+    match left.pieces.first() {
+        Some((Piece::Word(word), pieces)) => match value_type(word) {
             Some(of) => {
                 found.push(of)?;
                 Ok(Some(Left { pieces }))
@@ -261,16 +262,16 @@ fn next_value<'p, 'a>(
 fn group<'p, 'a>(
     alloc: Global,
     may_have_name: bool,
-    pieces: &'p [Piece<'a>],
-) -> Result<(Vec<Variable<'a>>, &'p [Piece<'a>]), Refusal<'p, 'a>>
+    pieces: Pieces<'p, 'a>,
+) -> Result<(Vec<Variable<'a>>, Pieces<'p, 'a>), Refusal<'p, 'a>>
     ensures { MatchResult result
-        (λ r. reading.group may_have_name (map terminal pieces.now) ≡ Ok (map variable_of r.0.items, map terminal r.1.now))
-        (λ e. Faults (reading.group may_have_name (map terminal pieces.now)) e) }
+        (λ r. reading.group may_have_name (terminals_of pieces.entry) ≡ Ok (map variable_of r.0.items, terminals_of r.1))
+        (λ e. Faults (reading.group may_have_name (terminals_of pieces.entry)) e) }
 {
-    match pieces {
-        [Piece::Id(name), rest @ ..] => {
+    match pieces.first() {
+        Some((Piece::Id(name), rest)) => {
             if may_have_name {
-                named_one(alloc, *name, rest)
+                named_one(alloc, name, rest)
             } else {
                 Err(Refusal::Text(Fault {
                     kind: FaultKind::Unexpected,
@@ -286,14 +287,14 @@ fn group<'p, 'a>(
 fn named_one<'p, 'a>(
     alloc: Global,
     name: &'a str,
-    pieces: &'p [Piece<'a>],
-) -> Result<(Vec<Variable<'a>>, &'p [Piece<'a>]), Refusal<'p, 'a>>
+    pieces: Pieces<'p, 'a>,
+) -> Result<(Vec<Variable<'a>>, Pieces<'p, 'a>), Refusal<'p, 'a>>
     ensures { MatchResult result
-        (λ r. reading.named_one name.now (map terminal pieces.now) ≡ Ok (map variable_of r.0.items, map terminal r.1.now))
-        (λ e. Faults (reading.named_one name.now (map terminal pieces.now)) e) }
+        (λ r. reading.named_one name.now (terminals_of pieces.entry) ≡ Ok (map variable_of r.0.items, terminals_of r.1))
+        (λ e. Faults (reading.named_one name.now (terminals_of pieces.entry)) e) }
 {
-    match pieces {
-        [Piece::Word(word), rest @ ..] => match value_type(word) {
+    match pieces.first() {
+        Some((Piece::Word(word), rest)) => match value_type(word) {
             Some(of) => named_type(alloc, name, of, rest),
             None => Err(Refusal::Text(Fault {
                 kind: FaultKind::UnknownWord,
@@ -312,11 +313,11 @@ fn named_type<'p, 'a>(
     alloc: Global,
     name: &'a str,
     of: ValueType,
-    pieces: &'p [Piece<'a>],
-) -> Result<(Vec<Variable<'a>>, &'p [Piece<'a>]), Refusal<'p, 'a>>
+    pieces: Pieces<'p, 'a>,
+) -> Result<(Vec<Variable<'a>>, Pieces<'p, 'a>), Refusal<'p, 'a>>
     ensures { MatchResult result
-        (λ r. reading.named_type name.now (Some of) (map terminal pieces.now) (map terminal pieces.now) ≡ Ok (map variable_of r.0.items, map terminal r.1.now))
-        (λ e. Faults (reading.named_type name.now (Some of) (map terminal pieces.now) (map terminal pieces.now)) e) }
+        (λ r. reading.named_type name.now (Some of) (terminals_of pieces.entry) (terminals_of pieces.entry) ≡ Ok (map variable_of r.0.items, terminals_of r.1))
+        (λ e. Faults (reading.named_type name.now (Some of) (terminals_of pieces.entry) (terminals_of pieces.entry)) e) }
 {
     let rest = closed(pieces)?;
     let name = Name::Given(name);
@@ -329,11 +330,11 @@ fn named_type<'p, 'a>(
 #[tactic(auto, unfolding(crate::specs::Reading::listed))]
 fn listed<'p, 'a>(
     alloc: Global,
-    pieces: &'p [Piece<'a>],
-) -> Result<(Vec<Variable<'a>>, &'p [Piece<'a>]), Refusal<'p, 'a>>
+    pieces: Pieces<'p, 'a>,
+) -> Result<(Vec<Variable<'a>>, Pieces<'p, 'a>), Refusal<'p, 'a>>
     ensures { MatchResult result
-        (λ r. reading.listed (map terminal pieces.now) ≡ Ok (map variable_of r.0.items, map terminal r.1.now))
-        (λ e. Faults (reading.listed (map terminal pieces.now)) e) }
+        (λ r. reading.listed (terminals_of pieces.entry) ≡ Ok (map variable_of r.0.items, terminals_of r.1))
+        (λ e. Faults (reading.listed (terminals_of pieces.entry)) e) }
 {
     let (types, rest) = values(alloc, pieces)?;
     let rest = closed(rest)?;

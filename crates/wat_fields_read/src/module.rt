@@ -7,8 +7,9 @@ ghost use Rattle.wat_fields_read.specs.Reading as reading;
 ghost use Rattle.wat_fields.specs.Views.{extern_of, field_of, fields_of, text_of};
 ghost use Rattle.wat_fields_read.specs.Views.{IsItem, ItemFaults, NoItem, context_of, types_of, use_of, variable_of, with_names};
 ghost use Rattle.wat_instructions.specs.Grammar.{label_of};
+ghost use Rattle.wat_instructions.specs.Pieces.{terminals_of};
 ghost use Rattle.wat_instructions.specs.Parts.{Faults, IsMemory, fault_of, scope_of};
-ghost use Rattle.wat_instructions.specs.Terminals.{Terminal, label, terminal};
+ghost use Rattle.wat_instructions.specs.Terminals.{Terminal, label};
 ghost use Rattle.wat_instructions.specs.Uses.{unknown};
 ghost use Rattle.wat_instructions.specs.Views.{type_of};
 
@@ -26,12 +27,13 @@ use wat_instructions::machine;
 use wat_instructions::names::IndexedNames;
 use wat_instructions::pieces::{Fault, FaultKind, Instruction, Name, Piece, Refusal};
 use wat_instructions::reading::{self, Scope};
+use wat_instructions::source::Pieces;
 use wat_instructions::types::FunctionType;
 
 /// What is left to read.
 #[derive(Clone, Copy)]
 pub(crate) struct Left<'p, 'a> {
-    pub(crate) pieces: &'p [Piece<'a>],
+    pub(crate) pieces: Pieces<'p, 'a>,
 }
 
 /// The fields of a module.
@@ -40,12 +42,12 @@ pub(crate) struct Left<'p, 'a> {
 /// refusal is a fault with its place, or out of memory. What is borrowed lives as long as the text.
 pub fn module<'p, 'a>(
     alloc: Global,
-    pieces: &'p [Piece<'a>],
+    pieces: Pieces<'p, 'a>,
 ) -> Result<Vec<Field<'a>>, Refusal<'p, 'a>>
-    ensures read { IfOk result (λ fields. Module (map terminal pieces.now) (fields_of fields.items)) }
-    ensures spelled { (fs : List grammar.Field) → Module (map terminal pieces.now) fs →
+    ensures read { IfOk result (λ fields. Module (terminals_of pieces.entry) (fields_of fields.items)) }
+    ensures spelled { (fs : List grammar.Field) → Module (terminals_of pieces.entry) fs →
         MatchResult result (λ fields. fields_of fields.items ≡ fs) IsMemory }
-    ensures refused { MatchResult result (λ _. Unit {0}) (λ e. Faults (reading.whole (map terminal pieces.now)) e) }
+    ensures refused { MatchResult result (λ _. Unit {0}) (λ e. Faults (reading.whole (terminals_of pieces.entry)) e) }
 {
     crate::laws::reading_is_grammar();
     whole(alloc, pieces)
@@ -53,10 +55,10 @@ pub fn module<'p, 'a>(
 
 /// The same, by what is read.
 #[tactic(auto, unfolding(crate::specs::Reading::whole))]
-fn whole<'p, 'a>(alloc: Global, pieces: &'p [Piece<'a>]) -> Result<Vec<Field<'a>>, Refusal<'p, 'a>>
+fn whole<'p, 'a>(alloc: Global, pieces: Pieces<'p, 'a>) -> Result<Vec<Field<'a>>, Refusal<'p, 'a>>
     ensures { MatchResult result
-        (λ fs. reading.whole (map terminal pieces.now) ≡ Ok (fields_of fs.items))
-        (λ e. Faults (reading.whole (map terminal pieces.now)) e) }
+        (λ fs. reading.whole (terminals_of pieces.entry) ≡ Ok (fields_of fs.items))
+        (λ e. Faults (reading.whole (terminals_of pieces.entry)) e) }
 {
     match after("module", pieces) {
         Some(rest) => {
@@ -71,11 +73,11 @@ fn whole<'p, 'a>(alloc: Global, pieces: &'p [Piece<'a>]) -> Result<Vec<Field<'a>
 fn module_fields<'p, 'a>(
     alloc: Global,
     enclosed: bool,
-    pieces: &'p [Piece<'a>],
+    pieces: Pieces<'p, 'a>,
 ) -> Result<Vec<Field<'a>>, Refusal<'p, 'a>>
     ensures { MatchResult result
-        (λ fs. reading.fields_at enclosed (map terminal pieces.now) ≡ Ok (fields_of fs.items))
-        (λ e. Faults (reading.fields_at enclosed (map terminal pieces.now)) e) }
+        (λ fs. reading.fields_at enclosed (terminals_of pieces.entry) ≡ Ok (fields_of fs.items))
+        (λ e. Faults (reading.fields_at enclosed (terminals_of pieces.entry)) e) }
 {
     let Some(names) = names_of(alloc, pieces)? else {
         return Err(Refusal::Text(Fault {
@@ -96,11 +98,11 @@ fn fields_again<'p, 'a>(
     enclosed: bool,
     names: Names<'a>,
     fault: Fault<'p, 'a>,
-    pieces: &'p [Piece<'a>],
+    pieces: Pieces<'p, 'a>,
 ) -> Result<Vec<Field<'a>>, Refusal<'p, 'a>>
     ensures { (ss : List (List Terminal)) → types_of names.entry ≡ reading.defined_types ss → context_of names.entry ≡ reading.context_by ss (reading.defined_types ss) → MatchResult result
-        (λ fs. reading.fields_again enclosed ss (map terminal pieces.now) (fault_of fault.entry) (reading.all_by ss (unknown (reading.defined_types ss)) (map terminal pieces.now)) ≡ Ok (fields_of fs.items))
-        (λ e. Faults (reading.fields_again enclosed ss (map terminal pieces.now) (fault_of fault.entry) (reading.all_by ss (unknown (reading.defined_types ss)) (map terminal pieces.now))) e) }
+        (λ fs. reading.fields_again enclosed ss (terminals_of pieces.entry) (fault_of fault.entry) (reading.all_by ss (unknown (reading.defined_types ss)) (terminals_of pieces.entry)) ≡ Ok (fields_of fs.items))
+        (λ e. Faults (reading.fields_again enclosed ss (terminals_of pieces.entry) (fault_of fault.entry) (reading.all_by ss (unknown (reading.defined_types ss)) (terminals_of pieces.entry))) e) }
 {
     let names = without_types(alloc, names);
     match types_without(alloc, &names, pieces) {
@@ -117,11 +119,11 @@ fn fields_again<'p, 'a>(
 fn types_without<'p, 'a>(
     alloc: Global,
     names: &Names<'a>,
-    pieces: &'p [Piece<'a>],
+    pieces: Pieces<'p, 'a>,
 ) -> Result<Vec<FunctionType>, Refusal<'p, 'a>>
     ensures { MatchResult result
-        (λ types. (fs : List grammar.Field) × (us : List Terminal) × (reading.all (reading.field_item (types_of names.now) (context_of names.now)) (map terminal pieces.now) ≡ Ok (fs, us)) × (map type_of types.items ≡ implicit.types_of fs))
-        (λ e. Faults (reading.all (reading.field_item (types_of names.now) (context_of names.now)) (map terminal pieces.now)) e) }
+        (λ types. (fs : List grammar.Field) × (us : List Terminal) × (reading.all (reading.field_item (types_of names.now) (context_of names.now)) (terminals_of pieces.entry) ≡ Ok (fs, us)) × (map type_of types.items ≡ implicit.types_of fs))
+        (λ e. Faults (reading.all (reading.field_item (types_of names.now) (context_of names.now)) (terminals_of pieces.entry)) e) }
 {
     let (fields, _) = fields(alloc, names, pieces)?;
     let types = implicit_types::types_of(alloc, &fields)?;
@@ -143,11 +145,11 @@ fn fields_by<'p, 'a>(
     alloc: Global,
     enclosed: bool,
     names: &Names<'a>,
-    pieces: &'p [Piece<'a>],
+    pieces: Pieces<'p, 'a>,
 ) -> Result<Vec<Field<'a>>, Refusal<'p, 'a>>
     ensures { MatchResult result
-        (λ fs. reading.ordered (map terminal pieces.now) (reading.ended_by enclosed (reading.all (reading.field_item (types_of names.now) (context_of names.now)) (map terminal pieces.now))) ≡ Ok (fields_of fs.items))
-        (λ e. Faults (reading.ordered (map terminal pieces.now) (reading.ended_by enclosed (reading.all (reading.field_item (types_of names.now) (context_of names.now)) (map terminal pieces.now)))) e) }
+        (λ fs. reading.ordered (terminals_of pieces.entry) (reading.ended_by enclosed (reading.all (reading.field_item (types_of names.now) (context_of names.now)) (terminals_of pieces.entry))) ≡ Ok (fields_of fs.items))
+        (λ e. Faults (reading.ordered (terminals_of pieces.entry) (reading.ended_by enclosed (reading.all (reading.field_item (types_of names.now) (context_of names.now)) (terminals_of pieces.entry)))) e) }
 {
     let (fields, rest) = fields(alloc, names, pieces)?;
     ended_by(enclosed, rest)?;
@@ -167,10 +169,10 @@ fn fields_by<'p, 'a>(
 }
 
 /// Whether the end comes next; or, in parentheses, `)` and then the end.
-fn ended_by<'p, 'a>(enclosed: bool, pieces: &'p [Piece<'a>]) -> Result<(), Fault<'p, 'a>>
+fn ended_by<'p, 'a>(enclosed: bool, pieces: Pieces<'p, 'a>) -> Result<(), Fault<'p, 'a>>
     ensures { MatchResult result
-        (λ _. (fs : List grammar.Field) → reading.ended_by enclosed (Ok (fs, map terminal pieces.now)) ≡ Ok fs)
-        (λ f. (fs : List grammar.Field) → reading.ended_by enclosed (Ok (fs, map terminal pieces.now)) ≡ Err (fault_of f)) }
+        (λ _. (fs : List grammar.Field) → reading.ended_by enclosed (Ok (fs, terminals_of pieces.entry)) ≡ Ok fs)
+        (λ f. (fs : List grammar.Field) → reading.ended_by enclosed (Ok (fs, terminals_of pieces.entry)) ≡ Err (fault_of f)) }
 {
     if enclosed {
         ended(pieces)
@@ -180,17 +182,13 @@ fn ended_by<'p, 'a>(enclosed: bool, pieces: &'p [Piece<'a>]) -> Result<(), Fault
 }
 
 /// Whether `)` comes next, and then the end.
-fn ended<'p, 'a>(pieces: &'p [Piece<'a>]) -> Result<(), Fault<'p, 'a>>
+fn ended<'p, 'a>(pieces: Pieces<'p, 'a>) -> Result<(), Fault<'p, 'a>>
     ensures { MatchResult result
-        (λ _. (fs : List grammar.Field) → reading.ended (Ok (fs, map terminal pieces.now)) ≡ Ok fs)
-        (λ f. (fs : List grammar.Field) → reading.ended (Ok (fs, map terminal pieces.now)) ≡ Err (fault_of f)) }
+        (λ _. (fs : List grammar.Field) → reading.ended (Ok (fs, terminals_of pieces.entry)) ≡ Ok fs)
+        (λ f. (fs : List grammar.Field) → reading.ended (Ok (fs, terminals_of pieces.entry)) ≡ Err (fault_of f)) }
 {
-    match pieces {
-        [Piece::Close] => Ok(()),
-        [Piece::Close, left @ ..] => Err(Fault {
-            kind: FaultKind::Unexpected,
-            left: left,
-        }),
+    match pieces.first() {
+        Some((Piece::Close, rest)) => at_end(rest),
         _ => Err(Fault {
             kind: FaultKind::Unexpected,
             left: pieces,
@@ -199,14 +197,14 @@ fn ended<'p, 'a>(pieces: &'p [Piece<'a>]) -> Result<(), Fault<'p, 'a>>
 }
 
 /// Whether the end comes next.
-fn at_end<'p, 'a>(pieces: &'p [Piece<'a>]) -> Result<(), Fault<'p, 'a>>
+fn at_end<'p, 'a>(pieces: Pieces<'p, 'a>) -> Result<(), Fault<'p, 'a>>
     ensures { MatchResult result
-        (λ _. (fs : List grammar.Field) → reading.at_end (Ok (fs, map terminal pieces.now)) ≡ Ok fs)
-        (λ f. (fs : List grammar.Field) → reading.at_end (Ok (fs, map terminal pieces.now)) ≡ Err (fault_of f)) }
+        (λ _. (fs : List grammar.Field) → reading.at_end (Ok (fs, terminals_of pieces.entry)) ≡ Ok fs)
+        (λ f. (fs : List grammar.Field) → reading.at_end (Ok (fs, terminals_of pieces.entry)) ≡ Err (fault_of f)) }
 {
-    match pieces {
-        [] => Ok(()),
-        [_, ..] => Err(Fault {
+    match pieces.first() {
+        None => Ok(()),
+        Some(_) => Err(Fault {
             kind: FaultKind::Unexpected,
             left: pieces,
         }),
@@ -269,11 +267,11 @@ fn starts(fields: &[Field<'_>]) -> usize
 fn fields<'p, 'a>(
     alloc: Global,
     names: &Names<'a>,
-    pieces: &'p [Piece<'a>],
-) -> Result<(Vec<Field<'a>>, &'p [Piece<'a>]), Refusal<'p, 'a>>
+    pieces: Pieces<'p, 'a>,
+) -> Result<(Vec<Field<'a>>, Pieces<'p, 'a>), Refusal<'p, 'a>>
     ensures { MatchResult result
-        (λ r. reading.all (reading.field_item (types_of names.now) (context_of names.now)) (map terminal pieces.now) ≡ Ok (fields_of r.0.items, map terminal r.1.now))
-        (λ e. Faults (reading.all (reading.field_item (types_of names.now) (context_of names.now)) (map terminal pieces.now)) e) }
+        (λ r. reading.all (reading.field_item (types_of names.now) (context_of names.now)) (terminals_of pieces.entry) ≡ Ok (fields_of r.0.items, terminals_of r.1))
+        (λ e. Faults (reading.all (reading.field_item (types_of names.now) (context_of names.now)) (terminals_of pieces.entry)) e) }
 {
     wat_instructions::laws::machine_is_grammar();
     wat_instructions::laws::folded_is_grammar();
@@ -301,12 +299,12 @@ fn next_field<'p, 'a>(
 ) -> Result<Option<Left<'p, 'a>>, Refusal<'p, 'a>>
     ensures { MatchResult result
         (λ o. MatchOption o
-        (NoItem (reading.field_item (types_of names.now) (context_of names.now) (map terminal left.entry.pieces.now)) (map field_of found.old.items) (map field_of found.new.items))
-        (λ l. IsItem (reading.field_item (types_of names.now) (context_of names.now) (map terminal left.entry.pieces.now)) (map field_of found.old.items) (map field_of found.new.items) (map terminal l.pieces.now)))
-        (λ e. ItemFaults (reading.field_item (types_of names.now) (context_of names.now) (map terminal left.entry.pieces.now)) e) }
+        (NoItem (reading.field_item (types_of names.now) (context_of names.now) (terminals_of left.entry.pieces)) (map field_of found.old.items) (map field_of found.new.items))
+        (λ l. IsItem (reading.field_item (types_of names.now) (context_of names.now) (terminals_of left.entry.pieces)) (map field_of found.old.items) (map field_of found.new.items) (terminals_of l.pieces)))
+        (λ e. ItemFaults (reading.field_item (types_of names.now) (context_of names.now) (terminals_of left.entry.pieces)) e) }
 {
-    match left.pieces {
-        [Piece::Open, rest @ ..] => match field_at(alloc, names, rest) {
+    match left.pieces.first() {
+        Some((Piece::Open, rest)) => match field_at(alloc, names, rest) {
             Ok((field, pieces)) => {
                 found.push(field)?;
                 Ok(Some(Left { pieces }))
@@ -321,14 +319,14 @@ fn next_field<'p, 'a>(
 fn field_at<'p, 'a>(
     alloc: Global,
     names: &Names<'a>,
-    pieces: &'p [Piece<'a>],
-) -> Result<(Field<'a>, &'p [Piece<'a>]), Refusal<'p, 'a>>
+    pieces: Pieces<'p, 'a>,
+) -> Result<(Field<'a>, Pieces<'p, 'a>), Refusal<'p, 'a>>
     ensures { MatchResult result
-        (λ r. reading.field (types_of names.now) (context_of names.now) (map terminal pieces.now) ≡ Ok (field_of r.0 ∷ [], map terminal r.1.now))
-        (λ e. Faults (reading.field (types_of names.now) (context_of names.now) (map terminal pieces.now)) e) }
+        (λ r. reading.field (types_of names.now) (context_of names.now) (terminals_of pieces.entry) ≡ Ok (field_of r.0 ∷ [], terminals_of r.1))
+        (λ e. Faults (reading.field (types_of names.now) (context_of names.now) (terminals_of pieces.entry)) e) }
 {
-    match pieces {
-        [Piece::Word(word), rest @ ..] => { field_after(alloc, names, *word, pieces, rest) }
+    match pieces.first() {
+        Some((Piece::Word(word), rest)) => { field_after(alloc, names, word, pieces, rest) }
         _ => Err(Refusal::Text(Fault {
             kind: FaultKind::Unexpected,
             left: pieces,
@@ -341,12 +339,12 @@ fn field_after<'p, 'a>(
     alloc: Global,
     names: &Names<'a>,
     word: &str,
-    all: &'p [Piece<'a>],
-    pieces: &'p [Piece<'a>],
-) -> Result<(Field<'a>, &'p [Piece<'a>]), Refusal<'p, 'a>>
+    all: Pieces<'p, 'a>,
+    pieces: Pieces<'p, 'a>,
+) -> Result<(Field<'a>, Pieces<'p, 'a>), Refusal<'p, 'a>>
     ensures { MatchResult result
-        (λ r. reading.field_by (types_of names.now) (context_of names.now) (grammar.space_of word.now) word.now (map terminal all.now) (map terminal pieces.now) ≡ Ok (field_of r.0 ∷ [], map terminal r.1.now))
-        (λ e. Faults (reading.field_by (types_of names.now) (context_of names.now) (grammar.space_of word.now) word.now (map terminal all.now) (map terminal pieces.now)) e) }
+        (λ r. reading.field_by (types_of names.now) (context_of names.now) (grammar.space_of word.now) word.now (terminals_of all.entry) (terminals_of pieces.entry) ≡ Ok (field_of r.0 ∷ [], terminals_of r.1))
+        (λ e. Faults (reading.field_by (types_of names.now) (context_of names.now) (grammar.space_of word.now) word.now (terminals_of all.entry) (terminals_of pieces.entry)) e) }
 {
     match space_of(word) {
         Some(space) => item(alloc, names, space, pieces),
@@ -359,11 +357,11 @@ fn item<'p, 'a>(
     alloc: Global,
     names: &Names<'a>,
     space: IndexSpace,
-    pieces: &'p [Piece<'a>],
-) -> Result<(Field<'a>, &'p [Piece<'a>]), Refusal<'p, 'a>>
+    pieces: Pieces<'p, 'a>,
+) -> Result<(Field<'a>, Pieces<'p, 'a>), Refusal<'p, 'a>>
     ensures { MatchResult result
-        (λ r. reading.item_at (types_of names.now) (context_of names.now) space (label_of (map terminal pieces.now)) ≡ Ok (field_of r.0 ∷ [], map terminal r.1.now))
-        (λ e. Faults (reading.item_at (types_of names.now) (context_of names.now) space (label_of (map terminal pieces.now))) e) }
+        (λ r. reading.item_at (types_of names.now) (context_of names.now) space (label_of (terminals_of pieces.entry)) ≡ Ok (field_of r.0 ∷ [], terminals_of r.1))
+        (λ e. Faults (reading.item_at (types_of names.now) (context_of names.now) space (label_of (terminals_of pieces.entry))) e) }
 {
     let (name, rest) = reading::label(pieces);
     let (exports, rest) = exports(alloc, rest)?;
@@ -380,11 +378,11 @@ fn defined<'p, 'a>(
     space: IndexSpace,
     name: Name<'a>,
     exports: Vec<&'a [u8]>,
-    pieces: &'p [Piece<'a>],
-) -> Result<(Field<'a>, &'p [Piece<'a>]), Refusal<'p, 'a>>
+    pieces: Pieces<'p, 'a>,
+) -> Result<(Field<'a>, Pieces<'p, 'a>), Refusal<'p, 'a>>
     ensures { MatchResult result
-        (λ r. reading.defined (types_of names.now) (context_of names.now) space (label name.entry) (map text_of exports.entry.items) (map terminal pieces.now) ≡ Ok (field_of r.0 ∷ [], map terminal r.1.now))
-        (λ e. Faults (reading.defined (types_of names.now) (context_of names.now) space (label name.entry) (map text_of exports.entry.items) (map terminal pieces.now)) e) }
+        (λ r. reading.defined (types_of names.now) (context_of names.now) space (label name.entry) (map text_of exports.entry.items) (terminals_of pieces.entry) ≡ Ok (field_of r.0 ∷ [], terminals_of r.1))
+        (λ e. Faults (reading.defined (types_of names.now) (context_of names.now) space (label name.entry) (map text_of exports.entry.items) (terminals_of pieces.entry)) e) }
 {
     match space {
         IndexSpace::Func => func(alloc, names, name, exports, pieces),
@@ -400,11 +398,11 @@ fn func<'p, 'a>(
     names: &Names<'a>,
     name: Name<'a>,
     exports: Vec<&'a [u8]>,
-    pieces: &'p [Piece<'a>],
-) -> Result<(Field<'a>, &'p [Piece<'a>]), Refusal<'p, 'a>>
+    pieces: Pieces<'p, 'a>,
+) -> Result<(Field<'a>, Pieces<'p, 'a>), Refusal<'p, 'a>>
     ensures { MatchResult result
-        (λ r. reading.func_at (types_of names.now) (context_of names.now) (label name.entry) (map text_of exports.entry.items) (map terminal pieces.now) ≡ Ok (field_of r.0 ∷ [], map terminal r.1.now))
-        (λ e. Faults (reading.func_at (types_of names.now) (context_of names.now) (label name.entry) (map text_of exports.entry.items) (map terminal pieces.now)) e) }
+        (λ r. reading.func_at (types_of names.now) (context_of names.now) (label name.entry) (map text_of exports.entry.items) (terminals_of pieces.entry) ≡ Ok (field_of r.0 ∷ [], terminals_of r.1))
+        (λ e. Faults (reading.func_at (types_of names.now) (context_of names.now) (label name.entry) (map text_of exports.entry.items) (terminals_of pieces.entry)) e) }
 {
     let (uses, rest) = type_use(alloc, names, pieces)?;
     let (locals, rest) = variables(alloc, "local", true, rest)?;
@@ -429,11 +427,11 @@ fn global<'p, 'a>(
     names: &Names<'a>,
     name: Name<'a>,
     exports: Vec<&'a [u8]>,
-    pieces: &'p [Piece<'a>],
-) -> Result<(Field<'a>, &'p [Piece<'a>]), Refusal<'p, 'a>>
+    pieces: Pieces<'p, 'a>,
+) -> Result<(Field<'a>, Pieces<'p, 'a>), Refusal<'p, 'a>>
     ensures { MatchResult result
-        (λ r. reading.global_at (context_of names.now) (label name.entry) (map text_of exports.entry.items) (map terminal pieces.now) ≡ Ok (field_of r.0 ∷ [], map terminal r.1.now))
-        (λ e. Faults (reading.global_at (context_of names.now) (label name.entry) (map text_of exports.entry.items) (map terminal pieces.now)) e) }
+        (λ r. reading.global_at (context_of names.now) (label name.entry) (map text_of exports.entry.items) (terminals_of pieces.entry) ≡ Ok (field_of r.0 ∷ [], terminals_of r.1))
+        (λ e. Faults (reading.global_at (context_of names.now) (label name.entry) (map text_of exports.entry.items) (terminals_of pieces.entry)) e) }
 {
     let (of, rest) = global_type(pieces)?;
     let locals = IndexedNames::none(alloc);
@@ -453,11 +451,11 @@ fn global<'p, 'a>(
 /// The two names of an import.
 #[tactic(auto, unfolding(crate::specs::Reading::import_names))]
 fn import_names<'p, 'a>(
-    pieces: &'p [Piece<'a>],
-) -> Result<((&'a [u8], &'a [u8]), &'p [Piece<'a>]), Fault<'p, 'a>>
+    pieces: Pieces<'p, 'a>,
+) -> Result<((&'a [u8], &'a [u8]), Pieces<'p, 'a>), Fault<'p, 'a>>
     ensures { MatchResult result
-        (λ r. reading.import_names (map terminal pieces.now) ≡ Ok ((r.0.0.now, r.0.1.now), map terminal r.1.now))
-        (λ f. reading.import_names (map terminal pieces.now) ≡ Err (fault_of f)) }
+        (λ r. reading.import_names (terminals_of pieces.entry) ≡ Ok ((r.0.0.now, r.0.1.now), terminals_of r.1))
+        (λ f. reading.import_names (terminals_of pieces.entry) ≡ Err (fault_of f)) }
 {
     let (from, rest) = utf8_text(pieces)?;
     let (item, rest) = utf8_text(rest)?;
@@ -470,11 +468,11 @@ fn extern_type<'p, 'a>(
     alloc: Global,
     names: &Names<'a>,
     space: IndexSpace,
-    pieces: &'p [Piece<'a>],
-) -> Result<(ExternType, &'p [Piece<'a>]), Refusal<'p, 'a>>
+    pieces: Pieces<'p, 'a>,
+) -> Result<(ExternType, Pieces<'p, 'a>), Refusal<'p, 'a>>
     ensures { MatchResult result
-        (λ r. reading.extern_at (types_of names.now) space (map terminal pieces.now) ≡ Ok (extern_of r.0, map terminal r.1.now))
-        (λ e. Faults (reading.extern_at (types_of names.now) space (map terminal pieces.now)) e) }
+        (λ r. reading.extern_at (types_of names.now) space (terminals_of pieces.entry) ≡ Ok (extern_of r.0, terminals_of r.1))
+        (λ e. Faults (reading.extern_at (types_of names.now) space (terminals_of pieces.entry)) e) }
 {
     match space {
         IndexSpace::Func => {
@@ -500,12 +498,12 @@ fn extern_type<'p, 'a>(
 fn func_type<'p, 'a>(
     alloc: Global,
     uses: NamedUse<'a>,
-    all: &'p [Piece<'a>],
-    rest: &'p [Piece<'a>],
-) -> Result<(ExternType, &'p [Piece<'a>]), Refusal<'p, 'a>>
+    all: Pieces<'p, 'a>,
+    rest: Pieces<'p, 'a>,
+) -> Result<(ExternType, Pieces<'p, 'a>), Refusal<'p, 'a>>
     ensures { MatchResult result
-        (λ r. reading.func_type (use_of uses.entry) (map terminal all.now) (map terminal rest.now) ≡ Ok (extern_of r.0, map terminal r.1.now))
-        (λ e. Faults (reading.func_type (use_of uses.entry) (map terminal all.now) (map terminal rest.now)) e) }
+        (λ r. reading.func_type (use_of uses.entry) (terminals_of all.entry) (terminals_of rest.entry) ≡ Ok (extern_of r.0, terminals_of r.1))
+        (λ e. Faults (reading.func_type (use_of uses.entry) (terminals_of all.entry) (terminals_of rest.entry)) e) }
 {
     if variable_names(alloc, &uses.params, &[])?.is_none() {
         return Err(Refusal::Text(Fault {
@@ -524,11 +522,11 @@ fn inline_import<'p, 'a>(
     space: IndexSpace,
     name: Name<'a>,
     exports: Vec<&'a [u8]>,
-    pieces: &'p [Piece<'a>],
-) -> Result<(Field<'a>, &'p [Piece<'a>]), Refusal<'p, 'a>>
+    pieces: Pieces<'p, 'a>,
+) -> Result<(Field<'a>, Pieces<'p, 'a>), Refusal<'p, 'a>>
     ensures { MatchResult result
-        (λ r. reading.inline_import (types_of names.now) space (label name.entry) (map text_of exports.entry.items) (map terminal pieces.now) ≡ Ok (field_of r.0 ∷ [], map terminal r.1.now))
-        (λ e. Faults (reading.inline_import (types_of names.now) space (label name.entry) (map text_of exports.entry.items) (map terminal pieces.now)) e) }
+        (λ r. reading.inline_import (types_of names.now) space (label name.entry) (map text_of exports.entry.items) (terminals_of pieces.entry) ≡ Ok (field_of r.0 ∷ [], terminals_of r.1))
+        (λ e. Faults (reading.inline_import (types_of names.now) space (label name.entry) (map text_of exports.entry.items) (terminals_of pieces.entry)) e) }
 {
     let ((from, item), rest) = import_names(pieces)?;
     let rest = closed(rest)?;
@@ -552,12 +550,12 @@ fn other<'p, 'a>(
     alloc: Global,
     names: &Names<'a>,
     word: &str,
-    all: &'p [Piece<'a>],
-    pieces: &'p [Piece<'a>],
-) -> Result<(Field<'a>, &'p [Piece<'a>]), Refusal<'p, 'a>>
+    all: Pieces<'p, 'a>,
+    pieces: Pieces<'p, 'a>,
+) -> Result<(Field<'a>, Pieces<'p, 'a>), Refusal<'p, 'a>>
     ensures { MatchResult result
-        (λ r. reading.other_at (types_of names.now) (context_of names.now) word.now (map terminal all.now) (map terminal pieces.now) ≡ Ok (field_of r.0 ∷ [], map terminal r.1.now))
-        (λ e. Faults (reading.other_at (types_of names.now) (context_of names.now) word.now (map terminal all.now) (map terminal pieces.now)) e) }
+        (λ r. reading.other_at (types_of names.now) (context_of names.now) word.now (terminals_of all.entry) (terminals_of pieces.entry) ≡ Ok (field_of r.0 ∷ [], terminals_of r.1))
+        (λ e. Faults (reading.other_at (types_of names.now) (context_of names.now) word.now (terminals_of all.entry) (terminals_of pieces.entry)) e) }
 {
     if word == "type" {
         return type_field(alloc, pieces);
@@ -577,11 +575,11 @@ fn other<'p, 'a>(
 /// A type, after its word.
 fn type_field<'p, 'a>(
     alloc: Global,
-    pieces: &'p [Piece<'a>],
-) -> Result<(Field<'a>, &'p [Piece<'a>]), Refusal<'p, 'a>>
+    pieces: Pieces<'p, 'a>,
+) -> Result<(Field<'a>, Pieces<'p, 'a>), Refusal<'p, 'a>>
     ensures { MatchResult result
-        (λ r. reading.type_field (map terminal pieces.now) ≡ Ok (field_of r.0 ∷ [], map terminal r.1.now))
-        (λ e. Faults (reading.type_field (map terminal pieces.now)) e) }
+        (λ r. reading.type_field (terminals_of pieces.entry) ≡ Ok (field_of r.0 ∷ [], terminals_of r.1))
+        (λ e. Faults (reading.type_field (terminals_of pieces.entry)) e) }
 {
     let (definition, rest) = type_at(alloc, pieces)?;
     Ok((Field::Type(definition), rest))
@@ -591,11 +589,11 @@ fn type_field<'p, 'a>(
 fn import_at<'p, 'a>(
     alloc: Global,
     names: &Names<'a>,
-    pieces: &'p [Piece<'a>],
-) -> Result<(Field<'a>, &'p [Piece<'a>]), Refusal<'p, 'a>>
+    pieces: Pieces<'p, 'a>,
+) -> Result<(Field<'a>, Pieces<'p, 'a>), Refusal<'p, 'a>>
     ensures { MatchResult result
-        (λ r. reading.import_at (types_of names.now) (map terminal pieces.now) ≡ Ok (field_of r.0 ∷ [], map terminal r.1.now))
-        (λ e. Faults (reading.import_at (types_of names.now) (map terminal pieces.now)) e) }
+        (λ r. reading.import_at (types_of names.now) (terminals_of pieces.entry) ≡ Ok (field_of r.0 ∷ [], terminals_of r.1))
+        (λ e. Faults (reading.import_at (types_of names.now) (terminals_of pieces.entry)) e) }
 {
     let ((from, item), rest) = import_names(pieces)?;
     import_open(alloc, names, from, item, rest)
@@ -608,14 +606,14 @@ fn import_open<'p, 'a>(
     names: &Names<'a>,
     from: &'a [u8],
     item: &'a [u8],
-    pieces: &'p [Piece<'a>],
-) -> Result<(Field<'a>, &'p [Piece<'a>]), Refusal<'p, 'a>>
+    pieces: Pieces<'p, 'a>,
+) -> Result<(Field<'a>, Pieces<'p, 'a>), Refusal<'p, 'a>>
     ensures { MatchResult result
-        (λ r. reading.import_open (types_of names.now) (from.now, item.now) (map terminal pieces.now) ≡ Ok (field_of r.0 ∷ [], map terminal r.1.now))
-        (λ e. Faults (reading.import_open (types_of names.now) (from.now, item.now) (map terminal pieces.now)) e) }
+        (λ r. reading.import_open (types_of names.now) (from.now, item.now) (terminals_of pieces.entry) ≡ Ok (field_of r.0 ∷ [], terminals_of r.1))
+        (λ e. Faults (reading.import_open (types_of names.now) (from.now, item.now) (terminals_of pieces.entry)) e) }
 {
-    match pieces {
-        [Piece::Open, rest @ ..] => import_word(alloc, names, from, item, rest),
+    match pieces.first() {
+        Some((Piece::Open, rest)) => import_word(alloc, names, from, item, rest),
         _ => Err(Refusal::Text(Fault {
             kind: FaultKind::Unexpected,
             left: pieces,
@@ -629,14 +627,14 @@ fn import_word<'p, 'a>(
     names: &Names<'a>,
     from: &'a [u8],
     item: &'a [u8],
-    pieces: &'p [Piece<'a>],
-) -> Result<(Field<'a>, &'p [Piece<'a>]), Refusal<'p, 'a>>
+    pieces: Pieces<'p, 'a>,
+) -> Result<(Field<'a>, Pieces<'p, 'a>), Refusal<'p, 'a>>
     ensures { MatchResult result
-        (λ r. reading.import_word (types_of names.now) (from.now, item.now) (map terminal pieces.now) ≡ Ok (field_of r.0 ∷ [], map terminal r.1.now))
-        (λ e. Faults (reading.import_word (types_of names.now) (from.now, item.now) (map terminal pieces.now)) e) }
+        (λ r. reading.import_word (types_of names.now) (from.now, item.now) (terminals_of pieces.entry) ≡ Ok (field_of r.0 ∷ [], terminals_of r.1))
+        (λ e. Faults (reading.import_word (types_of names.now) (from.now, item.now) (terminals_of pieces.entry)) e) }
 {
-    match pieces {
-        [Piece::Word(word), rest @ ..] => match space_of(word) {
+    match pieces.first() {
+        Some((Piece::Word(word), rest)) => match space_of(word) {
             Some(space) => import_item(alloc, names, from, item, space, rest),
             None => Err(Refusal::Text(Fault {
                 kind: FaultKind::UnknownWord,
@@ -657,11 +655,11 @@ fn import_item<'p, 'a>(
     from: &'a [u8],
     item: &'a [u8],
     space: IndexSpace,
-    pieces: &'p [Piece<'a>],
-) -> Result<(Field<'a>, &'p [Piece<'a>]), Refusal<'p, 'a>>
+    pieces: Pieces<'p, 'a>,
+) -> Result<(Field<'a>, Pieces<'p, 'a>), Refusal<'p, 'a>>
     ensures { MatchResult result
-        (λ r. reading.extern_after (types_of names.now) (from.now, item.now) space (label_of (map terminal pieces.now)) ≡ Ok (field_of r.0 ∷ [], map terminal r.1.now))
-        (λ e. Faults (reading.extern_after (types_of names.now) (from.now, item.now) space (label_of (map terminal pieces.now))) e) }
+        (λ r. reading.extern_after (types_of names.now) (from.now, item.now) space (label_of (terminals_of pieces.entry)) ≡ Ok (field_of r.0 ∷ [], terminals_of r.1))
+        (λ e. Faults (reading.extern_after (types_of names.now) (from.now, item.now) space (label_of (terminals_of pieces.entry))) e) }
 {
     let (name, rest) = reading::label(pieces);
     let (what, rest) = extern_type(alloc, names, space, rest)?;
@@ -682,11 +680,11 @@ fn import_item<'p, 'a>(
 /// An export, after its word.
 fn export_at<'p, 'a>(
     names: &Names<'a>,
-    pieces: &'p [Piece<'a>],
-) -> Result<(Field<'a>, &'p [Piece<'a>]), Fault<'p, 'a>>
+    pieces: Pieces<'p, 'a>,
+) -> Result<(Field<'a>, Pieces<'p, 'a>), Fault<'p, 'a>>
     ensures { MatchResult result
-        (λ r. reading.export_at (context_of names.now) (map terminal pieces.now) ≡ Ok (field_of r.0 ∷ [], map terminal r.1.now))
-        (λ f. reading.export_at (context_of names.now) (map terminal pieces.now) ≡ Err (fault_of f)) }
+        (λ r. reading.export_at (context_of names.now) (terminals_of pieces.entry) ≡ Ok (field_of r.0 ∷ [], terminals_of r.1))
+        (λ f. reading.export_at (context_of names.now) (terminals_of pieces.entry) ≡ Err (fault_of f)) }
 {
     let (name, rest) = utf8_text(pieces)?;
     external(names, name, rest)
@@ -697,14 +695,14 @@ fn export_at<'p, 'a>(
 fn external<'p, 'a>(
     names: &Names<'a>,
     name: &'a [u8],
-    pieces: &'p [Piece<'a>],
-) -> Result<(Field<'a>, &'p [Piece<'a>]), Fault<'p, 'a>>
+    pieces: Pieces<'p, 'a>,
+) -> Result<(Field<'a>, Pieces<'p, 'a>), Fault<'p, 'a>>
     ensures { MatchResult result
-        (λ r. reading.external_at (context_of names.now) name.now (map terminal pieces.now) ≡ Ok (field_of r.0 ∷ [], map terminal r.1.now))
-        (λ f. reading.external_at (context_of names.now) name.now (map terminal pieces.now) ≡ Err (fault_of f)) }
+        (λ r. reading.external_at (context_of names.now) name.now (terminals_of pieces.entry) ≡ Ok (field_of r.0 ∷ [], terminals_of r.1))
+        (λ f. reading.external_at (context_of names.now) name.now (terminals_of pieces.entry) ≡ Err (fault_of f)) }
 {
-    match pieces {
-        [Piece::Open, rest @ ..] => external_word(names, name, rest),
+    match pieces.first() {
+        Some((Piece::Open, rest)) => external_word(names, name, rest),
         _ => Err(Fault {
             kind: FaultKind::Unexpected,
             left: pieces,
@@ -716,14 +714,14 @@ fn external<'p, 'a>(
 fn external_word<'p, 'a>(
     names: &Names<'a>,
     name: &'a [u8],
-    pieces: &'p [Piece<'a>],
-) -> Result<(Field<'a>, &'p [Piece<'a>]), Fault<'p, 'a>>
+    pieces: Pieces<'p, 'a>,
+) -> Result<(Field<'a>, Pieces<'p, 'a>), Fault<'p, 'a>>
     ensures { MatchResult result
-        (λ r. reading.external_word (context_of names.now) name.now (map terminal pieces.now) ≡ Ok (field_of r.0 ∷ [], map terminal r.1.now))
-        (λ f. reading.external_word (context_of names.now) name.now (map terminal pieces.now) ≡ Err (fault_of f)) }
+        (λ r. reading.external_word (context_of names.now) name.now (terminals_of pieces.entry) ≡ Ok (field_of r.0 ∷ [], terminals_of r.1))
+        (λ f. reading.external_word (context_of names.now) name.now (terminals_of pieces.entry) ≡ Err (fault_of f)) }
 {
-    match pieces {
-        [Piece::Word(word), rest @ ..] => match space_of(word) {
+    match pieces.first() {
+        Some((Piece::Word(word), rest)) => match space_of(word) {
             Some(space) => external_index(names, name, space, rest),
             None => Err(Fault {
                 kind: FaultKind::UnknownWord,
@@ -742,11 +740,11 @@ fn external_index<'p, 'a>(
     names: &Names<'a>,
     name: &'a [u8],
     space: IndexSpace,
-    pieces: &'p [Piece<'a>],
-) -> Result<(Field<'a>, &'p [Piece<'a>]), Fault<'p, 'a>>
+    pieces: Pieces<'p, 'a>,
+) -> Result<(Field<'a>, Pieces<'p, 'a>), Fault<'p, 'a>>
     ensures { MatchResult result
-        (λ r. reading.external_by (context_of names.now) name.now (Some space) (map terminal pieces.now) (map terminal pieces.now) ≡ Ok (field_of r.0 ∷ [], map terminal r.1.now))
-        (λ f. reading.external_by (context_of names.now) name.now (Some space) (map terminal pieces.now) (map terminal pieces.now) ≡ Err (fault_of f)) }
+        (λ r. reading.external_by (context_of names.now) name.now (Some space) (terminals_of pieces.entry) (terminals_of pieces.entry) ≡ Ok (field_of r.0 ∷ [], terminals_of r.1))
+        (λ f. reading.external_by (context_of names.now) name.now (Some space) (terminals_of pieces.entry) (terminals_of pieces.entry) ≡ Err (fault_of f)) }
 {
     let (index, rest) = reading::index(names_in(names, space), pieces)?;
     let rest = twice_closed(rest)?;
@@ -756,11 +754,11 @@ fn external_index<'p, 'a>(
 /// A start function, after its word.
 fn start_at<'p, 'a>(
     names: &Names<'a>,
-    pieces: &'p [Piece<'a>],
-) -> Result<(Field<'a>, &'p [Piece<'a>]), Fault<'p, 'a>>
+    pieces: Pieces<'p, 'a>,
+) -> Result<(Field<'a>, Pieces<'p, 'a>), Fault<'p, 'a>>
     ensures { MatchResult result
-        (λ r. reading.start_at (context_of names.now) (map terminal pieces.now) ≡ Ok (field_of r.0 ∷ [], map terminal r.1.now))
-        (λ f. reading.start_at (context_of names.now) (map terminal pieces.now) ≡ Err (fault_of f)) }
+        (λ r. reading.start_at (context_of names.now) (terminals_of pieces.entry) ≡ Ok (field_of r.0 ∷ [], terminals_of r.1))
+        (λ f. reading.start_at (context_of names.now) (terminals_of pieces.entry) ≡ Err (fault_of f)) }
 {
     let (index, rest) = reading::index(&names.funcs, pieces)?;
     let rest = closed(rest)?;
@@ -792,11 +790,11 @@ fn instructions<'p, 'a>(
     names: &Names<'a>,
     params: &[Variable<'a>],
     locals: &[Variable<'a>],
-    pieces: &'p [Piece<'a>],
-) -> Result<(Vec<Instruction>, &'p [Piece<'a>]), Refusal<'p, 'a>>
+    pieces: Pieces<'p, 'a>,
+) -> Result<(Vec<Instruction>, Pieces<'p, 'a>), Refusal<'p, 'a>>
     ensures { MatchResult result
-        (λ r. reading.instructions (context_of names.now) (map variable_of params.now) (map variable_of locals.now) (map terminal pieces.now) ≡ Ok (r.0.items, map terminal r.1.now))
-        (λ e. Faults (reading.instructions (context_of names.now) (map variable_of params.now) (map variable_of locals.now) (map terminal pieces.now)) e) }
+        (λ r. reading.instructions (context_of names.now) (map variable_of params.now) (map variable_of locals.now) (terminals_of pieces.entry) ≡ Ok (r.0.items, terminals_of r.1))
+        (λ e. Faults (reading.instructions (context_of names.now) (map variable_of params.now) (map variable_of locals.now) (terminals_of pieces.entry)) e) }
 {
     let Some(locals) = variable_names(alloc, params, locals)? else {
         return Err(Refusal::Text(Fault {

@@ -6,8 +6,9 @@ ghost use Rattle.wat_fields_read.specs.Reading as reading;
 ghost use Rattle.wat_fields.specs.Views.{definition_of};
 ghost use Rattle.wat_fields_read.specs.Views.{binding_of, context_of, depth_of, left_of, types_of, variable_of};
 ghost use Rattle.wat_instructions.specs.Grammar.{label_of};
+ghost use Rattle.wat_instructions.specs.Pieces.{terminals_of};
 ghost use Rattle.wat_instructions.specs.Names.{are_distinct};
-ghost use Rattle.wat_instructions.specs.Terminals.{label, terminal};
+ghost use Rattle.wat_instructions.specs.Terminals.{label};
 ghost use Rattle.wat_instructions.specs.Uses.{retyped, unknown};
 ghost use Rattle.wat_instructions.specs.Views.{type_of};
 
@@ -21,6 +22,7 @@ use wat_fields::fields::{Definition, IndexSpace};
 use wat_instructions::names::IndexedNames;
 use wat_instructions::pieces::{Name, Piece, Refusal};
 use wat_instructions::reading::label;
+use wat_instructions::source::Pieces;
 use wat_instructions::types::FunctionType;
 
 /// Where a token is: before a `(` of a field, and in a field, in so many groups more.
@@ -56,11 +58,11 @@ pub(crate) struct Names<'a> {
 /// index space are the same.
 pub(crate) fn names_of<'p, 'a>(
     alloc: Global,
-    pieces: &'p [Piece<'a>],
+    pieces: Pieces<'p, 'a>,
 ) -> Result<Option<Names<'a>>, AllocError>
-    ensures context { IfOk result (λ found. IfSome found (λ names. context_of names ≡ reading.context_by (reading.starts reading.Before [] (map terminal pieces.now)) (reading.defined_types (reading.starts reading.Before [] (map terminal pieces.now))))) }
-    ensures types { IfOk result (λ found. IfSome found (λ names. types_of names ≡ reading.defined_types (reading.starts reading.Before [] (map terminal pieces.now)))) }
-    ensures distinct { IfOk result (λ found. is_some found ≡ all_distinct (reading.defined_types (reading.starts reading.Before [] (map terminal pieces.now))) (reading.context_by (reading.starts reading.Before [] (map terminal pieces.now)) (reading.defined_types (reading.starts reading.Before [] (map terminal pieces.now))))) }
+    ensures context { IfOk result (λ found. IfSome found (λ names. context_of names ≡ reading.context_by (reading.starts reading.Before [] (terminals_of pieces.entry)) (reading.defined_types (reading.starts reading.Before [] (terminals_of pieces.entry))))) }
+    ensures types { IfOk result (λ found. IfSome found (λ names. types_of names ≡ reading.defined_types (reading.starts reading.Before [] (terminals_of pieces.entry)))) }
+    ensures distinct { IfOk result (λ found. is_some found ≡ all_distinct (reading.defined_types (reading.starts reading.Before [] (terminals_of pieces.entry))) (reading.context_by (reading.starts reading.Before [] (terminals_of pieces.entry)) (reading.defined_types (reading.starts reading.Before [] (terminals_of pieces.entry))))) }
 {
     let starts = starts(alloc, pieces)?;
     let bindings = bindings(alloc, &starts)?;
@@ -168,18 +170,19 @@ pub(crate) fn names_in<'s, 'a>(names: &'s Names<'a>, space: IndexSpace) -> &'s I
 
 /// Where fields begin, each after its `(`.
 #[tactic(auto, unfolding(crate::specs::Reading::starts))]
-fn starts<'p, 'a>(alloc: Global, pieces: &'p [Piece<'a>]) -> Result<Vec<Left<'p, 'a>>, AllocError>
-    ensures { IfOk result (λ starts. map left_of starts.items ≡ reading.starts reading.Before [] (map terminal pieces.now)) }
+fn starts<'p, 'a>(alloc: Global, pieces: Pieces<'p, 'a>) -> Result<Vec<Left<'p, 'a>>, AllocError>
+    ensures { IfOk result (λ starts. map left_of starts.items ≡ reading.starts reading.Before [] (terminals_of pieces.entry)) }
 {
     let mut starts = Vec::new(alloc);
     let mut depth = Depth::Before;
-    for (i, piece) in pieces.iter().enumerate() {
+    let _count = pieces.len();
+    let mut left = Left { pieces };
+    while let Some((piece, rest)) = left.pieces.first() {
+        left = Left { pieces: rest };
         match depth {
-            Depth::Before => match *piece {
+            Depth::Before => match piece {
                 Piece::Open => {
-                    starts.push(Left {
-                        pieces: &pieces[i + 1..],
-                    })?;
+                    starts.push(left)?;
                     depth = Depth::Inside(0);
                 }
                 Piece::Close
@@ -187,17 +190,17 @@ fn starts<'p, 'a>(alloc: Global, pieces: &'p [Piece<'a>]) -> Result<Vec<Left<'p,
                 | Piece::Id(_)
                 | Piece::Integer(_, _)
                 | Piece::Text(_)
-                | Piece::Float(_, _)
+                | Piece::Float(_)
                 | Piece::Other => return Ok(starts),
             },
-            Depth::Inside(open) => match *piece {
+            Depth::Inside(open) => match piece {
                 Piece::Open => depth = Depth::Inside(open + 1),
                 Piece::Close => depth = closed(open),
                 Piece::Word(_)
                 | Piece::Id(_)
                 | Piece::Integer(_, _)
                 | Piece::Text(_)
-                | Piece::Float(_, _)
+                | Piece::Float(_)
                 | Piece::Other => {}
             },
         }
@@ -220,12 +223,12 @@ fn bindings<'p, 'a>(alloc: Global, starts: &[Left<'p, 'a>]) -> Result<Vec<Bindin
 
 /// The item that a field brings.
 #[tactic(auto, unfolding(crate::specs::Reading::binding_at))]
-fn binding_at<'a>(pieces: &[Piece<'a>]) -> Option<Binding<'a>>
-    ensures { MatchOption result (reading.binding_at (map terminal pieces.now) ≡ []) (λ b. reading.binding_at (map terminal pieces.now) ≡ binding_of b ∷ []) }
+fn binding_at<'a>(pieces: Pieces<'_, 'a>) -> Option<Binding<'a>>
+    ensures { MatchOption result (reading.binding_at (terminals_of pieces.entry) ≡ []) (λ b. reading.binding_at (terminals_of pieces.entry) ≡ binding_of b ∷ []) }
 {
-    match pieces {
-        [Piece::Word(word), rest @ ..] => {
-            if *word == "import" {
+    match pieces.first() {
+        Some((Piece::Word(word), rest)) => {
+            if word == "import" {
                 import_binding(rest)
             } else {
                 binding_named(space_of(word), rest)
@@ -236,8 +239,8 @@ fn binding_at<'a>(pieces: &[Piece<'a>]) -> Option<Binding<'a>>
 }
 
 /// The item of an index space that has this name, or none.
-fn binding_named<'a>(space: Option<IndexSpace>, pieces: &[Piece<'a>]) -> Option<Binding<'a>>
-    ensures { MatchOption result (reading.binding_by space (label_of (map terminal pieces.now)).0 ≡ []) (λ b. reading.binding_by space (label_of (map terminal pieces.now)).0 ≡ binding_of b ∷ []) }
+fn binding_named<'a>(space: Option<IndexSpace>, pieces: Pieces<'_, 'a>) -> Option<Binding<'a>>
+    ensures { MatchOption result (reading.binding_by space (label_of (terminals_of pieces.entry)).0 ≡ []) (λ b. reading.binding_by space (label_of (terminals_of pieces.entry)).0 ≡ binding_of b ∷ []) }
 {
     match space {
         Some(space) => {
@@ -249,41 +252,41 @@ fn binding_named<'a>(space: Option<IndexSpace>, pieces: &[Piece<'a>]) -> Option<
 }
 
 /// The item that an import brings, after its word.
-fn import_binding<'a>(pieces: &[Piece<'a>]) -> Option<Binding<'a>>
-    ensures { MatchOption result (reading.import_binding (map terminal pieces.now) ≡ []) (λ b. reading.import_binding (map terminal pieces.now) ≡ binding_of b ∷ []) }
+fn import_binding<'a>(pieces: Pieces<'_, 'a>) -> Option<Binding<'a>>
+    ensures { MatchOption result (reading.import_binding (terminals_of pieces.entry) ≡ []) (λ b. reading.import_binding (terminals_of pieces.entry) ≡ binding_of b ∷ []) }
 {
-    match pieces {
-        [Piece::Text(_), rest @ ..] => text_binding(rest),
+    match pieces.first() {
+        Some((Piece::Text(_), rest)) => text_binding(rest),
         _ => None,
     }
 }
 
 /// The same after its first name.
-fn text_binding<'a>(pieces: &[Piece<'a>]) -> Option<Binding<'a>>
-    ensures { MatchOption result (reading.text_binding (map terminal pieces.now) ≡ []) (λ b. reading.text_binding (map terminal pieces.now) ≡ binding_of b ∷ []) }
+fn text_binding<'a>(pieces: Pieces<'_, 'a>) -> Option<Binding<'a>>
+    ensures { MatchOption result (reading.text_binding (terminals_of pieces.entry) ≡ []) (λ b. reading.text_binding (terminals_of pieces.entry) ≡ binding_of b ∷ []) }
 {
-    match pieces {
-        [Piece::Text(_), rest @ ..] => open_binding(rest),
+    match pieces.first() {
+        Some((Piece::Text(_), rest)) => open_binding(rest),
         _ => None,
     }
 }
 
 /// The same after both names.
-fn open_binding<'a>(pieces: &[Piece<'a>]) -> Option<Binding<'a>>
-    ensures { MatchOption result (reading.open_binding (map terminal pieces.now) ≡ []) (λ b. reading.open_binding (map terminal pieces.now) ≡ binding_of b ∷ []) }
+fn open_binding<'a>(pieces: Pieces<'_, 'a>) -> Option<Binding<'a>>
+    ensures { MatchOption result (reading.open_binding (terminals_of pieces.entry) ≡ []) (λ b. reading.open_binding (terminals_of pieces.entry) ≡ binding_of b ∷ []) }
 {
-    match pieces {
-        [Piece::Open, rest @ ..] => word_binding(rest),
+    match pieces.first() {
+        Some((Piece::Open, rest)) => word_binding(rest),
         _ => None,
     }
 }
 
 /// The same after its second `(`.
-fn word_binding<'a>(pieces: &[Piece<'a>]) -> Option<Binding<'a>>
-    ensures { MatchOption result (reading.word_binding (map terminal pieces.now) ≡ []) (λ b. reading.word_binding (map terminal pieces.now) ≡ binding_of b ∷ []) }
+fn word_binding<'a>(pieces: Pieces<'_, 'a>) -> Option<Binding<'a>>
+    ensures { MatchOption result (reading.word_binding (terminals_of pieces.entry) ≡ []) (λ b. reading.word_binding (terminals_of pieces.entry) ≡ binding_of b ∷ []) }
 {
-    match pieces {
-        [Piece::Word(word), rest @ ..] => binding_named(space_of(word), rest),
+    match pieces.first() {
+        Some((Piece::Word(word), rest)) => binding_named(space_of(word), rest),
         _ => None,
     }
 }
@@ -305,17 +308,17 @@ fn data_names<'p, 'a>(alloc: Global, starts: &[Left<'p, 'a>]) -> Result<Vec<Name
 #[tactic(auto, unfolding(crate::specs::Reading::data_name_at))]
 fn data_name_at<'p, 'a>(
     alloc: Global,
-    pieces: &'p [Piece<'a>],
+    pieces: Pieces<'p, 'a>,
 ) -> Result<Option<Name<'a>>, AllocError>
-    ensures { IfOk result (λ o. MatchOption o (reading.data_name_at (map terminal pieces.now) ≡ []) (λ n. reading.data_name_at (map terminal pieces.now) ≡ label n ∷ [])) }
+    ensures { IfOk result (λ o. MatchOption o (reading.data_name_at (terminals_of pieces.entry) ≡ []) (λ n. reading.data_name_at (terminals_of pieces.entry) ≡ label n ∷ [])) }
 {
-    match pieces {
-        [Piece::Word(word), rest @ ..] => {
+    match pieces.first() {
+        Some((Piece::Word(word), rest)) => {
             let (name, rest) = label(rest);
-            if *word == "data" {
+            if word == "data" {
                 return Ok(Some(name));
             }
-            if *word == "memory" {
+            if word == "memory" {
                 return inline_data(alloc, rest);
             }
             Ok(None)
@@ -327,9 +330,9 @@ fn data_name_at<'p, 'a>(
 /// The data segment that a memory brings, after its name.
 fn inline_data<'p, 'a>(
     alloc: Global,
-    pieces: &'p [Piece<'a>],
+    pieces: Pieces<'p, 'a>,
 ) -> Result<Option<Name<'a>>, AllocError>
-    ensures { IfOk result (λ o. MatchOption o (reading.inline_data (reading.all reading.export_item (map terminal pieces.now)) ≡ []) (λ n. reading.inline_data (reading.all reading.export_item (map terminal pieces.now)) ≡ label n ∷ [])) }
+    ensures { IfOk result (λ o. MatchOption o (reading.inline_data (reading.all reading.export_item (terminals_of pieces.entry)) ≡ []) (λ n. reading.inline_data (reading.all reading.export_item (terminals_of pieces.entry)) ≡ label n ∷ [])) }
 {
     match exports(alloc, pieces) {
         Ok((_, rest)) => match after("data", rest) {
@@ -358,17 +361,17 @@ fn elem_names<'p, 'a>(alloc: Global, starts: &[Left<'p, 'a>]) -> Result<Vec<Name
 #[tactic(auto, unfolding(crate::specs::Reading::elem_name_at))]
 fn elem_name_at<'p, 'a>(
     alloc: Global,
-    pieces: &'p [Piece<'a>],
+    pieces: Pieces<'p, 'a>,
 ) -> Result<Option<Name<'a>>, AllocError>
-    ensures { IfOk result (λ o. MatchOption o (reading.elem_name_at (map terminal pieces.now) ≡ []) (λ n. reading.elem_name_at (map terminal pieces.now) ≡ label n ∷ [])) }
+    ensures { IfOk result (λ o. MatchOption o (reading.elem_name_at (terminals_of pieces.entry) ≡ []) (λ n. reading.elem_name_at (terminals_of pieces.entry) ≡ label n ∷ [])) }
 {
-    match pieces {
-        [Piece::Word(word), rest @ ..] => {
+    match pieces.first() {
+        Some((Piece::Word(word), rest)) => {
             let (name, rest) = label(rest);
-            if *word == "elem" {
+            if word == "elem" {
                 return Ok(Some(name));
             }
-            if *word == "table" {
+            if word == "table" {
                 return inline_elem(alloc, rest);
             }
             Ok(None)
@@ -380,9 +383,9 @@ fn elem_name_at<'p, 'a>(
 /// The element segment that a table brings, after its name.
 fn inline_elem<'p, 'a>(
     alloc: Global,
-    pieces: &'p [Piece<'a>],
+    pieces: Pieces<'p, 'a>,
 ) -> Result<Option<Name<'a>>, AllocError>
-    ensures { IfOk result (λ o. MatchOption o (reading.inline_elem (reading.all reading.export_item (map terminal pieces.now)) ≡ []) (λ n. reading.inline_elem (reading.all reading.export_item (map terminal pieces.now)) ≡ label n ∷ [])) }
+    ensures { IfOk result (λ o. MatchOption o (reading.inline_elem (reading.all reading.export_item (terminals_of pieces.entry)) ≡ []) (λ n. reading.inline_elem (reading.all reading.export_item (terminals_of pieces.entry)) ≡ label n ∷ [])) }
 {
     match exports(alloc, pieces) {
         Ok((_, rest)) => Ok(elem_after_type(rest)),
@@ -392,11 +395,11 @@ fn inline_elem<'p, 'a>(
 }
 
 /// The same, after its exports.
-fn elem_after_type<'a>(pieces: &[Piece<'a>]) -> Option<Name<'a>>
-    ensures { MatchOption result (reading.elem_after_type (map terminal pieces.now) ≡ []) (λ n. reading.elem_after_type (map terminal pieces.now) ≡ label n ∷ []) }
+fn elem_after_type<'a>(pieces: Pieces<'_, 'a>) -> Option<Name<'a>>
+    ensures { MatchOption result (reading.elem_after_type (terminals_of pieces.entry) ≡ []) (λ n. reading.elem_after_type (terminals_of pieces.entry) ≡ label n ∷ []) }
 {
-    match pieces {
-        [Piece::Word(_), rest @ ..] => match after("elem", rest) {
+    match pieces.first() {
+        Some((Piece::Word(_), rest)) => match after("elem", rest) {
             Some(_) => Some(Name::Absent),
             None => None,
         },
@@ -427,13 +430,13 @@ fn definitions<'p, 'a>(
 #[tactic(auto, unfolding(crate::specs::Reading::definition_at))]
 fn definition_at<'p, 'a>(
     alloc: Global,
-    pieces: &'p [Piece<'a>],
+    pieces: Pieces<'p, 'a>,
 ) -> Result<Option<Definition<'a>>, AllocError>
-    ensures { IfOk result (λ o. MatchOption o (reading.definition_at (map terminal pieces.now) ≡ []) (λ d. reading.definition_at (map terminal pieces.now) ≡ definition_of d ∷ [])) }
+    ensures { IfOk result (λ o. MatchOption o (reading.definition_at (terminals_of pieces.entry) ≡ []) (λ d. reading.definition_at (terminals_of pieces.entry) ≡ definition_of d ∷ [])) }
 {
-    match pieces {
-        [Piece::Word(word), rest @ ..] => {
-            if *word == "type" {
+    match pieces.first() {
+        Some((Piece::Word(word), rest)) => {
+            if word == "type" {
                 definition_after(alloc, rest)
             } else {
                 Ok(None)
@@ -446,9 +449,9 @@ fn definition_at<'p, 'a>(
 /// The same after its word.
 fn definition_after<'p, 'a>(
     alloc: Global,
-    pieces: &'p [Piece<'a>],
+    pieces: Pieces<'p, 'a>,
 ) -> Result<Option<Definition<'a>>, AllocError>
-    ensures { IfOk result (λ o. MatchOption o (reading.definition_by (reading.type_at (map terminal pieces.now)) ≡ []) (λ d. reading.definition_by (reading.type_at (map terminal pieces.now)) ≡ definition_of d ∷ [])) }
+    ensures { IfOk result (λ o. MatchOption o (reading.definition_by (reading.type_at (terminals_of pieces.entry)) ≡ []) (λ d. reading.definition_by (reading.type_at (terminals_of pieces.entry)) ≡ definition_of d ∷ [])) }
 {
     match type_at(alloc, pieces) {
         Ok((definition, _)) => Ok(Some(definition)),

@@ -5,8 +5,9 @@ ghost use Rattle.wat_fields_read.specs.Reading as reading;
 ghost use Rattle.wat_fields.specs.Views.{field_of, target_of, text_of, together};
 ghost use Rattle.wat_fields_read.specs.Views.{IsItem, ItemFaults, NoItem, context_of};
 ghost use Rattle.wat_instructions.specs.Grammar.{label_of};
+ghost use Rattle.wat_instructions.specs.Pieces.{terminals_of};
 ghost use Rattle.wat_instructions.specs.Parts.{Faults, fault_of};
-ghost use Rattle.wat_instructions.specs.Terminals.{label, terminal};
+ghost use Rattle.wat_instructions.specs.Terminals.{label};
 
 use crate::elements::elem_at;
 use crate::header::{after, closed};
@@ -18,6 +19,7 @@ use wat_fields::fields::{Data, Field, Limits, Memory, Target};
 use wat_fields::strings::len_of;
 use wat_instructions::names::IndexedNames;
 use wat_instructions::pieces::{Fault, FaultKind, Instruction, Name, Piece, Refusal};
+use wat_instructions::source::Pieces;
 use wat_instructions::{machine, reading};
 
 /// The bytes of a page of a memory.
@@ -26,11 +28,11 @@ const PAGE: usize = 0x1_0000;
 /// Strings.
 fn strings<'p, 'a>(
     alloc: Global,
-    pieces: &'p [Piece<'a>],
-) -> Result<(Vec<&'a [u8]>, &'p [Piece<'a>]), Refusal<'p, 'a>>
+    pieces: Pieces<'p, 'a>,
+) -> Result<(Vec<&'a [u8]>, Pieces<'p, 'a>), Refusal<'p, 'a>>
     ensures { MatchResult result
-        (λ r. reading.all reading.string_item (map terminal pieces.now) ≡ Ok (together r.0.items, map terminal r.1.now))
-        (λ e. Faults (reading.all reading.string_item (map terminal pieces.now)) e) }
+        (λ r. reading.all reading.string_item (terminals_of pieces.entry) ≡ Ok (together r.0.items, terminals_of r.1))
+        (λ e. Faults (reading.all reading.string_item (terminals_of pieces.entry)) e) }
 {
     let mut found = Vec::new(alloc);
     let mut left = Left { pieces };
@@ -53,13 +55,13 @@ fn next_string<'p, 'a>(
 ) -> Result<Option<Left<'p, 'a>>, Refusal<'p, 'a>>
     ensures { MatchResult result
         (λ o. MatchOption o
-        (NoItem (reading.string_item (map terminal left.entry.pieces.now)) (together found.old.items) (together found.new.items))
-        (λ l. IsItem (reading.string_item (map terminal left.entry.pieces.now)) (together found.old.items) (together found.new.items) (map terminal l.pieces.now)))
-        (λ e. ItemFaults (reading.string_item (map terminal left.entry.pieces.now)) e) }
+        (NoItem (reading.string_item (terminals_of left.entry.pieces)) (together found.old.items) (together found.new.items))
+        (λ l. IsItem (reading.string_item (terminals_of left.entry.pieces)) (together found.old.items) (together found.new.items) (terminals_of l.pieces)))
+        (λ e. ItemFaults (reading.string_item (terminals_of left.entry.pieces)) e) }
 {
-    match left.pieces {
-        [Piece::Text(text), pieces @ ..] => {
-            found.push(*text)?;
+    match left.pieces.first() {
+        Some((Piece::Text(text), pieces)) => {
+            found.push(text)?;
             Ok(Some(Left { pieces }))
         }
         _ => Ok(None),
@@ -71,11 +73,11 @@ pub(crate) fn memory_at<'p, 'a>(
     alloc: Global,
     name: Name<'a>,
     exports: Vec<&'a [u8]>,
-    pieces: &'p [Piece<'a>],
-) -> Result<(Field<'a>, &'p [Piece<'a>]), Refusal<'p, 'a>>
+    pieces: Pieces<'p, 'a>,
+) -> Result<(Field<'a>, Pieces<'p, 'a>), Refusal<'p, 'a>>
     ensures { MatchResult result
-        (λ r. reading.memory_at (label name.entry) (map text_of exports.entry.items) (map terminal pieces.now) ≡ Ok (field_of r.0 ∷ [], map terminal r.1.now))
-        (λ e. Faults (reading.memory_at (label name.entry) (map text_of exports.entry.items) (map terminal pieces.now)) e) }
+        (λ r. reading.memory_at (label name.entry) (map text_of exports.entry.items) (terminals_of pieces.entry) ≡ Ok (field_of r.0 ∷ [], terminals_of r.1))
+        (λ e. Faults (reading.memory_at (label name.entry) (map text_of exports.entry.items) (terminals_of pieces.entry)) e) }
 {
     match after("data", pieces) {
         Some(rest) => memory_data(alloc, name, exports, rest),
@@ -87,11 +89,11 @@ pub(crate) fn memory_at<'p, 'a>(
 fn memory_type<'p, 'a>(
     name: Name<'a>,
     exports: Vec<&'a [u8]>,
-    pieces: &'p [Piece<'a>],
-) -> Result<(Field<'a>, &'p [Piece<'a>]), Fault<'p, 'a>>
+    pieces: Pieces<'p, 'a>,
+) -> Result<(Field<'a>, Pieces<'p, 'a>), Fault<'p, 'a>>
     ensures { MatchResult result
-        (λ r. reading.memory_type (label name.entry) (map text_of exports.entry.items) (map terminal pieces.now) ≡ Ok (field_of r.0 ∷ [], map terminal r.1.now))
-        (λ f. reading.memory_type (label name.entry) (map text_of exports.entry.items) (map terminal pieces.now) ≡ Err (fault_of f)) }
+        (λ r. reading.memory_type (label name.entry) (map text_of exports.entry.items) (terminals_of pieces.entry) ≡ Ok (field_of r.0 ∷ [], terminals_of r.1))
+        (λ f. reading.memory_type (label name.entry) (map text_of exports.entry.items) (terminals_of pieces.entry) ≡ Err (fault_of f)) }
 {
     let (limits, rest) = limits(pieces)?;
     let rest = closed(rest)?;
@@ -111,11 +113,11 @@ fn memory_data<'p, 'a>(
     alloc: Global,
     name: Name<'a>,
     exports: Vec<&'a [u8]>,
-    pieces: &'p [Piece<'a>],
-) -> Result<(Field<'a>, &'p [Piece<'a>]), Refusal<'p, 'a>>
+    pieces: Pieces<'p, 'a>,
+) -> Result<(Field<'a>, Pieces<'p, 'a>), Refusal<'p, 'a>>
     ensures { MatchResult result
-        (λ r. reading.memory_data (label name.entry) (map text_of exports.entry.items) (map terminal pieces.now) ≡ Ok (field_of r.0 ∷ [], map terminal r.1.now))
-        (λ e. Faults (reading.memory_data (label name.entry) (map text_of exports.entry.items) (map terminal pieces.now)) e) }
+        (λ r. reading.memory_data (label name.entry) (map text_of exports.entry.items) (terminals_of pieces.entry) ≡ Ok (field_of r.0 ∷ [], terminals_of r.1))
+        (λ e. Faults (reading.memory_data (label name.entry) (map text_of exports.entry.items) (terminals_of pieces.entry)) e) }
 {
     let (strings, rest) = strings(alloc, pieces)?;
     let rest = twice_closed(rest)?;
@@ -126,13 +128,13 @@ fn memory_data<'p, 'a>(
 fn memory_of<'p, 'a>(
     name: Name<'a>,
     exports: Vec<&'a [u8]>,
-    all: &'p [Piece<'a>],
+    all: Pieces<'p, 'a>,
     strings: Vec<&'a [u8]>,
-    rest: &'p [Piece<'a>],
-) -> Result<(Field<'a>, &'p [Piece<'a>]), Refusal<'p, 'a>>
+    rest: Pieces<'p, 'a>,
+) -> Result<(Field<'a>, Pieces<'p, 'a>), Refusal<'p, 'a>>
     ensures { MatchResult result
-        (λ r. reading.memory_of (label name.entry) (map text_of exports.entry.items) (map terminal all.now) (together strings.entry.items) (map terminal rest.now) ≡ Ok (field_of r.0 ∷ [], map terminal r.1.now))
-        (λ e. Faults (reading.memory_of (label name.entry) (map text_of exports.entry.items) (map terminal all.now) (together strings.entry.items) (map terminal rest.now)) e) }
+        (λ r. reading.memory_of (label name.entry) (map text_of exports.entry.items) (terminals_of all.entry) (together strings.entry.items) (terminals_of rest.entry) ≡ Ok (field_of r.0 ∷ [], terminals_of r.1))
+        (λ e. Faults (reading.memory_of (label name.entry) (map text_of exports.entry.items) (terminals_of all.entry) (together strings.entry.items) (terminals_of rest.entry)) e) }
 {
     let pages = pages_of(&strings)?;
     if pages >= 0x1_0000_0000 {
@@ -168,11 +170,11 @@ fn pages_of(strings: &[&[u8]]) -> Result<usize, AllocError>
 pub(crate) fn used<'p, 'a>(
     word: &str,
     names: &IndexedNames<'_>,
-    pieces: &'p [Piece<'a>],
-) -> Result<(usize, &'p [Piece<'a>]), Fault<'p, 'a>>
+    pieces: Pieces<'p, 'a>,
+) -> Result<(usize, Pieces<'p, 'a>), Fault<'p, 'a>>
     ensures { MatchResult result
-        (λ r. reading.used_at word.now names.now (map terminal pieces.now) ≡ Ok (r.0, map terminal r.1.now))
-        (λ f. reading.used_at word.now names.now (map terminal pieces.now) ≡ Err (fault_of f)) }
+        (λ r. reading.used_at word.now names.now (terminals_of pieces.entry) ≡ Ok (r.0, terminals_of r.1))
+        (λ f. reading.used_at word.now names.now (terminals_of pieces.entry) ≡ Err (fault_of f)) }
 {
     match after(word, pieces) {
         Some(rest) => {
@@ -190,11 +192,11 @@ pub(crate) fn expression<'p, 'a>(
     alloc: Global,
     names: &Names<'a>,
     word: &str,
-    pieces: &'p [Piece<'a>],
-) -> Result<(Vec<Instruction>, &'p [Piece<'a>]), Refusal<'p, 'a>>
+    pieces: Pieces<'p, 'a>,
+) -> Result<(Vec<Instruction>, Pieces<'p, 'a>), Refusal<'p, 'a>>
     ensures { MatchResult result
-        (λ r. reading.expression_at word.now (context_of names.now) (map terminal pieces.now) ≡ Ok (r.0.items, map terminal r.1.now))
-        (λ e. Faults (reading.expression_at word.now (context_of names.now) (map terminal pieces.now)) e) }
+        (λ r. reading.expression_at word.now (context_of names.now) (terminals_of pieces.entry) ≡ Ok (r.0.items, terminals_of r.1))
+        (λ e. Faults (reading.expression_at word.now (context_of names.now) (terminals_of pieces.entry)) e) }
 {
     match after(word, pieces) {
         Some(rest) => {
@@ -210,14 +212,14 @@ pub(crate) fn expression<'p, 'a>(
 fn one_instruction<'p, 'a>(
     alloc: Global,
     names: &Names<'a>,
-    pieces: &'p [Piece<'a>],
-) -> Result<(Vec<Instruction>, &'p [Piece<'a>]), Refusal<'p, 'a>>
+    pieces: Pieces<'p, 'a>,
+) -> Result<(Vec<Instruction>, Pieces<'p, 'a>), Refusal<'p, 'a>>
     ensures { MatchResult result
-        (λ r. reading.one_at (context_of names.now) (map terminal pieces.now) ≡ Ok (r.0.items, map terminal r.1.now))
-        (λ e. Faults (reading.one_at (context_of names.now) (map terminal pieces.now)) e) }
+        (λ r. reading.one_at (context_of names.now) (terminals_of pieces.entry) ≡ Ok (r.0.items, terminals_of r.1))
+        (λ e. Faults (reading.one_at (context_of names.now) (terminals_of pieces.entry)) e) }
 {
-    match pieces {
-        [Piece::Open, rest @ ..] => {
+    match pieces.first() {
+        Some((Piece::Open, rest)) => {
             let locals = IndexedNames::none(alloc);
             let scope = scope(names, &locals);
             machine::one_folded(alloc, &scope, rest)
@@ -234,12 +236,12 @@ pub(crate) fn segment<'p, 'a>(
     alloc: Global,
     names: &Names<'a>,
     word: &str,
-    all: &'p [Piece<'a>],
-    pieces: &'p [Piece<'a>],
-) -> Result<(Field<'a>, &'p [Piece<'a>]), Refusal<'p, 'a>>
+    all: Pieces<'p, 'a>,
+    pieces: Pieces<'p, 'a>,
+) -> Result<(Field<'a>, Pieces<'p, 'a>), Refusal<'p, 'a>>
     ensures { MatchResult result
-        (λ r. reading.segment_at (context_of names.now) word.now (map terminal all.now) (map terminal pieces.now) ≡ Ok (field_of r.0 ∷ [], map terminal r.1.now))
-        (λ e. Faults (reading.segment_at (context_of names.now) word.now (map terminal all.now) (map terminal pieces.now)) e) }
+        (λ r. reading.segment_at (context_of names.now) word.now (terminals_of all.entry) (terminals_of pieces.entry) ≡ Ok (field_of r.0 ∷ [], terminals_of r.1))
+        (λ e. Faults (reading.segment_at (context_of names.now) word.now (terminals_of all.entry) (terminals_of pieces.entry)) e) }
 {
     if word == "data" {
         return data_at(alloc, names, pieces);
@@ -257,11 +259,11 @@ pub(crate) fn segment<'p, 'a>(
 fn data_at<'p, 'a>(
     alloc: Global,
     names: &Names<'a>,
-    pieces: &'p [Piece<'a>],
-) -> Result<(Field<'a>, &'p [Piece<'a>]), Refusal<'p, 'a>>
+    pieces: Pieces<'p, 'a>,
+) -> Result<(Field<'a>, Pieces<'p, 'a>), Refusal<'p, 'a>>
     ensures { MatchResult result
-        (λ r. reading.data_at (context_of names.now) (label_of (map terminal pieces.now)) ≡ Ok (field_of r.0 ∷ [], map terminal r.1.now))
-        (λ e. Faults (reading.data_at (context_of names.now) (label_of (map terminal pieces.now))) e) }
+        (λ r. reading.data_at (context_of names.now) (label_of (terminals_of pieces.entry)) ≡ Ok (field_of r.0 ∷ [], terminals_of r.1))
+        (λ e. Faults (reading.data_at (context_of names.now) (label_of (terminals_of pieces.entry))) e) }
 {
     let (name, rest) = reading::label(pieces);
     data_after(alloc, names, name, rest)
@@ -273,14 +275,14 @@ fn data_after<'p, 'a>(
     alloc: Global,
     names: &Names<'a>,
     name: Name<'a>,
-    pieces: &'p [Piece<'a>],
-) -> Result<(Field<'a>, &'p [Piece<'a>]), Refusal<'p, 'a>>
+    pieces: Pieces<'p, 'a>,
+) -> Result<(Field<'a>, Pieces<'p, 'a>), Refusal<'p, 'a>>
     ensures { MatchResult result
-        (λ r. reading.data_after (context_of names.now) (label name.entry) (map terminal pieces.now) ≡ Ok (field_of r.0 ∷ [], map terminal r.1.now))
-        (λ e. Faults (reading.data_after (context_of names.now) (label name.entry) (map terminal pieces.now)) e) }
+        (λ r. reading.data_after (context_of names.now) (label name.entry) (terminals_of pieces.entry) ≡ Ok (field_of r.0 ∷ [], terminals_of r.1))
+        (λ e. Faults (reading.data_after (context_of names.now) (label name.entry) (terminals_of pieces.entry)) e) }
 {
-    match pieces {
-        [Piece::Open, ..] => active_data(alloc, names, name, pieces),
+    match pieces.first() {
+        Some((Piece::Open, _)) => active_data(alloc, names, name, pieces),
         _ => data_strings(alloc, name, None, pieces),
     }
 }
@@ -290,11 +292,11 @@ fn active_data<'p, 'a>(
     alloc: Global,
     names: &Names<'a>,
     name: Name<'a>,
-    pieces: &'p [Piece<'a>],
-) -> Result<(Field<'a>, &'p [Piece<'a>]), Refusal<'p, 'a>>
+    pieces: Pieces<'p, 'a>,
+) -> Result<(Field<'a>, Pieces<'p, 'a>), Refusal<'p, 'a>>
     ensures { MatchResult result
-        (λ r. reading.active_data (context_of names.now) (label name.entry) (map terminal pieces.now) ≡ Ok (field_of r.0 ∷ [], map terminal r.1.now))
-        (λ e. Faults (reading.active_data (context_of names.now) (label name.entry) (map terminal pieces.now)) e) }
+        (λ r. reading.active_data (context_of names.now) (label name.entry) (terminals_of pieces.entry) ≡ Ok (field_of r.0 ∷ [], terminals_of r.1))
+        (λ e. Faults (reading.active_data (context_of names.now) (label name.entry) (terminals_of pieces.entry)) e) }
 {
     let (index, rest) = used("memory", &names.memories, pieces)?;
     let (offset, rest) = expression(alloc, names, "offset", rest)?;
@@ -306,11 +308,11 @@ fn data_strings<'p, 'a>(
     alloc: Global,
     name: Name<'a>,
     target: Option<Target>,
-    pieces: &'p [Piece<'a>],
-) -> Result<(Field<'a>, &'p [Piece<'a>]), Refusal<'p, 'a>>
+    pieces: Pieces<'p, 'a>,
+) -> Result<(Field<'a>, Pieces<'p, 'a>), Refusal<'p, 'a>>
     ensures { MatchResult result
-        (λ r. reading.data_strings (label name.entry) (target_of target) (map terminal pieces.now) ≡ Ok (field_of r.0 ∷ [], map terminal r.1.now))
-        (λ e. Faults (reading.data_strings (label name.entry) (target_of target) (map terminal pieces.now)) e) }
+        (λ r. reading.data_strings (label name.entry) (target_of target) (terminals_of pieces.entry) ≡ Ok (field_of r.0 ∷ [], terminals_of r.1))
+        (λ e. Faults (reading.data_strings (label name.entry) (target_of target) (terminals_of pieces.entry)) e) }
 {
     let (strings, rest) = strings(alloc, pieces)?;
     let rest = closed(rest)?;

@@ -1,15 +1,16 @@
 //! Limits, types of tables and globals, and index spaces.
-ghost use Rattle.std.specs.Prelude.{◌≡◌, true, Ok, Err, Some, map, MatchResult};
+ghost use Rattle.std.specs.Prelude.{◌≡◌, true, Ok, Err, Some, MatchResult};
 ghost use Rattle.wat_fields.specs.Fields.{space_of};
 ghost use Rattle.wat_fields_read.specs.Reading as reading;
 ghost use Rattle.wat_instructions.specs.Grammar.{small};
+ghost use Rattle.wat_instructions.specs.Pieces.{terminals_of};
 ghost use Rattle.wat_instructions.specs.Parts.{fault_of};
-ghost use Rattle.wat_instructions.specs.Terminals.{terminal};
 
 use crate::header::closed;
 use wat_fields::fields::{GlobalType, IndexSpace, Limits, TableType};
 use wat_instructions::pieces::{Fault, FaultKind, Piece, ReferenceType, Sign, ValueType};
 use wat_instructions::reading::{self, value_type};
+use wat_instructions::source::Pieces;
 
 /// The index space of a word.
 pub(crate) fn space_of(word: &str) -> Option<IndexSpace>
@@ -32,12 +33,12 @@ pub(crate) fn space_of(word: &str) -> Option<IndexSpace>
 fn small<'p, 'a>(
     sign: Sign,
     n: u64,
-    all: &'p [Piece<'a>],
-    rest: &'p [Piece<'a>],
-) -> Result<(u32, &'p [Piece<'a>]), Fault<'p, 'a>>
+    all: Pieces<'p, 'a>,
+    rest: Pieces<'p, 'a>,
+) -> Result<(u32, Pieces<'p, 'a>), Fault<'p, 'a>>
     ensures { MatchResult result
-        (λ r. small sign n (map terminal all.now) (map terminal rest.now) ≡ Ok (r.0, map terminal r.1.now))
-        (λ f. small sign n (map terminal all.now) (map terminal rest.now) ≡ Err (fault_of f)) }
+        (λ r. small sign n (terminals_of all.entry) (terminals_of rest.entry) ≡ Ok (r.0, terminals_of r.1))
+        (λ f. small sign n (terminals_of all.entry) (terminals_of rest.entry) ≡ Err (fault_of f)) }
 {
     match sign {
         Sign::Absent => {
@@ -60,15 +61,15 @@ fn small<'p, 'a>(
 /// Limits.
 #[tactic(auto, unfolding(crate::specs::Reading::limits_at))]
 pub(crate) fn limits<'p, 'a>(
-    pieces: &'p [Piece<'a>],
-) -> Result<(Limits, &'p [Piece<'a>]), Fault<'p, 'a>>
+    pieces: Pieces<'p, 'a>,
+) -> Result<(Limits, Pieces<'p, 'a>), Fault<'p, 'a>>
     ensures { MatchResult result
-        (λ r. reading.limits_at (map terminal pieces.now) ≡ Ok (r.0, map terminal r.1.now))
-        (λ f. reading.limits_at (map terminal pieces.now) ≡ Err (fault_of f)) }
+        (λ r. reading.limits_at (terminals_of pieces.entry) ≡ Ok (r.0, terminals_of r.1))
+        (λ f. reading.limits_at (terminals_of pieces.entry) ≡ Err (fault_of f)) }
 {
-    match pieces {
-        [Piece::Integer(sign, n), rest @ ..] => {
-            let (min, rest) = small(*sign, *n, pieces, rest)?;
+    match pieces.first() {
+        Some((Piece::Integer(sign, n), rest)) => {
+            let (min, rest) = small(sign, n, pieces, rest)?;
             maximum(min, rest)
         }
         _ => Err(Fault {
@@ -81,15 +82,15 @@ pub(crate) fn limits<'p, 'a>(
 /// Limits after their minimum.
 fn maximum<'p, 'a>(
     min: u32,
-    pieces: &'p [Piece<'a>],
-) -> Result<(Limits, &'p [Piece<'a>]), Fault<'p, 'a>>
+    pieces: Pieces<'p, 'a>,
+) -> Result<(Limits, Pieces<'p, 'a>), Fault<'p, 'a>>
     ensures { MatchResult result
-        (λ r. reading.max_at min (map terminal pieces.now) ≡ Ok (r.0, map terminal r.1.now))
-        (λ f. reading.max_at min (map terminal pieces.now) ≡ Err (fault_of f)) }
+        (λ r. reading.max_at min (terminals_of pieces.entry) ≡ Ok (r.0, terminals_of r.1))
+        (λ f. reading.max_at min (terminals_of pieces.entry) ≡ Err (fault_of f)) }
 {
-    match pieces {
-        [Piece::Integer(sign, n), rest @ ..] => {
-            let (max, rest) = small(*sign, *n, pieces, rest)?;
+    match pieces.first() {
+        Some((Piece::Integer(sign, n), rest)) => {
+            let (max, rest) = small(sign, n, pieces, rest)?;
             let max = Some(max);
             Ok((Limits { min, max }, rest))
         }
@@ -100,11 +101,11 @@ fn maximum<'p, 'a>(
 /// The type of a table.
 #[tactic(auto, unfolding(crate::specs::Reading::table_type_at))]
 pub(crate) fn table_type<'p, 'a>(
-    pieces: &'p [Piece<'a>],
-) -> Result<(TableType, &'p [Piece<'a>]), Fault<'p, 'a>>
+    pieces: Pieces<'p, 'a>,
+) -> Result<(TableType, Pieces<'p, 'a>), Fault<'p, 'a>>
     ensures { MatchResult result
-        (λ r. reading.table_type_at (map terminal pieces.now) ≡ Ok (r.0, map terminal r.1.now))
-        (λ f. reading.table_type_at (map terminal pieces.now) ≡ Err (fault_of f)) }
+        (λ r. reading.table_type_at (terminals_of pieces.entry) ≡ Ok (r.0, terminals_of r.1))
+        (λ f. reading.table_type_at (terminals_of pieces.entry) ≡ Err (fault_of f)) }
 {
     let (limits, rest) = limits(pieces)?;
     let (element, rest) = reference_type(rest)?;
@@ -114,14 +115,14 @@ pub(crate) fn table_type<'p, 'a>(
 /// A reference type.
 #[tactic(auto, unfolding(crate::specs::Reading::reference_at))]
 fn reference_type<'p, 'a>(
-    pieces: &'p [Piece<'a>],
-) -> Result<(ReferenceType, &'p [Piece<'a>]), Fault<'p, 'a>>
+    pieces: Pieces<'p, 'a>,
+) -> Result<(ReferenceType, Pieces<'p, 'a>), Fault<'p, 'a>>
     ensures { MatchResult result
-        (λ r. reading.reference_at (map terminal pieces.now) ≡ Ok (r.0, map terminal r.1.now))
-        (λ f. reading.reference_at (map terminal pieces.now) ≡ Err (fault_of f)) }
+        (λ r. reading.reference_at (terminals_of pieces.entry) ≡ Ok (r.0, terminals_of r.1))
+        (λ f. reading.reference_at (terminals_of pieces.entry) ≡ Err (fault_of f)) }
 {
-    match pieces {
-        [Piece::Word(word), rest @ ..] => match reading::reference_type(word) {
+    match pieces.first() {
+        Some((Piece::Word(word), rest)) => match reading::reference_type(word) {
             Some(of) => Ok((of, rest)),
             None => Err(Fault {
                 kind: FaultKind::UnknownWord,
@@ -138,14 +139,14 @@ fn reference_type<'p, 'a>(
 /// The type of a global variable.
 #[tactic(auto, unfolding(crate::specs::Reading::global_type_at))]
 pub(crate) fn global_type<'p, 'a>(
-    pieces: &'p [Piece<'a>],
-) -> Result<(GlobalType, &'p [Piece<'a>]), Fault<'p, 'a>>
+    pieces: Pieces<'p, 'a>,
+) -> Result<(GlobalType, Pieces<'p, 'a>), Fault<'p, 'a>>
     ensures { MatchResult result
-        (λ r. reading.global_type_at (map terminal pieces.now) ≡ Ok (r.0, map terminal r.1.now))
-        (λ f. reading.global_type_at (map terminal pieces.now) ≡ Err (fault_of f)) }
+        (λ r. reading.global_type_at (terminals_of pieces.entry) ≡ Ok (r.0, terminals_of r.1))
+        (λ f. reading.global_type_at (terminals_of pieces.entry) ≡ Err (fault_of f)) }
 {
-    match pieces {
-        [Piece::Word(word), rest @ ..] => match value_type(word) {
+    match pieces.first() {
+        Some((Piece::Word(word), rest)) => match value_type(word) {
             Some(value) => {
                 let is_mutable = false;
                 Ok((GlobalType { is_mutable, value }, rest))
@@ -155,7 +156,7 @@ pub(crate) fn global_type<'p, 'a>(
                 left: pieces,
             }),
         },
-        [Piece::Open, rest @ ..] => mutable(rest),
+        Some((Piece::Open, rest)) => mutable(rest),
         _ => Err(Fault {
             kind: FaultKind::Unexpected,
             left: pieces,
@@ -164,14 +165,14 @@ pub(crate) fn global_type<'p, 'a>(
 }
 
 /// The same after `(`.
-fn mutable<'p, 'a>(pieces: &'p [Piece<'a>]) -> Result<(GlobalType, &'p [Piece<'a>]), Fault<'p, 'a>>
+fn mutable<'p, 'a>(pieces: Pieces<'p, 'a>) -> Result<(GlobalType, Pieces<'p, 'a>), Fault<'p, 'a>>
     ensures { MatchResult result
-        (λ r. reading.mutable_at (map terminal pieces.now) ≡ Ok (r.0, map terminal r.1.now))
-        (λ f. reading.mutable_at (map terminal pieces.now) ≡ Err (fault_of f)) }
+        (λ r. reading.mutable_at (terminals_of pieces.entry) ≡ Ok (r.0, terminals_of r.1))
+        (λ f. reading.mutable_at (terminals_of pieces.entry) ≡ Err (fault_of f)) }
 {
-    match pieces {
-        [Piece::Word(word), rest @ ..] => {
-            if *word == "mut" {
+    match pieces.first() {
+        Some((Piece::Word(word), rest)) => {
+            if word == "mut" {
                 mutable_type(rest)
             } else {
                 Err(Fault {
@@ -189,14 +190,14 @@ fn mutable<'p, 'a>(pieces: &'p [Piece<'a>]) -> Result<(GlobalType, &'p [Piece<'a
 
 /// A value type and `)`, after `(mut`.
 fn mutable_type<'p, 'a>(
-    pieces: &'p [Piece<'a>],
-) -> Result<(GlobalType, &'p [Piece<'a>]), Fault<'p, 'a>>
+    pieces: Pieces<'p, 'a>,
+) -> Result<(GlobalType, Pieces<'p, 'a>), Fault<'p, 'a>>
     ensures { MatchResult result
-        (λ r. reading.mutable_type (map terminal pieces.now) ≡ Ok (r.0, map terminal r.1.now))
-        (λ f. reading.mutable_type (map terminal pieces.now) ≡ Err (fault_of f)) }
+        (λ r. reading.mutable_type (terminals_of pieces.entry) ≡ Ok (r.0, terminals_of r.1))
+        (λ f. reading.mutable_type (terminals_of pieces.entry) ≡ Err (fault_of f)) }
 {
-    match pieces {
-        [Piece::Word(word), rest @ ..] => match value_type(word) {
+    match pieces.first() {
+        Some((Piece::Word(word), rest)) => match value_type(word) {
             Some(of) => closing_mutable(of, rest),
             None => Err(Fault {
                 kind: FaultKind::UnknownWord,
@@ -213,11 +214,11 @@ fn mutable_type<'p, 'a>(
 /// `)` after the type of a mutable global variable.
 fn closing_mutable<'p, 'a>(
     of: ValueType,
-    pieces: &'p [Piece<'a>],
-) -> Result<(GlobalType, &'p [Piece<'a>]), Fault<'p, 'a>>
+    pieces: Pieces<'p, 'a>,
+) -> Result<(GlobalType, Pieces<'p, 'a>), Fault<'p, 'a>>
     ensures { MatchResult result
-        (λ r. reading.mutable_by (Some of) (map terminal pieces.now) (map terminal pieces.now) ≡ Ok (r.0, map terminal r.1.now))
-        (λ f. reading.mutable_by (Some of) (map terminal pieces.now) (map terminal pieces.now) ≡ Err (fault_of f)) }
+        (λ r. reading.mutable_by (Some of) (terminals_of pieces.entry) (terminals_of pieces.entry) ≡ Ok (r.0, terminals_of r.1))
+        (λ f. reading.mutable_by (Some of) (terminals_of pieces.entry) (terminals_of pieces.entry) ≡ Err (fault_of f)) }
 {
     let rest = closed(pieces)?;
     let is_mutable = true;
@@ -231,15 +232,13 @@ fn closing_mutable<'p, 'a>(
 }
 
 /// `)` and `)`.
-pub(crate) fn twice_closed<'p, 'a>(
-    pieces: &'p [Piece<'a>],
-) -> Result<&'p [Piece<'a>], Fault<'p, 'a>>
+pub(crate) fn twice_closed<'p, 'a>(pieces: Pieces<'p, 'a>) -> Result<Pieces<'p, 'a>, Fault<'p, 'a>>
     ensures { MatchResult result
-        (λ r. reading.twice_closed (map terminal pieces.now) ≡ Ok (map terminal r.now))
-        (λ f. reading.twice_closed (map terminal pieces.now) ≡ Err (fault_of f)) }
+        (λ r. reading.twice_closed (terminals_of pieces.entry) ≡ Ok (terminals_of r))
+        (λ f. reading.twice_closed (terminals_of pieces.entry) ≡ Err (fault_of f)) }
 {
-    match pieces {
-        [Piece::Close, rest @ ..] => closed(rest),
+    match pieces.first() {
+        Some((Piece::Close, rest)) => closed(rest),
         _ => Err(Fault {
             kind: FaultKind::Unexpected,
             left: pieces,

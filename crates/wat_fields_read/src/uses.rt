@@ -4,8 +4,9 @@ ghost use Rattle.wat_fields.specs.Fields as grammar;
 ghost use Rattle.wat_fields_read.specs.Reading as reading;
 ghost use Rattle.wat_fields.specs.Views.{definition_of};
 ghost use Rattle.wat_fields_read.specs.Views.{types_of, use_of, variable_of};
+ghost use Rattle.wat_instructions.specs.Pieces.{terminals_of};
 ghost use Rattle.wat_instructions.specs.Parts.{Faults};
-ghost use Rattle.wat_instructions.specs.Terminals.{label, terminal};
+ghost use Rattle.wat_instructions.specs.Terminals.{label};
 ghost use Rattle.wat_instructions.specs.Views.{type_of};
 
 use crate::header::{after, closed, unnamed, variables};
@@ -14,8 +15,9 @@ use crate::types::twice_closed;
 use crate::variables::{NamedUse, Variable, function_type};
 use std::alloc::{AllocError, Global};
 use wat_fields::fields::Definition;
-use wat_instructions::pieces::{Fault, FaultKind, Name, Piece, Refusal};
+use wat_instructions::pieces::{Fault, FaultKind, Name, Refusal};
 use wat_instructions::reading;
+use wat_instructions::source::Pieces;
 use wat_instructions::types::{FunctionType, same_type};
 
 /// A type use.
@@ -23,11 +25,11 @@ use wat_instructions::types::{FunctionType, same_type};
 pub(crate) fn type_use<'p, 'a>(
     alloc: Global,
     names: &Names<'a>,
-    pieces: &'p [Piece<'a>],
-) -> Result<(NamedUse<'a>, &'p [Piece<'a>]), Refusal<'p, 'a>>
+    pieces: Pieces<'p, 'a>,
+) -> Result<(NamedUse<'a>, Pieces<'p, 'a>), Refusal<'p, 'a>>
     ensures { MatchResult result
-        (λ r. reading.use_at (types_of names.now) (map terminal pieces.now) ≡ Ok (use_of r.0, map terminal r.1.now))
-        (λ e. Faults (reading.use_at (types_of names.now) (map terminal pieces.now)) e) }
+        (λ r. reading.use_at (types_of names.now) (terminals_of pieces.entry) ≡ Ok (use_of r.0, terminals_of r.1))
+        (λ e. Faults (reading.use_at (types_of names.now) (terminals_of pieces.entry)) e) }
 {
     match after("type", pieces) {
         Some(rest) => indexed_use(alloc, names, rest),
@@ -38,11 +40,11 @@ pub(crate) fn type_use<'p, 'a>(
 /// A type use that lists its type.
 fn listed_use<'p, 'a>(
     alloc: Global,
-    pieces: &'p [Piece<'a>],
-) -> Result<(NamedUse<'a>, &'p [Piece<'a>]), Refusal<'p, 'a>>
+    pieces: Pieces<'p, 'a>,
+) -> Result<(NamedUse<'a>, Pieces<'p, 'a>), Refusal<'p, 'a>>
     ensures { MatchResult result
-        (λ r. reading.listed_use (map terminal pieces.now) ≡ Ok (use_of r.0, map terminal r.1.now))
-        (λ e. Faults (reading.listed_use (map terminal pieces.now)) e) }
+        (λ r. reading.listed_use (terminals_of pieces.entry) ≡ Ok (use_of r.0, terminals_of r.1))
+        (λ e. Faults (reading.listed_use (terminals_of pieces.entry)) e) }
 {
     let (params, rest) = variables(alloc, "param", true, pieces)?;
     let (results, rest) = variables(alloc, "result", false, rest)?;
@@ -61,11 +63,11 @@ fn listed_use<'p, 'a>(
 fn indexed_use<'p, 'a>(
     alloc: Global,
     names: &Names<'a>,
-    pieces: &'p [Piece<'a>],
-) -> Result<(NamedUse<'a>, &'p [Piece<'a>]), Refusal<'p, 'a>>
+    pieces: Pieces<'p, 'a>,
+) -> Result<(NamedUse<'a>, Pieces<'p, 'a>), Refusal<'p, 'a>>
     ensures { MatchResult result
-        (λ r. reading.indexed_use (types_of names.now) (map terminal pieces.now) ≡ Ok (use_of r.0, map terminal r.1.now))
-        (λ e. Faults (reading.indexed_use (types_of names.now) (map terminal pieces.now)) e) }
+        (λ r. reading.indexed_use (types_of names.now) (terminals_of pieces.entry) ≡ Ok (use_of r.0, terminals_of r.1))
+        (λ e. Faults (reading.indexed_use (types_of names.now) (terminals_of pieces.entry)) e) }
 {
     let (index, rest) = reading::index(&names.type_names, pieces)?;
     let rest = closed(rest)?;
@@ -81,12 +83,12 @@ fn known_use<'p, 'a>(
     alloc: Global,
     names: &Names<'a>,
     index: usize,
-    all: &'p [Piece<'a>],
-    pieces: &'p [Piece<'a>],
-) -> Result<(NamedUse<'a>, &'p [Piece<'a>]), Refusal<'p, 'a>>
+    all: Pieces<'p, 'a>,
+    pieces: Pieces<'p, 'a>,
+) -> Result<(NamedUse<'a>, Pieces<'p, 'a>), Refusal<'p, 'a>>
     ensures { MatchResult result
-        (λ r. reading.lists_after index (slice_get (types_of names.now).types index) (map terminal all.now) (map terminal pieces.now) ≡ Ok (use_of r.0, map terminal r.1.now))
-        (λ e. Faults (reading.lists_after index (slice_get (types_of names.now).types index) (map terminal all.now) (map terminal pieces.now)) e) }
+        (λ r. reading.lists_after index (slice_get (types_of names.now).types index) (terminals_of all.entry) (terminals_of pieces.entry) ≡ Ok (use_of r.0, terminals_of r.1))
+        (λ e. Faults (reading.lists_after index (slice_get (types_of names.now).types index) (terminals_of all.entry) (terminals_of pieces.entry)) e) }
 {
     match type_at_index(&names.types, index) {
         Some(of) => lists(alloc, index, of, all, pieces),
@@ -101,11 +103,11 @@ fn known_use<'p, 'a>(
 fn assumed_use<'p, 'a>(
     alloc: Global,
     index: usize,
-    pieces: &'p [Piece<'a>],
-) -> Result<(NamedUse<'a>, &'p [Piece<'a>]), Refusal<'p, 'a>>
+    pieces: Pieces<'p, 'a>,
+) -> Result<(NamedUse<'a>, Pieces<'p, 'a>), Refusal<'p, 'a>>
     ensures { MatchResult result
-        (λ r. reading.assumed_use index (map terminal pieces.now) ≡ Ok (use_of r.0, map terminal r.1.now))
-        (λ e. Faults (reading.assumed_use index (map terminal pieces.now)) e) }
+        (λ r. reading.assumed_use index (terminals_of pieces.entry) ≡ Ok (use_of r.0, terminals_of r.1))
+        (λ e. Faults (reading.assumed_use index (terminals_of pieces.entry)) e) }
 {
     let (params, rest) = variables(alloc, "param", true, pieces)?;
     let (results, rest) = variables(alloc, "result", false, rest)?;
@@ -132,12 +134,12 @@ fn lists<'p, 'a>(
     alloc: Global,
     index: usize,
     of: &FunctionType,
-    all: &'p [Piece<'a>],
-    pieces: &'p [Piece<'a>],
-) -> Result<(NamedUse<'a>, &'p [Piece<'a>]), Refusal<'p, 'a>>
+    all: Pieces<'p, 'a>,
+    pieces: Pieces<'p, 'a>,
+) -> Result<(NamedUse<'a>, Pieces<'p, 'a>), Refusal<'p, 'a>>
     ensures { MatchResult result
-        (λ r. reading.lists_after index (Some (type_of of.now)) (map terminal all.now) (map terminal pieces.now) ≡ Ok (use_of r.0, map terminal r.1.now))
-        (λ e. Faults (reading.lists_after index (Some (type_of of.now)) (map terminal all.now) (map terminal pieces.now)) e) }
+        (λ r. reading.lists_after index (Some (type_of of.now)) (terminals_of all.entry) (terminals_of pieces.entry) ≡ Ok (use_of r.0, terminals_of r.1))
+        (λ e. Faults (reading.lists_after index (Some (type_of of.now)) (terminals_of all.entry) (terminals_of pieces.entry)) e) }
 {
     let (params, rest) = variables(alloc, "param", true, pieces)?;
     let (results, rest) = variables(alloc, "result", false, rest)?;
@@ -194,11 +196,11 @@ fn index_use<'a>(alloc: Global, index: usize, of: &FunctionType) -> Result<Named
 #[tactic(auto, unfolding(crate::specs::Reading::type_at))]
 pub(crate) fn type_at<'p, 'a>(
     alloc: Global,
-    pieces: &'p [Piece<'a>],
-) -> Result<(Definition<'a>, &'p [Piece<'a>]), Refusal<'p, 'a>>
+    pieces: Pieces<'p, 'a>,
+) -> Result<(Definition<'a>, Pieces<'p, 'a>), Refusal<'p, 'a>>
     ensures { MatchResult result
-        (λ r. reading.type_at (map terminal pieces.now) ≡ Ok (definition_of r.0, map terminal r.1.now))
-        (λ e. Faults (reading.type_at (map terminal pieces.now)) e) }
+        (λ r. reading.type_at (terminals_of pieces.entry) ≡ Ok (definition_of r.0, terminals_of r.1))
+        (λ e. Faults (reading.type_at (terminals_of pieces.entry)) e) }
 {
     let (name, pieces) = reading::label(pieces);
     match after("func", pieces) {
@@ -214,11 +216,11 @@ pub(crate) fn type_at<'p, 'a>(
 fn type_lists<'p, 'a>(
     alloc: Global,
     name: Name<'a>,
-    pieces: &'p [Piece<'a>],
-) -> Result<(Definition<'a>, &'p [Piece<'a>]), Refusal<'p, 'a>>
+    pieces: Pieces<'p, 'a>,
+) -> Result<(Definition<'a>, Pieces<'p, 'a>), Refusal<'p, 'a>>
     ensures { MatchResult result
-        (λ r. reading.type_lists (label name.entry) (map terminal pieces.now) ≡ Ok (definition_of r.0, map terminal r.1.now))
-        (λ e. Faults (reading.type_lists (label name.entry) (map terminal pieces.now)) e) }
+        (λ r. reading.type_lists (label name.entry) (terminals_of pieces.entry) ≡ Ok (definition_of r.0, terminals_of r.1))
+        (λ e. Faults (reading.type_lists (label name.entry) (terminals_of pieces.entry)) e) }
 {
     let (params, rest) = variables(alloc, "param", true, pieces)?;
     let (results, rest) = variables(alloc, "result", false, rest)?;

@@ -1,15 +1,12 @@
 -- What is read by the types of a context is read by others, and brings the same types.
-use Rattle.std.proofs.Common.{◌≡◌, ◌<◌, ℕ, zero, suc, Bool, true, false, List, [], ◌∷◌, ◌++◌, length, Option, Some, None, Result, Ok, Err, refl, sym, ap, subst, ◌∙◌, ◌⊎◌, inl, inr}
-use Rattle.std.specs.Prelude.{if◌then◌else◌, bytes_eq, codes, slice_get, ◌||◌}
-use Rattle.std.specs.List.{flat_map}
+use Rattle.std.proofs.Common.{◌≡◌, ℕ, zero, suc, Bool, true, false, List, [], ◌∷◌, ◌++◌, Option, Some, None, Result, Ok, Err, refl, sym, ap, subst, ◌∙◌, ◌⊎◌, inl, inr}
+use Rattle.std.specs.Prelude.{if◌then◌else◌, codes, slice_get, ◌||◌}
 use Rattle.std.proofs.lemmas.Grind.{flat_map-append}
 use Rattle.wat_instructions.specs.declared.pieces.Argument.{Argument}
 use Rattle.wat_instructions.specs.declared.pieces.Argument.TheVariants as argument
 use Rattle.wat_instructions.specs.declared.pieces.Instruction.{Instruction}
 use Rattle.wat_instructions.specs.declared.pieces.Opcode.{Opcode}
-use Rattle.wat_instructions.specs.declared.pieces.Sign.{Sign}
 use Rattle.wat_instructions.specs.declared.pieces.FaultKind.TheVariants.{OtherType}
-use Rattle.wat_instructions.specs.declared.pieces.ValueType.{ValueType}
 use Rattle.wat_instructions.specs.declared.table.Immediate.{Immediate}
 use Rattle.wat_instructions.specs.declared.table.Immediate.TheVariants as immediate
 use Rattle.wat_instructions.specs.Grammar.{Context, Fault, Instructions, plain, position, label_of, end, otherwise, instruction, block_type}
@@ -17,7 +14,7 @@ use Rattle.wat_instructions.specs.Grammar as grammar
 use Rattle.wat_instructions.specs.Table.{Mnemonic, found, mnemonics}
 use Rattle.wat_instructions.specs.Terminals.{Terminal, Open, Close, Word, Id, Integer, Text, Float, Other, Label}
 use Rattle.wat_instructions.specs.Types.{FunctionType, Types, TypeUse, brought, indirect_call, same_type, type_use}
-use Rattle.wat_instructions.specs.Uses.{AreAmong, Alike, MoreTypesKeep, UnknownTypesBring, and_more, argument_types, expression_types, instruction_types, unknown, retyped}
+use Rattle.wat_instructions.specs.Uses.{MoreTypesKeep, UnknownTypesBring, and_more, argument_types, expression_types, instruction_types, unknown, retyped}
 
 -- where the first is read, the other is read up to the same place, and the values are alike
 abbrev Follows : {A : Type 0} → (A → A → Type 0) → Result (A × List Terminal) Fault → Result (A × List Terminal) Fault → Type 0

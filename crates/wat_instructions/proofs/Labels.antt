@@ -1,9 +1,9 @@
 -- The labels of br_table, one after another.
 use Rattle.std.proofs.Common.{◌≡◌, ℕ, Bool, true, false, List, [], ◌∷◌, ◌++◌, Option, Some, None, Result, Ok, Err, refl, sym, ap, ◌∙◌}
-use denote.Ref.{Bor}
-use Rattle.std.specs.Prelude.{if◌then◌else◌, map, nat_lt, ◌^◌, MatchResult}
+use Rattle.wat_instructions.specs.Pieces.{terminals_of}
+use Rattle.std.specs.Prelude.{if◌then◌else◌, nat_lt, ◌^◌, MatchResult}
 use Rattle.wat_instructions.specs.declared.pieces.Argument.{Argument}
-use Rattle.wat_instructions.specs.declared.pieces.Piece.{Piece}
+use Rattle.wat_instructions.specs.declared.source.Pieces.{Pieces}
 use Rattle.wat_instructions.specs.declared.pieces.Refusal.{Refusal}
 use Rattle.wat_instructions.specs.declared.pieces.Refusal.TheVariants as refusal
 use Rattle.wat_instructions.specs.declared.pieces.FaultKind.TheVariants.{OutOfRange}
@@ -12,7 +12,7 @@ use Rattle.wat_instructions.specs.declared.pieces.Sign.TheVariants as sign
 use Rattle.wat_instructions.specs.Branches.{Branches, branches}
 use Rattle.wat_instructions.specs.Grammar.{Fault, and_labels, before_labels, index, labels_by, labels_from, named, position, small, with_labels}
 use Rattle.wat_instructions.specs.Parts.{Faults, IsMemory, fault_of}
-use Rattle.wat_instructions.specs.Terminals.{Terminal, Open, Close, Word, Id, Integer, Text, Float, Other, Label, terminal}
+use Rattle.wat_instructions.specs.Terminals.{Terminal, Open, Close, Word, Id, Integer, Text, Float, Other, Label}
 
 -- labels before others
 abbrev pub put_before : List ℕ → Result (Branches × List Terminal) Fault → Result (Branches × List Terminal) Fault
@@ -85,7 +85,7 @@ pub labels_fault : (ls : List Label) (all us : List Terminal) (n : ℕ) (found :
 labels_fault ls all us n found left (refusal.Text f) i h k = ap (labels_by ls) i ∙ ap with_labels (h ∙ ap (put_before found) k ∙ put_fault found (fault_of f))
 labels_fault ls all us n found left (refusal.Memory a) i h k = tt
 
-pub table_is : (r : Result (Argument × Bor (List Piece)) Refusal) (q p : Result (Argument × List Terminal) Fault) → q ≡ p → MatchResult r (λ a. p ≡ Ok (a.0, map terminal a.1.now)) IsMemory → MatchResult r (λ a. q ≡ Ok (a.0, map terminal a.1.now)) (λ e. Faults q e)
+pub table_is : (r : Result (Argument × Pieces) Refusal) (q p : Result (Argument × List Terminal) Fault) → q ≡ p → MatchResult r (λ a. p ≡ Ok (a.0, terminals_of a.1)) IsMemory → MatchResult r (λ a. q ≡ Ok (a.0, terminals_of a.1)) (λ e. Faults q e)
 table_is (Ok a) q p e h = e ∙ h
 table_is (Err (refusal.Text f)) q p e h = absurd h
 table_is (Err (refusal.Memory a)) q p e h = tt

@@ -1,3 +1,4 @@
+pub mod Ahead
 pub mod Runs
 pub mod Passing
 pub mod Stacks

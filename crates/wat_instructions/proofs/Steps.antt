@@ -1,11 +1,9 @@
 -- What the code's steps come to together.
-use Rattle.std.proofs.Common.{◌≡◌, ◌<◌, ℕ, zero, suc, List, [], ◌∷◌, ◌++◌, length, map, Ok, refl, sym, ap, subst, ◌∙◌, arith, append_assoc, append-nil}
-use Rattle.std.proofs.lemmas.List.{length-map}
-use Rattle.wat_instructions.specs.declared.pieces.Piece.{Piece}
+use Rattle.std.proofs.Common.{◌≡◌, ◌<◌, ℕ, zero, suc, List, [], ◌∷◌, ◌++◌, length, Ok, refl, sym, ap, subst, ◌∙◌, arith, append_assoc, append-nil}
 use Rattle.wat_instructions.specs.declared.pieces.Instruction.{Instruction}
 use Rattle.wat_instructions.specs.declared.pieces.Refusal.{Refusal}
 use Rattle.wat_instructions.specs.declared.pieces.Refusal.TheVariants.{Text, Memory}
-use Rattle.wat_instructions.specs.Terminals.{Terminal, terminal}
+use Rattle.wat_instructions.specs.Terminals.{Terminal}
 use Rattle.wat_instructions.specs.Grammar.{Context}
 use Rattle.wat_instructions.specs.Machine.{Part, Body, step, run, run_by, output_before}
 use Rattle.wat_instructions.specs.Parts.{Faults, RunsInto, RunsTo, Stepped}
@@ -36,8 +34,8 @@ step_on_into context p ps qs ts us before mid (Text f) s k (suc n) h =
     ap (run_by (run context n)) s.is ∙ ap (output_before s.output) (k n (omega (arith, step_takes context p ps ts _ s.is)))
 step_on_into context p ps qs ts us before mid (Memory a) s k (suc n) h = tt
 
-pub takes_piece : (context : Context) (p : Part) (ps qs : List Part) (before after : List Instruction) (xs ys : List Piece) → Stepped (step context p ps (map terminal xs)) before after qs (map terminal ys) → length ys < length xs
-takes_piece context p ps qs before after xs ys s = let h = step_takes context p ps (map terminal xs) _ s.is in omega (arith, h, length-map xs terminal, length-map ys terminal)
+pub takes_one : (context : Context) (p : Part) (ps qs : List Part) (before after : List Instruction) (ts us : List Terminal) → Stepped (step context p ps ts) before after qs us → length us < length ts
+takes_one context p ps qs before after ts us s = step_takes context p ps ts _ s.is
 
 pub onto : (context : Context) (p : Part) (os ps qs : List Part) (ts us left : List Terminal) (before mid after : List Instruction) → os ≡ p ∷ ps → Stepped (step context p ps ts) before mid qs us → RunsTo context qs us mid after left → RunsTo context os ts before after left
 onto context p os ps qs ts us left before mid after e s k = subst (λ o. RunsTo context o ts before after left) (sym e) (step_on context p ps qs ts us left before mid after s k)

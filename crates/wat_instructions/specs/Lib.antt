@@ -1,4 +1,6 @@
 pub mod Terminals
+pub mod Tokens
+pub mod Pieces
 pub mod Branches
 pub mod Types
 pub mod Memory

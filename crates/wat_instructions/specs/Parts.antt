@@ -12,7 +12,8 @@ use Rattle.wat_instructions.specs.Views.{type_of}
 use Rattle.wat_instructions.specs.Grammar.{Context, Fault, Lane, before_labels, before_type, labels_from, lane_bytes, lane_index, lane_of, listed}
 use Rattle.wat_instructions.specs.Branches.{branches}
 use Rattle.wat_instructions.specs.Machine.{Part, Body, Block, Group, Operands, Condition, Then, Else, Step, run}
-use Rattle.wat_instructions.specs.Terminals.{Terminal, Label, terminal, label}
+use Rattle.wat_instructions.specs.Pieces.{terminals_of}
+use Rattle.wat_instructions.specs.Terminals.{Terminal, Label, label}
 
 abbrev pub part : Frame → Part
 part frame.Body = Body
@@ -44,7 +45,7 @@ scope_of s = record {
 }
 
 abbrev pub fault_of : declared.Fault → Fault
-fault_of f = (f.kind, map terminal f.left.now)
+fault_of f = (f.kind, terminals_of f.left)
 
 -- what a call that refuses promises: the fault of the text; or memory was wanting
 abbrev pub Faults : {A : Type 0} → Result A Fault → Refusal → Type 0

@@ -1,6 +1,8 @@
 -- WebAssembly 2.0 specification, 6.2 (text format, lexical format; 6.2.2 tokens) and 6.3 (values): the tokens that count, each with its value, which are
 -- the terminal symbols of the grammar. And the names of labels, local variables and others.
 use Rattle.std.specs.Prelude.{ℕ, List, Option, Some, None}
+use Rattle.std.specs.Float.{binary32, binary64}
+use Rattle.wat_floats.specs.Literals.{literal}
 use Rattle.wat_instructions.specs.declared.pieces.Piece.{Piece}
 use Rattle.wat_instructions.specs.declared.pieces.Piece.TheVariants as piece
 use Rattle.wat_instructions.specs.declared.pieces.Name.{Name}
@@ -24,6 +26,10 @@ pub data Terminal : Type 0 where
   -- any other token: no rule takes it
   Other : Terminal
 
+-- a number's word, as a float
+abbrev pub float_of : List ℕ → Terminal
+float_of w = Float (literal binary32 w) (literal binary64 w)
+
 -- what a token of the program is
 abbrev pub terminal : Piece → Terminal
 terminal piece.Open = Open
@@ -31,7 +37,7 @@ terminal piece.Close = Close
 terminal (piece.Word w) = Word w.now
 terminal (piece.Id x) = Id x.now
 terminal (piece.Integer s n) = Integer s n
-terminal (piece.Float narrow wide) = Float narrow wide
+terminal (piece.Float w) = float_of w.now
 terminal (piece.Text v) = Text v.now
 terminal piece.Other = Other
 

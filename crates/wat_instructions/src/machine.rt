@@ -1,14 +1,16 @@
 //! The instructions of a body, over a stack of what is open.
 ghost use Rattle.wat_instructions.specs.Grammar.{structured};
+ghost use Rattle.wat_instructions.specs.Pieces.{terminals_of};
 ghost use Rattle.wat_instructions.specs.Machine as spec;
 ghost use Rattle.wat_instructions.specs.Machine.{Part};
 ghost use Rattle.wat_instructions.specs.Parts.{Faults, RunsInto, RunsTo, Stepped, part, scope_of, stack};
 ghost use Rattle.wat_instructions.specs.Terminals as terminals;
-ghost use Rattle.wat_instructions.specs.Terminals.{Terminal, terminal};
-ghost use Rattle.std.specs.Prelude.{◌≡◌, [], ◌∷◌, map, Ok, Err, MatchResult, List};
+ghost use Rattle.wat_instructions.specs.Terminals.{Terminal};
+ghost use Rattle.std.specs.Prelude.{◌≡◌, [], ◌∷◌, Ok, Err, MatchResult, List};
 
 use crate::pieces::{Argument, Frame, Instruction, Name, Opcode, Piece, Refusal, unexpected};
 use crate::reading::{self, Scope};
+use crate::source::Pieces;
 use crate::uses;
 use std::alloc::Global;
 
@@ -30,11 +32,11 @@ const END: Instruction = Instruction {
 pub fn instructions<'p, 'a>(
     alloc: Global,
     scope: &Scope<'_, '_>,
-    pieces: &'p [Piece<'a>],
-) -> Result<(Vec<Instruction>, &'p [Piece<'a>]), Refusal<'p, 'a>>
+    pieces: Pieces<'p, 'a>,
+) -> Result<(Vec<Instruction>, Pieces<'p, 'a>), Refusal<'p, 'a>>
     ensures { MatchResult result
-        (λ r. spec.body (scope_of scope.now) (map terminal pieces.now) ≡ Ok (r.0.items, map terminal r.1.now))
-        (λ e. Faults (spec.body (scope_of scope.now) (map terminal pieces.now)) e) }
+        (λ r. spec.body (scope_of scope.now) (terminals_of pieces.entry) ≡ Ok (r.0.items, terminals_of r.1))
+        (λ e. Faults (spec.body (scope_of scope.now) (terminals_of pieces.entry)) e) }
 {
     let mut out = Vec::with_capacity(alloc, 1)?;
     let mut frames = Vec::new(alloc);
@@ -52,11 +54,11 @@ pub fn instructions<'p, 'a>(
 pub fn one_folded<'p, 'a>(
     alloc: Global,
     scope: &Scope<'_, '_>,
-    pieces: &'p [Piece<'a>],
-) -> Result<(Vec<Instruction>, &'p [Piece<'a>]), Refusal<'p, 'a>>
+    pieces: Pieces<'p, 'a>,
+) -> Result<(Vec<Instruction>, Pieces<'p, 'a>), Refusal<'p, 'a>>
     ensures { MatchResult result
-        (λ r. spec.folded (scope_of scope.now) (map terminal pieces.now) ≡ Ok (r.0.items, map terminal r.1.now))
-        (λ e. Faults (spec.folded (scope_of scope.now) (map terminal pieces.now)) e) }
+        (λ r. spec.folded (scope_of scope.now) (terminals_of pieces.entry) ≡ Ok (r.0.items, terminals_of r.1))
+        (λ e. Faults (spec.folded (scope_of scope.now) (terminals_of pieces.entry)) e) }
 {
     // Most are one instruction, and a first push makes room for four.
     let mut out = Vec::with_capacity(alloc, 1)?;
@@ -76,15 +78,15 @@ fn first_step<'p, 'a>(
     scope: &Scope<'_, '_>,
     frames: &mut Vec<Frame<'p>>,
     out: &mut Vec<Instruction>,
-    pieces: &'p [Piece<'a>],
-) -> Result<&'p [Piece<'a>], Refusal<'p, 'a>>
+    pieces: Pieces<'p, 'a>,
+) -> Result<Pieces<'p, 'a>, Refusal<'p, 'a>>
     requires { stack frames.now.items ≡ [] }
     ensures { MatchResult result
-        (λ r. Stepped (spec.first_step (scope_of scope.now) (map terminal pieces.now)) out.old.items out.new.items (stack frames.new.items) (map terminal r.now))
-        (λ e. Faults (spec.first_step (scope_of scope.now) (map terminal pieces.now)) e) }
+        (λ r. Stepped (spec.first_step (scope_of scope.now) (terminals_of pieces.entry)) out.old.items out.new.items (stack frames.new.items) (terminals_of r))
+        (λ e. Faults (spec.first_step (scope_of scope.now) (terminals_of pieces.entry)) e) }
 {
-    match pieces {
-        [Piece::Word(word), rest @ ..] => folded_instruction(
+    match pieces.first() {
+        Some((Piece::Word(word), rest)) => folded_instruction(
             alloc, scope, frames, out, word, pieces, rest,
         ),
         _ => Err(Refusal::Text(unexpected(pieces))),
@@ -97,11 +99,11 @@ fn steps<'p, 'a>(
     scope: &Scope<'_, '_>,
     frames: &mut Vec<Frame<'p>>,
     out: &mut Vec<Instruction>,
-    pieces: &'p [Piece<'a>],
-) -> Result<&'p [Piece<'a>], Refusal<'p, 'a>>
+    pieces: Pieces<'p, 'a>,
+) -> Result<Pieces<'p, 'a>, Refusal<'p, 'a>>
     ensures { MatchResult result
-        (λ r. RunsTo (scope_of scope.now) (stack frames.old.items) (map terminal pieces.now) out.old.items out.new.items (map terminal r.now))
-        (λ e. RunsInto (scope_of scope.now) (stack frames.old.items) (map terminal pieces.now) e) }
+        (λ r. RunsTo (scope_of scope.now) (stack frames.old.items) (terminals_of pieces.entry) out.old.items out.new.items (terminals_of r))
+        (λ e. RunsInto (scope_of scope.now) (stack frames.old.items) (terminals_of pieces.entry) e) }
 {
     let mut left = Left { pieces };
     'open: loop {
@@ -120,7 +122,7 @@ fn steps<'p, 'a>(
 /// What is left to read.
 #[derive(Clone, Copy)]
 struct Left<'p, 'a> {
-    pieces: &'p [Piece<'a>],
+    pieces: Pieces<'p, 'a>,
 }
 
 /// A step.
@@ -133,8 +135,8 @@ fn step_on<'p, 'a>(
     left: Left<'p, 'a>,
 ) -> Result<Left<'p, 'a>, Refusal<'p, 'a>>
     ensures { MatchResult result
-        (λ r. Stepped (spec.step (scope_of scope.now) (part frame.entry) (stack frames.old.items) (map terminal left.entry.pieces.now)) out.old.items out.new.items (stack frames.new.items) (map terminal r.pieces.now))
-        (λ e. Faults (spec.step (scope_of scope.now) (part frame.entry) (stack frames.old.items) (map terminal left.entry.pieces.now)) e) }
+        (λ r. Stepped (spec.step (scope_of scope.now) (part frame.entry) (stack frames.old.items) (terminals_of left.entry.pieces)) out.old.items out.new.items (stack frames.new.items) (terminals_of r.pieces))
+        (λ e. Faults (spec.step (scope_of scope.now) (part frame.entry) (stack frames.old.items) (terminals_of left.entry.pieces)) e) }
 {
     match step(alloc, scope, frame, frames, out, left.pieces) {
         Ok(pieces) => Ok(Left { pieces }),
@@ -150,16 +152,16 @@ fn step<'p, 'a>(
     frame: Frame<'p>,
     frames: &mut Vec<Frame<'p>>,
     out: &mut Vec<Instruction>,
-    pieces: &'p [Piece<'a>],
-) -> Result<&'p [Piece<'a>], Refusal<'p, 'a>>
+    pieces: Pieces<'p, 'a>,
+) -> Result<Pieces<'p, 'a>, Refusal<'p, 'a>>
     ensures { MatchResult result
-        (λ r. Stepped (spec.step (scope_of scope.now) (part frame.entry) (stack frames.old.items) (map terminal pieces.now)) out.old.items out.new.items (stack frames.new.items) (map terminal r.now))
-        (λ e. Faults (spec.step (scope_of scope.now) (part frame.entry) (stack frames.old.items) (map terminal pieces.now)) e) }
+        (λ r. Stepped (spec.step (scope_of scope.now) (part frame.entry) (stack frames.old.items) (terminals_of pieces.entry)) out.old.items out.new.items (stack frames.new.items) (terminals_of r))
+        (λ e. Faults (spec.step (scope_of scope.now) (part frame.entry) (stack frames.old.items) (terminals_of pieces.entry)) e) }
 {
-    match pieces {
-        [Piece::Open, rest @ ..] => folded(alloc, scope, frame, frames, out, rest),
-        [Piece::Close, rest @ ..] => closed(frame, frames, out, pieces, rest),
-        [Piece::Word(word), rest @ ..] => at_word(
+    match pieces.first() {
+        Some((Piece::Open, rest)) => folded(alloc, scope, frame, frames, out, rest),
+        Some((Piece::Close, rest)) => closed(frame, frames, out, pieces, rest),
+        Some((Piece::Word(word), rest)) => at_word(
             alloc, scope, frame, frames, out, word, pieces, rest,
         ),
         _ => Err(Refusal::Text(unexpected(pieces))),
@@ -171,12 +173,12 @@ fn closed<'p, 'a>(
     frame: Frame<'p>,
     frames: &mut Vec<Frame<'p>>,
     out: &mut Vec<Instruction>,
-    pieces: &'p [Piece<'a>],
-    rest: &'p [Piece<'a>],
-) -> Result<&'p [Piece<'a>], Refusal<'p, 'a>>
+    pieces: Pieces<'p, 'a>,
+    rest: Pieces<'p, 'a>,
+) -> Result<Pieces<'p, 'a>, Refusal<'p, 'a>>
     ensures { MatchResult result
-        (λ r. Stepped (spec.close_step (part frame.entry) (map terminal pieces.now) (map terminal rest.now) (stack frames.old.items)) out.old.items out.new.items (stack frames.new.items) (map terminal r.now))
-        (λ e. Faults (spec.close_step (part frame.entry) (map terminal pieces.now) (map terminal rest.now) (stack frames.old.items)) e) }
+        (λ r. Stepped (spec.close_step (part frame.entry) (terminals_of pieces.entry) (terminals_of rest.entry) (stack frames.old.items)) out.old.items out.new.items (stack frames.new.items) (terminals_of r))
+        (λ e. Faults (spec.close_step (part frame.entry) (terminals_of pieces.entry) (terminals_of rest.entry) (stack frames.old.items)) e) }
 {
     match frame {
         Frame::Body => Ok(rest),
@@ -199,14 +201,14 @@ fn closed<'p, 'a>(
 fn after_else<'p, 'a>(
     frames: &mut Vec<Frame<'p>>,
     out: &mut Vec<Instruction>,
-    pieces: &'p [Piece<'a>],
-) -> Result<&'p [Piece<'a>], Refusal<'p, 'a>>
+    pieces: Pieces<'p, 'a>,
+) -> Result<Pieces<'p, 'a>, Refusal<'p, 'a>>
     ensures { MatchResult result
-        (λ r. Stepped (spec.else_step (map terminal pieces.now) (stack frames.old.items)) out.old.items out.new.items (stack frames.new.items) (map terminal r.now))
-        (λ e. Faults (spec.else_step (map terminal pieces.now) (stack frames.old.items)) e) }
+        (λ r. Stepped (spec.else_step (terminals_of pieces.entry) (stack frames.old.items)) out.old.items out.new.items (stack frames.new.items) (terminals_of r))
+        (λ e. Faults (spec.else_step (terminals_of pieces.entry) (stack frames.old.items)) e) }
 {
-    match pieces {
-        [Piece::Close, rest @ ..] => {
+    match pieces.first() {
+        Some((Piece::Close, rest)) => {
             out.push(END)?;
             Ok(rest)
         }
@@ -219,18 +221,18 @@ fn after_then<'p, 'a>(
     label: Name<'p>,
     frames: &mut Vec<Frame<'p>>,
     out: &mut Vec<Instruction>,
-    pieces: &'p [Piece<'a>],
-) -> Result<&'p [Piece<'a>], Refusal<'p, 'a>>
+    pieces: Pieces<'p, 'a>,
+) -> Result<Pieces<'p, 'a>, Refusal<'p, 'a>>
     ensures { MatchResult result
-        (λ r. Stepped (spec.then_step (terminals.label label.entry) (map terminal pieces.now) (stack frames.old.items)) out.old.items out.new.items (stack frames.new.items) (map terminal r.now))
-        (λ e. Faults (spec.then_step (terminals.label label.entry) (map terminal pieces.now) (stack frames.old.items)) e) }
+        (λ r. Stepped (spec.then_step (terminals.label label.entry) (terminals_of pieces.entry) (stack frames.old.items)) out.old.items out.new.items (stack frames.new.items) (terminals_of r))
+        (λ e. Faults (spec.then_step (terminals.label label.entry) (terminals_of pieces.entry) (stack frames.old.items)) e) }
 {
-    match pieces {
-        [Piece::Close, rest @ ..] => {
+    match pieces.first() {
+        Some((Piece::Close, rest)) => {
             out.push(END)?;
             Ok(rest)
         }
-        [Piece::Open, rest @ ..] => other_part(label, frames, out, rest),
+        Some((Piece::Open, rest)) => other_part(label, frames, out, rest),
         _ => Err(Refusal::Text(unexpected(pieces))),
     }
 }
@@ -241,14 +243,14 @@ fn other_part<'p, 'a>(
     label: Name<'p>,
     frames: &mut Vec<Frame<'p>>,
     out: &mut Vec<Instruction>,
-    pieces: &'p [Piece<'a>],
-) -> Result<&'p [Piece<'a>], Refusal<'p, 'a>>
+    pieces: Pieces<'p, 'a>,
+) -> Result<Pieces<'p, 'a>, Refusal<'p, 'a>>
     ensures { MatchResult result
-        (λ r. Stepped (spec.other_step (terminals.label label.entry) (map terminal pieces.now) (stack frames.old.items)) out.old.items out.new.items (stack frames.new.items) (map terminal r.now))
-        (λ e. Faults (spec.other_step (terminals.label label.entry) (map terminal pieces.now) (stack frames.old.items)) e) }
+        (λ r. Stepped (spec.other_step (terminals.label label.entry) (terminals_of pieces.entry) (stack frames.old.items)) out.old.items out.new.items (stack frames.new.items) (terminals_of r))
+        (λ e. Faults (spec.other_step (terminals.label label.entry) (terminals_of pieces.entry) (stack frames.old.items)) e) }
 {
-    match pieces {
-        [Piece::Word(word), rest @ ..] => {
+    match pieces.first() {
+        Some((Piece::Word(word), rest)) => {
             if reading::is_else(word) {
                 turned(label, frames, out, rest)
             } else {
@@ -265,11 +267,11 @@ fn turned<'p, 'a>(
     label: Name<'p>,
     frames: &mut Vec<Frame<'p>>,
     out: &mut Vec<Instruction>,
-    rest: &'p [Piece<'a>],
-) -> Result<&'p [Piece<'a>], Refusal<'p, 'a>>
+    rest: Pieces<'p, 'a>,
+) -> Result<Pieces<'p, 'a>, Refusal<'p, 'a>>
     ensures { MatchResult result
-        (λ r. Stepped (spec.other_part (terminals.label label.entry) (map terminal rest.now) (stack frames.old.items)) out.old.items out.new.items (stack frames.new.items) (map terminal r.now))
-        (λ e. Faults (spec.other_part (terminals.label label.entry) (map terminal rest.now) (stack frames.old.items)) e) }
+        (λ r. Stepped (spec.other_part (terminals.label label.entry) (terminals_of rest.entry) (stack frames.old.items)) out.old.items out.new.items (stack frames.new.items) (terminals_of r))
+        (λ e. Faults (spec.other_part (terminals.label label.entry) (terminals_of rest.entry) (stack frames.old.items)) e) }
 {
     frames.push(Frame::Else(label))?;
     out.push(ELSE)?;
@@ -283,14 +285,14 @@ fn folded<'p, 'a>(
     frame: Frame<'p>,
     frames: &mut Vec<Frame<'p>>,
     out: &mut Vec<Instruction>,
-    pieces: &'p [Piece<'a>],
-) -> Result<&'p [Piece<'a>], Refusal<'p, 'a>>
+    pieces: Pieces<'p, 'a>,
+) -> Result<Pieces<'p, 'a>, Refusal<'p, 'a>>
     ensures { MatchResult result
-        (λ r. Stepped (spec.open_step (scope_of scope.now) (part frame.entry) (map terminal pieces.now) (stack frames.old.items)) out.old.items out.new.items (stack frames.new.items) (map terminal r.now))
-        (λ e. Faults (spec.open_step (scope_of scope.now) (part frame.entry) (map terminal pieces.now) (stack frames.old.items)) e) }
+        (λ r. Stepped (spec.open_step (scope_of scope.now) (part frame.entry) (terminals_of pieces.entry) (stack frames.old.items)) out.old.items out.new.items (stack frames.new.items) (terminals_of r))
+        (λ e. Faults (spec.open_step (scope_of scope.now) (part frame.entry) (terminals_of pieces.entry) (stack frames.old.items)) e) }
 {
-    match pieces {
-        [Piece::Word(word), rest @ ..] => folded_word(
+    match pieces.first() {
+        Some((Piece::Word(word), rest)) => folded_word(
             alloc, scope, frame, frames, out, word, pieces, rest,
         ),
         _ => Err(Refusal::Text(unexpected(pieces))),
@@ -306,12 +308,12 @@ fn folded_word<'p, 'a>(
     frames: &mut Vec<Frame<'p>>,
     out: &mut Vec<Instruction>,
     word: &str,
-    pieces: &'p [Piece<'a>],
-    rest: &'p [Piece<'a>],
-) -> Result<&'p [Piece<'a>], Refusal<'p, 'a>>
+    pieces: Pieces<'p, 'a>,
+    rest: Pieces<'p, 'a>,
+) -> Result<Pieces<'p, 'a>, Refusal<'p, 'a>>
     ensures { MatchResult result
-        (λ r. Stepped (spec.folded_by (scope_of scope.now) (part frame.entry) word.now (map terminal pieces.now) (map terminal rest.now) (stack frames.old.items)) out.old.items out.new.items (stack frames.new.items) (map terminal r.now))
-        (λ e. Faults (spec.folded_by (scope_of scope.now) (part frame.entry) word.now (map terminal pieces.now) (map terminal rest.now) (stack frames.old.items)) e) }
+        (λ r. Stepped (spec.folded_by (scope_of scope.now) (part frame.entry) word.now (terminals_of pieces.entry) (terminals_of rest.entry) (stack frames.old.items)) out.old.items out.new.items (stack frames.new.items) (terminals_of r))
+        (λ e. Faults (spec.folded_by (scope_of scope.now) (part frame.entry) word.now (terminals_of pieces.entry) (terminals_of rest.entry) (stack frames.old.items)) e) }
 {
     match frame {
         Frame::Condition(instruction, label) => {
@@ -343,12 +345,12 @@ fn folded_instruction<'p, 'a>(
     frames: &mut Vec<Frame<'p>>,
     out: &mut Vec<Instruction>,
     word: &str,
-    pieces: &'p [Piece<'a>],
-    rest: &'p [Piece<'a>],
-) -> Result<&'p [Piece<'a>], Refusal<'p, 'a>>
+    pieces: Pieces<'p, 'a>,
+    rest: Pieces<'p, 'a>,
+) -> Result<Pieces<'p, 'a>, Refusal<'p, 'a>>
     ensures { MatchResult result
-        (λ r. Stepped (spec.open_by (scope_of scope.now) (structured word.now) (map terminal pieces.now) (map terminal rest.now) (stack frames.old.items)) out.old.items out.new.items (stack frames.new.items) (map terminal r.now))
-        (λ e. Faults (spec.open_by (scope_of scope.now) (structured word.now) (map terminal pieces.now) (map terminal rest.now) (stack frames.old.items)) e) }
+        (λ r. Stepped (spec.open_by (scope_of scope.now) (structured word.now) (terminals_of pieces.entry) (terminals_of rest.entry) (stack frames.old.items)) out.old.items out.new.items (stack frames.new.items) (terminals_of r))
+        (λ e. Faults (spec.open_by (scope_of scope.now) (structured word.now) (terminals_of pieces.entry) (terminals_of rest.entry) (stack frames.old.items)) e) }
 {
     match reading::structured(word) {
         Some(opcode) => folded_block(alloc, scope, frames, out, opcode, rest),
@@ -368,11 +370,11 @@ fn folded_block<'p, 'a>(
     frames: &mut Vec<Frame<'p>>,
     out: &mut Vec<Instruction>,
     opcode: u8,
-    pieces: &'p [Piece<'a>],
-) -> Result<&'p [Piece<'a>], Refusal<'p, 'a>>
+    pieces: Pieces<'p, 'a>,
+) -> Result<Pieces<'p, 'a>, Refusal<'p, 'a>>
     ensures { MatchResult result
-        (λ r. Stepped (spec.open_block (scope_of scope.now) opcode (map terminal pieces.now) (stack frames.old.items)) out.old.items out.new.items (stack frames.new.items) (map terminal r.now))
-        (λ e. Faults (spec.open_block (scope_of scope.now) opcode (map terminal pieces.now) (stack frames.old.items)) e) }
+        (λ r. Stepped (spec.open_block (scope_of scope.now) opcode (terminals_of pieces.entry) (stack frames.old.items)) out.old.items out.new.items (stack frames.new.items) (terminals_of r))
+        (λ e. Faults (spec.open_block (scope_of scope.now) opcode (terminals_of pieces.entry) (stack frames.old.items)) e) }
 {
     let (label, rest) = reading::label(pieces);
     let (argument, rest) = uses::block_type(alloc, scope, rest)?;
@@ -398,12 +400,12 @@ fn at_word<'p, 'a>(
     frames: &mut Vec<Frame<'p>>,
     out: &mut Vec<Instruction>,
     word: &str,
-    pieces: &'p [Piece<'a>],
-    rest: &'p [Piece<'a>],
-) -> Result<&'p [Piece<'a>], Refusal<'p, 'a>>
+    pieces: Pieces<'p, 'a>,
+    rest: Pieces<'p, 'a>,
+) -> Result<Pieces<'p, 'a>, Refusal<'p, 'a>>
     ensures { MatchResult result
-        (λ r. Stepped (spec.word_step (scope_of scope.now) (part frame.entry) word.now (map terminal pieces.now) (map terminal rest.now) (stack frames.old.items)) out.old.items out.new.items (stack frames.new.items) (map terminal r.now))
-        (λ e. Faults (spec.word_step (scope_of scope.now) (part frame.entry) word.now (map terminal pieces.now) (map terminal rest.now) (stack frames.old.items)) e) }
+        (λ r. Stepped (spec.word_step (scope_of scope.now) (part frame.entry) word.now (terminals_of pieces.entry) (terminals_of rest.entry) (stack frames.old.items)) out.old.items out.new.items (stack frames.new.items) (terminals_of r))
+        (λ e. Faults (spec.word_step (scope_of scope.now) (part frame.entry) word.now (terminals_of pieces.entry) (terminals_of rest.entry) (stack frames.old.items)) e) }
 {
     match frame {
         Frame::Operands(_) => Err(Refusal::Text(unexpected(pieces))),
@@ -438,12 +440,12 @@ fn instruction<'p, 'a>(
     frames: &mut Vec<Frame<'p>>,
     out: &mut Vec<Instruction>,
     word: &str,
-    pieces: &'p [Piece<'a>],
-    rest: &'p [Piece<'a>],
-) -> Result<&'p [Piece<'a>], Refusal<'p, 'a>>
+    pieces: Pieces<'p, 'a>,
+    rest: Pieces<'p, 'a>,
+) -> Result<Pieces<'p, 'a>, Refusal<'p, 'a>>
     ensures { MatchResult result
-        (λ r. Stepped (spec.word_by (scope_of scope.now) (structured word.now) (map terminal pieces.now) (map terminal rest.now) (stack frames.old.items)) out.old.items out.new.items (stack frames.new.items) (map terminal r.now))
-        (λ e. Faults (spec.word_by (scope_of scope.now) (structured word.now) (map terminal pieces.now) (map terminal rest.now) (stack frames.old.items)) e) }
+        (λ r. Stepped (spec.word_by (scope_of scope.now) (structured word.now) (terminals_of pieces.entry) (terminals_of rest.entry) (stack frames.old.items)) out.old.items out.new.items (stack frames.new.items) (terminals_of r))
+        (λ e. Faults (spec.word_by (scope_of scope.now) (structured word.now) (terminals_of pieces.entry) (terminals_of rest.entry) (stack frames.old.items)) e) }
 {
     match reading::structured(word) {
         Some(opcode) => {

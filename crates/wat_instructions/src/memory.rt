@@ -1,17 +1,18 @@
 //! Memory arguments.
-ghost use Rattle.std.specs.Prelude.{◌≡◌, MatchOption, None, Some, map};
+ghost use Rattle.std.specs.Prelude.{◌≡◌, MatchOption, None, Some};
 ghost use Rattle.wat_instructions.specs.Grammar.{align_of, memory_of, offset_of};
+ghost use Rattle.wat_instructions.specs.Pieces.{terminals_of};
 ghost use Rattle.wat_instructions.specs.Memory as memory;
-ghost use Rattle.wat_instructions.specs.Terminals.{terminal};
 ghost use Rattle.wat_lex.specs.grammar.Numbers.{is_digit};
 
 use crate::pieces::{Argument, Piece};
+use crate::source::Pieces;
 use wat_lex::lexer::magnitude;
 
 /// The argument, which is one of offset 0 and of this alignment where nothing is written.
-pub(crate) fn argument<'p, 'a>(natural: u8, pieces: &'p [Piece<'a>]) -> (Argument, &'p [Piece<'a>])
-    ensures argument { result.0 ≡ (memory_of natural (map terminal pieces.now)).0 }
-    ensures rest { map terminal result.1.now ≡ (memory_of natural (map terminal pieces.now)).1 }
+pub(crate) fn argument<'p, 'a>(natural: u8, pieces: Pieces<'p, 'a>) -> (Argument, Pieces<'p, 'a>)
+    ensures argument { result.0 ≡ (memory_of natural (terminals_of pieces.entry)).0 }
+    ensures rest { terminals_of result.1 ≡ (memory_of natural (terminals_of pieces.entry)).1 }
 {
     let (offset, rest) = offset_at(pieces);
     let (align, rest) = align_at(natural, rest);
@@ -19,12 +20,12 @@ pub(crate) fn argument<'p, 'a>(natural: u8, pieces: &'p [Piece<'a>]) -> (Argumen
 }
 
 /// The offset, and what comes after it.
-pub(crate) fn offset_at<'p, 'a>(pieces: &'p [Piece<'a>]) -> (u32, &'p [Piece<'a>])
-    ensures offset { result.0 ≡ (offset_of (map terminal pieces.now)).0 }
-    ensures rest { map terminal result.1.now ≡ (offset_of (map terminal pieces.now)).1 }
+pub(crate) fn offset_at<'p, 'a>(pieces: Pieces<'p, 'a>) -> (u32, Pieces<'p, 'a>)
+    ensures offset { result.0 ≡ (offset_of (terminals_of pieces.entry)).0 }
+    ensures rest { terminals_of result.1 ≡ (offset_of (terminals_of pieces.entry)).1 }
 {
-    match pieces {
-        [Piece::Word(word), rest @ ..] => match offset(word.as_bytes()) {
+    match pieces.first() {
+        Some((Piece::Word(word), rest)) => match offset(word.as_bytes()) {
             Some(n) => (n, rest),
             None => (0, pieces),
         },
@@ -33,12 +34,12 @@ pub(crate) fn offset_at<'p, 'a>(pieces: &'p [Piece<'a>]) -> (u32, &'p [Piece<'a>
 }
 
 /// The exponent of the alignment, and what comes after it.
-pub(crate) fn align_at<'p, 'a>(natural: u8, pieces: &'p [Piece<'a>]) -> (u8, &'p [Piece<'a>])
-    ensures align { result.0 ≡ (align_of natural (map terminal pieces.now)).0 }
-    ensures rest { map terminal result.1.now ≡ (align_of natural (map terminal pieces.now)).1 }
+pub(crate) fn align_at<'p, 'a>(natural: u8, pieces: Pieces<'p, 'a>) -> (u8, Pieces<'p, 'a>)
+    ensures align { result.0 ≡ (align_of natural (terminals_of pieces.entry)).0 }
+    ensures rest { terminals_of result.1 ≡ (align_of natural (terminals_of pieces.entry)).1 }
 {
-    match pieces {
-        [Piece::Word(word), rest @ ..] => match align(word.as_bytes()) {
+    match pieces.first() {
+        Some((Piece::Word(word), rest)) => match align(word.as_bytes()) {
             Some(n) => (n, rest),
             None => (natural, pieces),
         },

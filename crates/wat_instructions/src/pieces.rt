@@ -6,6 +6,7 @@ ghost use Rattle.wat_instructions.specs.Terminals.{label};
 
 use crate::branches::BranchTable;
 use crate::pairs::IndexPair;
+use crate::source::Pieces;
 use crate::types::{BoxedUse, IndirectCall, SelectTypes};
 use crate::vectors::VectorBytes;
 use std::alloc::{AllocError, AllocFailed};
@@ -29,8 +30,8 @@ pub enum Piece<'a> {
     Id(&'a str),
     /// An integer below 2^64 in size.
     Integer(Sign, u64),
-    /// Another number: its bits as a float of 32 and of 64 bits, where it is in range.
-    Float(Option<u32>, Option<u64>),
+    /// Another number, by its word.
+    Float(&'a str),
     /// A string, by its value.
     Text(&'a [u8]),
     /// Any other token: no rule takes it.
@@ -172,12 +173,12 @@ pub enum FaultKind {
 #[derive(Clone, Copy)]
 pub struct Fault<'p, 'a> {
     pub kind: FaultKind,
-    pub left: &'p [Piece<'a>],
+    pub left: Pieces<'p, 'a>,
 }
 
 /// The fault of a token that no rule takes here, or of the end.
-pub(crate) fn unexpected<'p, 'a>(pieces: &'p [Piece<'a>]) -> Fault<'p, 'a>
-    ensures { (result.kind ≡ Unexpected) × (result.left.now ≡ pieces.now) }
+pub(crate) fn unexpected<'p, 'a>(pieces: Pieces<'p, 'a>) -> Fault<'p, 'a>
+    ensures { (result.kind ≡ Unexpected) × (result.left ≡ pieces.entry) }
 {
     Fault {
         kind: FaultKind::Unexpected,

@@ -1,10 +1,11 @@
 //! Plain instructions and their immediates, names and labels.
-ghost use Rattle.std.specs.Prelude.{◌≡◌, ◌<◌, ◌^◌, ◌++◌, ℕ, [], ◌∷◌, IfOk, IfSome, None, Ok, Err, Some, length, map, MatchOption, MatchResult};
+ghost use Rattle.std.specs.Prelude.{◌≡◌, ◌<◌, ◌^◌, ◌++◌, ℕ, [], ◌∷◌, IfOk, IfSome, None, Ok, Err, Some, length, MatchOption, MatchResult};
 ghost use Rattle.wat_instructions.specs.Grammar.{before_labels, end_label, f32, f64, heap_of, heap_type, i32, i64, immediate_of, index, is_else, is_end, is_then, label_of, labels_by, labels_from, opcode_of, plain, position, reference_type, signed, structured, value_type, with_f32, with_f64, with_index, with_labels, with_zero};
+ghost use Rattle.wat_instructions.specs.Pieces.{terminals_of};
 ghost use Rattle.wat_instructions.specs.Machine.{bound, labels_in};
 ghost use Rattle.wat_instructions.specs.Branches.{branches};
 ghost use Rattle.wat_instructions.specs.Parts.{Faults, IsLabel, IsMemory, NoLabel, fault_of, part, scope_of, stack};
-ghost use Rattle.wat_instructions.specs.Terminals.{Open, Word, label, terminal};
+ghost use Rattle.wat_instructions.specs.Terminals.{Open, Word, label};
 
 use crate::branches::BranchTable;
 use crate::names::IndexedNames;
@@ -12,6 +13,7 @@ use crate::pieces::{
     Argument, Fault, FaultKind, Frame, Instruction, Name, Opcode, Piece, ReferenceType, Refusal,
     Sign, ValueType, unexpected,
 };
+use crate::source::Pieces;
 use crate::table::{self, Immediate};
 use crate::types::FunctionType;
 use crate::{floats, memory, table_arguments, uses, vector_arguments};
@@ -66,16 +68,16 @@ fn label_index(frames: &[Frame<'_>], name: &str) -> Option<usize>
 /// An index, which a name or a number says.
 pub fn index<'p, 'a>(
     names: &IndexedNames<'_>,
-    pieces: &'p [Piece<'a>],
-) -> Result<(usize, &'p [Piece<'a>]), Fault<'p, 'a>>
+    pieces: Pieces<'p, 'a>,
+) -> Result<(usize, Pieces<'p, 'a>), Fault<'p, 'a>>
     ensures { MatchResult result
-        (λ r. index names.now (map terminal pieces.now) ≡ Ok (r.0, map terminal r.1.now))
-        (λ f. index names.now (map terminal pieces.now) ≡ Err (fault_of f)) }
+        (λ r. index names.now (terminals_of pieces.entry) ≡ Ok (r.0, terminals_of r.1))
+        (λ f. index names.now (terminals_of pieces.entry) ≡ Err (fault_of f)) }
 {
-    match pieces {
-        [Piece::Integer(Sign::Absent, n), rest @ ..] => {
-            if *n < 0x1_0000_0000 {
-                Ok((*n as usize, rest))
+    match pieces.first() {
+        Some((Piece::Integer(Sign::Absent, n), rest)) => {
+            if n < 0x1_0000_0000 {
+                Ok((n as usize, rest))
             } else {
                 Err(Fault {
                     kind: FaultKind::OutOfRange,
@@ -83,7 +85,7 @@ pub fn index<'p, 'a>(
                 })
             }
         }
-        [Piece::Id(name), rest @ ..] => match names.position(name) {
+        Some((Piece::Id(name), rest)) => match names.position(name) {
             Some(n) => Ok((n, rest)),
             None => Err(Fault {
                 kind: FaultKind::UnknownName,
@@ -97,16 +99,16 @@ pub fn index<'p, 'a>(
 /// An index of a label, which a name or a number says.
 fn label_number<'p, 'a>(
     frames: &[Frame<'_>],
-    pieces: &'p [Piece<'a>],
-) -> Result<(usize, &'p [Piece<'a>]), Fault<'p, 'a>>
+    pieces: Pieces<'p, 'a>,
+) -> Result<(usize, Pieces<'p, 'a>), Fault<'p, 'a>>
     ensures { MatchResult result
-        (λ r. index (labels_in (stack frames.now)) (map terminal pieces.now) ≡ Ok (r.0, map terminal r.1.now))
-        (λ f. index (labels_in (stack frames.now)) (map terminal pieces.now) ≡ Err (fault_of f)) }
+        (λ r. index (labels_in (stack frames.now)) (terminals_of pieces.entry) ≡ Ok (r.0, terminals_of r.1))
+        (λ f. index (labels_in (stack frames.now)) (terminals_of pieces.entry) ≡ Err (fault_of f)) }
 {
-    match pieces {
-        [Piece::Integer(Sign::Absent, n), rest @ ..] => {
-            if *n < 0x1_0000_0000 {
-                Ok((*n as usize, rest))
+    match pieces.first() {
+        Some((Piece::Integer(Sign::Absent, n), rest)) => {
+            if n < 0x1_0000_0000 {
+                Ok((n as usize, rest))
             } else {
                 Err(Fault {
                     kind: FaultKind::OutOfRange,
@@ -114,7 +116,7 @@ fn label_number<'p, 'a>(
                 })
             }
         }
-        [Piece::Id(name), rest @ ..] => match label_index(frames, name) {
+        Some((Piece::Id(name), rest)) => match label_index(frames, name) {
             Some(n) => Ok((n, rest)),
             None => Err(Fault {
                 kind: FaultKind::UnknownName,
@@ -128,11 +130,11 @@ fn label_number<'p, 'a>(
 /// The immediate that is an index.
 fn name_argument<'p, 'a>(
     names: &IndexedNames<'_>,
-    pieces: &'p [Piece<'a>],
-) -> Result<(Argument, &'p [Piece<'a>]), Fault<'p, 'a>>
+    pieces: Pieces<'p, 'a>,
+) -> Result<(Argument, Pieces<'p, 'a>), Fault<'p, 'a>>
     ensures { MatchResult result
-        (λ r. with_index (index names.now (map terminal pieces.now)) ≡ Ok (r.0, map terminal r.1.now))
-        (λ f. with_index (index names.now (map terminal pieces.now)) ≡ Err (fault_of f)) }
+        (λ r. with_index (index names.now (terminals_of pieces.entry)) ≡ Ok (r.0, terminals_of r.1))
+        (λ f. with_index (index names.now (terminals_of pieces.entry)) ≡ Err (fault_of f)) }
 {
     let (n, rest) = index(names, pieces)?;
     Ok((Argument::Index(n), rest))
@@ -141,11 +143,11 @@ fn name_argument<'p, 'a>(
 /// The immediate that is an index, and a byte 0.
 fn name_and_zero<'p, 'a>(
     names: &IndexedNames<'_>,
-    pieces: &'p [Piece<'a>],
-) -> Result<(Argument, &'p [Piece<'a>]), Fault<'p, 'a>>
+    pieces: Pieces<'p, 'a>,
+) -> Result<(Argument, Pieces<'p, 'a>), Fault<'p, 'a>>
     ensures { MatchResult result
-        (λ r. with_zero (index names.now (map terminal pieces.now)) ≡ Ok (r.0, map terminal r.1.now))
-        (λ f. with_zero (index names.now (map terminal pieces.now)) ≡ Err (fault_of f)) }
+        (λ r. with_zero (index names.now (terminals_of pieces.entry)) ≡ Ok (r.0, terminals_of r.1))
+        (λ f. with_zero (index names.now (terminals_of pieces.entry)) ≡ Err (fault_of f)) }
 {
     let (n, rest) = index(names, pieces)?;
     Ok((Argument::IndexZero(n), rest))
@@ -154,11 +156,11 @@ fn name_and_zero<'p, 'a>(
 /// The immediate that is an index of a label.
 fn label_argument<'p, 'a>(
     frames: &[Frame<'_>],
-    pieces: &'p [Piece<'a>],
-) -> Result<(Argument, &'p [Piece<'a>]), Fault<'p, 'a>>
+    pieces: Pieces<'p, 'a>,
+) -> Result<(Argument, Pieces<'p, 'a>), Fault<'p, 'a>>
     ensures { MatchResult result
-        (λ r. with_index (index (labels_in (stack frames.now)) (map terminal pieces.now)) ≡ Ok (r.0, map terminal r.1.now))
-        (λ f. with_index (index (labels_in (stack frames.now)) (map terminal pieces.now)) ≡ Err (fault_of f)) }
+        (λ r. with_index (index (labels_in (stack frames.now)) (terminals_of pieces.entry)) ≡ Ok (r.0, terminals_of r.1))
+        (λ f. with_index (index (labels_in (stack frames.now)) (terminals_of pieces.entry)) ≡ Err (fault_of f)) }
 {
     let (n, rest) = label_number(frames, pieces)?;
     Ok((Argument::Index(n), rest))
@@ -168,18 +170,18 @@ fn label_argument<'p, 'a>(
 #[derive(Clone, Copy)]
 struct LastLabel<'p, 'a> {
     label: usize,
-    pieces: &'p [Piece<'a>],
+    pieces: Pieces<'p, 'a>,
 }
 
 /// The labels of `br_table`, of which the last is the default.
 fn labels_argument<'p, 'a>(
     alloc: Global,
     frames: &[Frame<'_>],
-    pieces: &'p [Piece<'a>],
-) -> Result<(Argument, &'p [Piece<'a>]), Refusal<'p, 'a>>
+    pieces: Pieces<'p, 'a>,
+) -> Result<(Argument, Pieces<'p, 'a>), Refusal<'p, 'a>>
     ensures { MatchResult result
-        (λ r. labels_by (labels_in (stack frames.now)) (index (labels_in (stack frames.now)) (map terminal pieces.now)) ≡ Ok (r.0, map terminal r.1.now))
-        (λ e. Faults (labels_by (labels_in (stack frames.now)) (index (labels_in (stack frames.now)) (map terminal pieces.now))) e) }
+        (λ r. labels_by (labels_in (stack frames.now)) (index (labels_in (stack frames.now)) (terminals_of pieces.entry)) ≡ Ok (r.0, terminals_of r.1))
+        (λ e. Faults (labels_by (labels_in (stack frames.now)) (index (labels_in (stack frames.now)) (terminals_of pieces.entry))) e) }
 {
     let (label, pieces) = label_number(frames, pieces)?;
     let mut labels = Vec::new(alloc);
@@ -200,9 +202,9 @@ fn branch_table<'p, 'a>(
     alloc: Global,
     labels: Vec<usize>,
     last: LastLabel<'p, 'a>,
-) -> Result<(Argument, &'p [Piece<'a>]), Refusal<'p, 'a>>
+) -> Result<(Argument, Pieces<'p, 'a>), Refusal<'p, 'a>>
     ensures { MatchResult result
-        (λ r. with_labels (Ok (branches labels.items last.entry.label, map terminal last.entry.pieces.now)) ≡ Ok (r.0, map terminal r.1.now))
+        (λ r. with_labels (Ok (branches labels.items last.entry.label, terminals_of last.entry.pieces)) ≡ Ok (r.0, terminals_of r.1))
         IsMemory }
 {
     let table = BranchTable::new(alloc, labels, last.label)?;
@@ -218,13 +220,13 @@ fn next_label<'p, 'a>(
 ) -> Result<Option<LastLabel<'p, 'a>>, Refusal<'p, 'a>>
     ensures is { MatchResult result
         (λ o. MatchOption o
-        (NoLabel (labels_in (stack frames.now)) last.entry.label (map terminal last.entry.pieces.now) labels.old.items labels.new.items)
-        (λ l. IsLabel (labels_in (stack frames.now)) last.entry.label (map terminal last.entry.pieces.now) labels.old.items labels.new.items l.label (map terminal l.pieces.now)))
-        (λ e. Faults (labels_from (labels_in (stack frames.now)) last.entry.label (map terminal last.entry.pieces.now)) e) }
-    ensures shorter { IfOk result (λ o. IfSome o (λ l. length l.pieces.now < length last.entry.pieces.now)) }
+        (NoLabel (labels_in (stack frames.now)) last.entry.label (terminals_of last.entry.pieces) labels.old.items labels.new.items)
+        (λ l. IsLabel (labels_in (stack frames.now)) last.entry.label (terminals_of last.entry.pieces) labels.old.items labels.new.items l.label (terminals_of l.pieces)))
+        (λ e. Faults (labels_from (labels_in (stack frames.now)) last.entry.label (terminals_of last.entry.pieces)) e) }
+    ensures shorter { IfOk result (λ o. IfSome o (λ l. length (terminals_of l.pieces) < length (terminals_of last.entry.pieces))) }
 {
-    match last.pieces {
-        [Piece::Integer(_, _) | Piece::Id(_), ..] => {
+    match last.pieces.first() {
+        Some((Piece::Integer(_, _) | Piece::Id(_), _)) => {
             let (label, pieces) = label_number(frames, last.pieces)?;
             labels.push(last.label)?;
             Ok(Some(LastLabel { label, pieces }))
@@ -265,13 +267,13 @@ fn signed_32(sign: Sign, size: u64) -> Option<i32>
 }
 
 /// A number of 32 bits.
-fn number_32<'p, 'a>(pieces: &'p [Piece<'a>]) -> Result<(Argument, &'p [Piece<'a>]), Fault<'p, 'a>>
+fn number_32<'p, 'a>(pieces: Pieces<'p, 'a>) -> Result<(Argument, Pieces<'p, 'a>), Fault<'p, 'a>>
     ensures { MatchResult result
-        (λ r. i32 (map terminal pieces.now) ≡ Ok (r.0, map terminal r.1.now))
-        (λ f. i32 (map terminal pieces.now) ≡ Err (fault_of f)) }
+        (λ r. i32 (terminals_of pieces.entry) ≡ Ok (r.0, terminals_of r.1))
+        (λ f. i32 (terminals_of pieces.entry) ≡ Err (fault_of f)) }
 {
-    match pieces {
-        [Piece::Integer(sign, size), rest @ ..] => match signed_32(*sign, *size) {
+    match pieces.first() {
+        Some((Piece::Integer(sign, size), rest)) => match signed_32(sign, size) {
             Some(n) => Ok((Argument::I32(n), rest)),
             None => Err(Fault {
                 kind: FaultKind::OutOfRange,
@@ -312,13 +314,13 @@ fn signed_64(sign: Sign, size: u64) -> Option<i64>
 }
 
 /// A number of 64 bits.
-fn number_64<'p, 'a>(pieces: &'p [Piece<'a>]) -> Result<(Argument, &'p [Piece<'a>]), Fault<'p, 'a>>
+fn number_64<'p, 'a>(pieces: Pieces<'p, 'a>) -> Result<(Argument, Pieces<'p, 'a>), Fault<'p, 'a>>
     ensures { MatchResult result
-        (λ r. i64 (map terminal pieces.now) ≡ Ok (r.0, map terminal r.1.now))
-        (λ f. i64 (map terminal pieces.now) ≡ Err (fault_of f)) }
+        (λ r. i64 (terminals_of pieces.entry) ≡ Ok (r.0, terminals_of r.1))
+        (λ f. i64 (terminals_of pieces.entry) ≡ Err (fault_of f)) }
 {
-    match pieces {
-        [Piece::Integer(sign, size), rest @ ..] => match signed_64(*sign, *size) {
+    match pieces.first() {
+        Some((Piece::Integer(sign, size), rest)) => match signed_64(sign, size) {
             Some(n) => Ok((Argument::I64(n), rest)),
             None => Err(Fault {
                 kind: FaultKind::OutOfRange,
@@ -330,22 +332,28 @@ fn number_64<'p, 'a>(pieces: &'p [Piece<'a>]) -> Result<(Argument, &'p [Piece<'a
 }
 
 /// A float of 32 bits.
-fn float_32<'p, 'a>(pieces: &'p [Piece<'a>]) -> Result<(Argument, &'p [Piece<'a>]), Fault<'p, 'a>>
+fn float_32<'p, 'a>(
+    alloc: Global,
+    pieces: Pieces<'p, 'a>,
+) -> Result<(Argument, Pieces<'p, 'a>), Refusal<'p, 'a>>
     ensures { MatchResult result
-        (λ r. with_f32 (f32 (map terminal pieces.now)) ≡ Ok (r.0, map terminal r.1.now))
-        (λ f. with_f32 (f32 (map terminal pieces.now)) ≡ Err (fault_of f)) }
+        (λ r. with_f32 (f32 (terminals_of pieces.entry)) ≡ Ok (r.0, terminals_of r.1))
+        (λ e. Faults (with_f32 (f32 (terminals_of pieces.entry))) e) }
 {
-    let (bits, rest) = floats::float_32(pieces)?;
+    let (bits, rest) = floats::float_32(alloc, pieces)?;
     Ok((Argument::F32(bits), rest))
 }
 
 /// A float of 64 bits.
-fn float_64<'p, 'a>(pieces: &'p [Piece<'a>]) -> Result<(Argument, &'p [Piece<'a>]), Fault<'p, 'a>>
+fn float_64<'p, 'a>(
+    alloc: Global,
+    pieces: Pieces<'p, 'a>,
+) -> Result<(Argument, Pieces<'p, 'a>), Refusal<'p, 'a>>
     ensures { MatchResult result
-        (λ r. with_f64 (f64 (map terminal pieces.now)) ≡ Ok (r.0, map terminal r.1.now))
-        (λ f. with_f64 (f64 (map terminal pieces.now)) ≡ Err (fault_of f)) }
+        (λ r. with_f64 (f64 (terminals_of pieces.entry)) ≡ Ok (r.0, terminals_of r.1))
+        (λ e. Faults (with_f64 (f64 (terminals_of pieces.entry))) e) }
 {
-    let (bits, rest) = floats::float_64(pieces)?;
+    let (bits, rest) = floats::float_64(alloc, pieces)?;
     Ok((Argument::F64(bits), rest))
 }
 
@@ -364,14 +372,14 @@ fn heap_type(word: &str) -> Option<ReferenceType>
 
 /// The immediate that is a heap type.
 fn heap_argument<'p, 'a>(
-    pieces: &'p [Piece<'a>],
-) -> Result<(Argument, &'p [Piece<'a>]), Fault<'p, 'a>>
+    pieces: Pieces<'p, 'a>,
+) -> Result<(Argument, Pieces<'p, 'a>), Fault<'p, 'a>>
     ensures { MatchResult result
-        (λ r. heap_of (map terminal pieces.now) ≡ Ok (r.0, map terminal r.1.now))
-        (λ f. heap_of (map terminal pieces.now) ≡ Err (fault_of f)) }
+        (λ r. heap_of (terminals_of pieces.entry) ≡ Ok (r.0, terminals_of r.1))
+        (λ f. heap_of (terminals_of pieces.entry) ≡ Err (fault_of f)) }
 {
-    match pieces {
-        [Piece::Word(word), rest @ ..] => match heap_type(word) {
+    match pieces.first() {
+        Some((Piece::Word(word), rest)) => match heap_type(word) {
             Some(of) => Ok((Argument::HeapType(of), rest)),
             None => Err(Fault {
                 kind: FaultKind::UnknownWord,
@@ -388,11 +396,11 @@ fn immediate<'p, 'a>(
     scope: &Scope<'_, '_>,
     frames: &[Frame<'_>],
     kind: Immediate,
-    pieces: &'p [Piece<'a>],
-) -> Result<(Argument, &'p [Piece<'a>]), Refusal<'p, 'a>>
+    pieces: Pieces<'p, 'a>,
+) -> Result<(Argument, Pieces<'p, 'a>), Refusal<'p, 'a>>
     ensures { MatchResult result
-        (λ r. immediate_of (scope_of scope.now) (labels_in (stack frames.now)) kind (map terminal pieces.now) ≡ Ok (r.0, map terminal r.1.now))
-        (λ e. Faults (immediate_of (scope_of scope.now) (labels_in (stack frames.now)) kind (map terminal pieces.now)) e) }
+        (λ r. immediate_of (scope_of scope.now) (labels_in (stack frames.now)) kind (terminals_of pieces.entry) ≡ Ok (r.0, terminals_of r.1))
+        (λ e. Faults (immediate_of (scope_of scope.now) (labels_in (stack frames.now)) kind (terminals_of pieces.entry)) e) }
 {
     match kind {
         Immediate::No => Ok((Argument::Nothing, pieces)),
@@ -404,8 +412,8 @@ fn immediate<'p, 'a>(
         Immediate::Global => Ok(name_argument(scope.globals, pieces)?),
         Immediate::I32 => Ok(number_32(pieces)?),
         Immediate::I64 => Ok(number_64(pieces)?),
-        Immediate::F32 => Ok(float_32(pieces)?),
-        Immediate::F64 => Ok(float_64(pieces)?),
+        Immediate::F32 => float_32(alloc, pieces),
+        Immediate::F64 => float_64(alloc, pieces),
         Immediate::Memory(natural) => Ok(memory::argument(natural, pieces)),
         Immediate::Zero => Ok((Argument::Zero, pieces)),
         Immediate::HeapType => Ok(heap_argument(pieces)?),
@@ -458,14 +466,14 @@ pub fn plain<'p, 'a>(
     alloc: Global,
     scope: &Scope<'_, '_>,
     frames: &[Frame<'_>],
-    pieces: &'p [Piece<'a>],
-) -> Result<(Instruction, &'p [Piece<'a>]), Refusal<'p, 'a>>
+    pieces: Pieces<'p, 'a>,
+) -> Result<(Instruction, Pieces<'p, 'a>), Refusal<'p, 'a>>
     ensures { MatchResult result
-        (λ r. plain (scope_of scope.now) (labels_in (stack frames.now)) (map terminal pieces.now) ≡ Ok (r.0, map terminal r.1.now))
-        (λ e. Faults (plain (scope_of scope.now) (labels_in (stack frames.now)) (map terminal pieces.now)) e) }
+        (λ r. plain (scope_of scope.now) (labels_in (stack frames.now)) (terminals_of pieces.entry) ≡ Ok (r.0, terminals_of r.1))
+        (λ e. Faults (plain (scope_of scope.now) (labels_in (stack frames.now)) (terminals_of pieces.entry)) e) }
 {
-    match pieces {
-        [Piece::Word(word), rest @ ..] => match table::find(word) {
+    match pieces.first() {
+        Some((Piece::Word(word), rest)) => match table::find(word) {
             Some(row) => {
                 let (argument, rest) = immediate(alloc, scope, frames, row.immediate, rest)?;
                 let opcode = opcode_of(row.opcode, &argument);
@@ -481,12 +489,12 @@ pub fn plain<'p, 'a>(
 }
 
 /// The label of a structured instruction, where it has one.
-pub fn label<'p, 'a>(pieces: &'p [Piece<'a>]) -> (Name<'a>, &'p [Piece<'a>])
-    ensures name { label result.0 ≡ (label_of (map terminal pieces.now)).0 }
-    ensures rest { map terminal result.1.now ≡ (label_of (map terminal pieces.now)).1 }
+pub fn label<'p, 'a>(pieces: Pieces<'p, 'a>) -> (Name<'a>, Pieces<'p, 'a>)
+    ensures name { label result.0 ≡ (label_of (terminals_of pieces.entry)).0 }
+    ensures rest { terminals_of result.1 ≡ (label_of (terminals_of pieces.entry)).1 }
 {
-    match pieces {
-        [Piece::Id(name), rest @ ..] => (Name::Given(*name), rest),
+    match pieces.first() {
+        Some((Piece::Id(name), rest)) => (Name::Given(name), rest),
         _ => (Name::Absent, pieces),
     }
 }
@@ -494,14 +502,14 @@ pub fn label<'p, 'a>(pieces: &'p [Piece<'a>]) -> (Name<'a>, &'p [Piece<'a>])
 /// What comes after the label of `end` or `else`, which is that of its block or none.
 pub fn end_label<'p, 'a>(
     name: Name<'_>,
-    pieces: &'p [Piece<'a>],
-) -> Result<&'p [Piece<'a>], Fault<'p, 'a>>
+    pieces: Pieces<'p, 'a>,
+) -> Result<Pieces<'p, 'a>, Fault<'p, 'a>>
     ensures { MatchResult result
-        (λ r. end_label (label name.entry) (map terminal pieces.now) ≡ Ok (map terminal r.now))
-        (λ f. end_label (label name.entry) (map terminal pieces.now) ≡ Err (fault_of f)) }
+        (λ r. end_label (label name.entry) (terminals_of pieces.entry) ≡ Ok (terminals_of r))
+        (λ f. end_label (label name.entry) (terminals_of pieces.entry) ≡ Err (fault_of f)) }
 {
-    match pieces {
-        [Piece::Id(given), rest @ ..] => {
+    match pieces.first() {
+        Some((Piece::Id(given), rest)) => {
             if name.is(given) {
                 Ok(rest)
             } else {

@@ -1,32 +1,33 @@
 //! The immediates of table instructions.
-ghost use Rattle.std.specs.Prelude.{◌≡◌, Ok, Err, map, MatchResult};
+ghost use Rattle.std.specs.Prelude.{◌≡◌, Ok, Err, MatchResult};
 ghost use Rattle.wat_instructions.specs.Grammar as grammar;
+ghost use Rattle.wat_instructions.specs.Pieces.{terminals_of};
 ghost use Rattle.wat_instructions.specs.Parts.{Faults, fault_of};
-ghost use Rattle.wat_instructions.specs.Terminals.{terminal};
 
 use crate::names::IndexedNames;
 use crate::pairs::IndexPair;
 use crate::pieces::{Argument, Fault, Piece, Refusal};
 use crate::reading::index;
+use crate::source::Pieces;
 use crate::uses::table_index;
 use std::alloc::Global;
 
 /// Whether an index comes first.
-fn is_index(pieces: &[Piece<'_>]) -> bool
-    ensures { result ≡ grammar.is_index (map terminal pieces.now) }
+fn is_index(pieces: Pieces<'_, '_>) -> bool
+    ensures { result ≡ grammar.is_index (terminals_of pieces.entry) }
 {
-    match pieces {
-        [Piece::Integer(_, _) | Piece::Id(_), ..] => true,
+    match pieces.first() {
+        Some((Piece::Integer(_, _) | Piece::Id(_), _)) => true,
         _ => false,
     }
 }
 
 /// Whether two indices come first.
-fn are_indices(pieces: &[Piece<'_>]) -> bool
-    ensures { result ≡ grammar.are_indices (map terminal pieces.now) }
+fn are_indices(pieces: Pieces<'_, '_>) -> bool
+    ensures { result ≡ grammar.are_indices (terminals_of pieces.entry) }
 {
-    match pieces {
-        [Piece::Integer(_, _) | Piece::Id(_), rest @ ..] => is_index(rest),
+    match pieces.first() {
+        Some((Piece::Integer(_, _) | Piece::Id(_), rest)) => is_index(rest),
         _ => false,
     }
 }
@@ -34,11 +35,11 @@ fn are_indices(pieces: &[Piece<'_>]) -> bool
 /// A table, which is the first where no index comes.
 pub(crate) fn table<'p, 'a>(
     tables: &IndexedNames<'_>,
-    pieces: &'p [Piece<'a>],
-) -> Result<(Argument, &'p [Piece<'a>]), Fault<'p, 'a>>
+    pieces: Pieces<'p, 'a>,
+) -> Result<(Argument, Pieces<'p, 'a>), Fault<'p, 'a>>
     ensures { MatchResult result
-        (λ r. grammar.with_index (grammar.table_of tables.now (map terminal pieces.now)) ≡ Ok (r.0, map terminal r.1.now))
-        (λ f. grammar.with_index (grammar.table_of tables.now (map terminal pieces.now)) ≡ Err (fault_of f)) }
+        (λ r. grammar.with_index (grammar.table_of tables.now (terminals_of pieces.entry)) ≡ Ok (r.0, terminals_of r.1))
+        (λ f. grammar.with_index (grammar.table_of tables.now (terminals_of pieces.entry)) ≡ Err (fault_of f)) }
 {
     let (n, rest) = table_index(tables, pieces)?;
     Ok((Argument::Index(n), rest))
@@ -48,11 +49,11 @@ pub(crate) fn table<'p, 'a>(
 pub(crate) fn copy<'p, 'a>(
     alloc: Global,
     tables: &IndexedNames<'_>,
-    pieces: &'p [Piece<'a>],
-) -> Result<(Argument, &'p [Piece<'a>]), Refusal<'p, 'a>>
+    pieces: Pieces<'p, 'a>,
+) -> Result<(Argument, Pieces<'p, 'a>), Refusal<'p, 'a>>
     ensures { MatchResult result
-        (λ r. grammar.copy_of tables.now (map terminal pieces.now) ≡ Ok (r.0, map terminal r.1.now))
-        (λ e. Faults (grammar.copy_of tables.now (map terminal pieces.now)) e) }
+        (λ r. grammar.copy_of tables.now (terminals_of pieces.entry) ≡ Ok (r.0, terminals_of r.1))
+        (λ e. Faults (grammar.copy_of tables.now (terminals_of pieces.entry)) e) }
 {
     if !is_index(pieces) {
         let pair = IndexPair::new(alloc, 0, 0)?;
@@ -67,11 +68,11 @@ pub(crate) fn copy<'p, 'a>(
 /// The table of `table.init`, which is the first where one index comes alone.
 fn init_table<'p, 'a>(
     tables: &IndexedNames<'_>,
-    pieces: &'p [Piece<'a>],
-) -> Result<(usize, &'p [Piece<'a>]), Fault<'p, 'a>>
+    pieces: Pieces<'p, 'a>,
+) -> Result<(usize, Pieces<'p, 'a>), Fault<'p, 'a>>
     ensures { MatchResult result
-        (λ r. grammar.init_table tables.now (map terminal pieces.now) ≡ Ok (r.0, map terminal r.1.now))
-        (λ f. grammar.init_table tables.now (map terminal pieces.now) ≡ Err (fault_of f)) }
+        (λ r. grammar.init_table tables.now (terminals_of pieces.entry) ≡ Ok (r.0, terminals_of r.1))
+        (λ f. grammar.init_table tables.now (terminals_of pieces.entry) ≡ Err (fault_of f)) }
 {
     if are_indices(pieces) {
         index(tables, pieces)
@@ -85,11 +86,11 @@ pub(crate) fn init<'p, 'a>(
     alloc: Global,
     tables: &IndexedNames<'_>,
     elems: &IndexedNames<'_>,
-    pieces: &'p [Piece<'a>],
-) -> Result<(Argument, &'p [Piece<'a>]), Refusal<'p, 'a>>
+    pieces: Pieces<'p, 'a>,
+) -> Result<(Argument, Pieces<'p, 'a>), Refusal<'p, 'a>>
     ensures { MatchResult result
-        (λ r. grammar.init_by elems.now (grammar.init_table tables.now (map terminal pieces.now)) ≡ Ok (r.0, map terminal r.1.now))
-        (λ e. Faults (grammar.init_by elems.now (grammar.init_table tables.now (map terminal pieces.now))) e) }
+        (λ r. grammar.init_by elems.now (grammar.init_table tables.now (terminals_of pieces.entry)) ≡ Ok (r.0, terminals_of r.1))
+        (λ e. Faults (grammar.init_by elems.now (grammar.init_table tables.now (terminals_of pieces.entry))) e) }
 {
     let (table, rest) = init_table(tables, pieces)?;
     let (elements, rest) = index(elems, rest)?;

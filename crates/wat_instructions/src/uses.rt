@@ -2,14 +2,15 @@
 ghost use Rattle.std.specs.Prelude.{◌≡◌, ◌<◌, ◌^◌, [], true, false, Ok, Err, Some, None, codes, length, map, slice_get, IfOk, IfSome, MatchOption, MatchResult};
 ghost use Rattle.wat_instructions.specs.Grammar as grammar;
 ghost use Rattle.wat_instructions.specs.declared.pieces.Argument.TheVariants as argument;
+ghost use Rattle.wat_instructions.specs.Pieces.{terminals_of};
 ghost use Rattle.wat_instructions.specs.Parts.{Faults, IsListed, NotListed, fault_of, scope_of};
-ghost use Rattle.wat_instructions.specs.Terminals.{terminal};
 ghost use Rattle.wat_instructions.specs.Types as spec;
 ghost use Rattle.wat_instructions.specs.Views.{type_of, use_of};
 
 use crate::names::IndexedNames;
 use crate::pieces::{Argument, Fault, FaultKind, Piece, Refusal, ValueType, unexpected};
 use crate::reading::{Scope, index, value_type};
+use crate::source::Pieces;
 use crate::types::{BoxedUse, FunctionType, IndirectCall, SelectTypes, TypeUse, copied, same_type};
 use std::alloc::{AllocError, Global};
 
@@ -17,18 +18,18 @@ use std::alloc::{AllocError, Global};
 #[derive(Clone, Copy)]
 struct Place<'p, 'a> {
     is_inside: bool,
-    pieces: &'p [Piece<'a>],
+    pieces: Pieces<'p, 'a>,
 }
 
 /// The value types that groups of a word list.
 fn listed<'p, 'a>(
     alloc: Global,
     word: &str,
-    pieces: &'p [Piece<'a>],
-) -> Result<(Vec<ValueType>, &'p [Piece<'a>]), Refusal<'p, 'a>>
+    pieces: Pieces<'p, 'a>,
+) -> Result<(Vec<ValueType>, Pieces<'p, 'a>), Refusal<'p, 'a>>
     ensures { MatchResult result
-        (λ r. grammar.listed word.now false (map terminal pieces.now) ≡ Ok (r.0.items, map terminal r.1.now))
-        (λ e. Faults (grammar.listed word.now false (map terminal pieces.now)) e) }
+        (λ r. grammar.listed word.now false (terminals_of pieces.entry) ≡ Ok (r.0.items, terminals_of r.1))
+        (λ e. Faults (grammar.listed word.now false (terminals_of pieces.entry)) e) }
 {
     let mut types = Vec::new(alloc);
     let mut place = Place {
@@ -54,10 +55,10 @@ fn next_place<'p, 'a>(
 ) -> Result<Option<Place<'p, 'a>>, Refusal<'p, 'a>>
     ensures is { MatchResult result
         (λ o. MatchOption o
-        (NotListed word.now place.entry.is_inside (map terminal place.entry.pieces.now) types.old.items types.new.items)
-        (λ l. IsListed word.now place.entry.is_inside (map terminal place.entry.pieces.now) types.old.items types.new.items l.is_inside (map terminal l.pieces.now)))
-        (λ e. Faults (grammar.listed word.now place.entry.is_inside (map terminal place.entry.pieces.now)) e) }
-    ensures shorter { IfOk result (λ o. IfSome o (λ l. length l.pieces.now < length place.entry.pieces.now)) }
+        (NotListed word.now place.entry.is_inside (terminals_of place.entry.pieces) types.old.items types.new.items)
+        (λ l. IsListed word.now place.entry.is_inside (terminals_of place.entry.pieces) types.old.items types.new.items l.is_inside (terminals_of l.pieces)))
+        (λ e. Faults (grammar.listed word.now place.entry.is_inside (terminals_of place.entry.pieces)) e) }
+    ensures shorter { IfOk result (λ o. IfSome o (λ l. length (terminals_of l.pieces) < length (terminals_of place.entry.pieces))) }
 {
     if place.is_inside {
         let next = in_group(word, types, place.pieces)?;
@@ -68,11 +69,11 @@ fn next_place<'p, 'a>(
 
 /// In a group, where there is one.
 #[tactic(auto, using(crate::proofs::Listed::opens_group, crate::proofs::Listed::no_group))]
-fn group<'p, 'a>(word: &str, pieces: &'p [Piece<'a>]) -> Option<Place<'p, 'a>>
+fn group<'p, 'a>(word: &str, pieces: Pieces<'p, 'a>) -> Option<Place<'p, 'a>>
     ensures is { MatchOption result
-        (grammar.listed word.now false (map terminal pieces.now) ≡ Ok ([], map terminal pieces.now))
-        (λ l. grammar.listed word.now false (map terminal pieces.now) ≡ grammar.listed word.now l.is_inside (map terminal l.pieces.now)) }
-    ensures shorter { IfSome result (λ l. length l.pieces.now < length pieces.now) }
+        (grammar.listed word.now false (terminals_of pieces.entry) ≡ Ok ([], terminals_of pieces.entry))
+        (λ l. grammar.listed word.now false (terminals_of pieces.entry) ≡ grammar.listed word.now l.is_inside (terminals_of l.pieces)) }
+    ensures shorter { IfSome result (λ l. length (terminals_of l.pieces) < length (terminals_of pieces.entry)) }
 {
     match after(word, pieces) {
         Some(rest) => Some(Place {
@@ -88,15 +89,15 @@ fn group<'p, 'a>(word: &str, pieces: &'p [Piece<'a>]) -> Option<Place<'p, 'a>>
 fn in_group<'p, 'a>(
     word: &str,
     types: &mut Vec<ValueType>,
-    pieces: &'p [Piece<'a>],
+    pieces: Pieces<'p, 'a>,
 ) -> Result<Place<'p, 'a>, Refusal<'p, 'a>>
     ensures is { MatchResult result
-        (λ l. IsListed word.now true (map terminal pieces.now) types.old.items types.new.items l.is_inside (map terminal l.pieces.now))
-        (λ e. Faults (grammar.listed word.now true (map terminal pieces.now)) e) }
-    ensures shorter { IfOk result (λ l. length l.pieces.now < length pieces.now) }
+        (λ l. IsListed word.now true (terminals_of pieces.entry) types.old.items types.new.items l.is_inside (terminals_of l.pieces))
+        (λ e. Faults (grammar.listed word.now true (terminals_of pieces.entry)) e) }
+    ensures shorter { IfOk result (λ l. length (terminals_of l.pieces) < length (terminals_of pieces.entry)) }
 {
-    match pieces {
-        [Piece::Word(name), rest @ ..] => match value_type(name) {
+    match pieces.first() {
+        Some((Piece::Word(name), rest)) => match value_type(name) {
             Some(of) => {
                 types.push(of)?;
                 Ok(Place {
@@ -109,7 +110,7 @@ fn in_group<'p, 'a>(
                 left: pieces,
             })),
         },
-        [Piece::Close, rest @ ..] => Ok(Place {
+        Some((Piece::Close, rest)) => Ok(Place {
             is_inside: false,
             pieces: rest,
         }),
@@ -118,23 +119,23 @@ fn in_group<'p, 'a>(
 }
 
 /// What comes after `(` and a word, where the tokens begin so.
-fn after<'p, 'a>(word: &str, pieces: &'p [Piece<'a>]) -> Option<&'p [Piece<'a>]>
-    ensures is { MatchOption result (grammar.after word.now (map terminal pieces.now) ≡ None) (λ r. grammar.after word.now (map terminal pieces.now) ≡ Some (map terminal r.now)) }
-    ensures shorter { IfSome result (λ r. length r.now < length pieces.now) }
+fn after<'p, 'a>(word: &str, pieces: Pieces<'p, 'a>) -> Option<Pieces<'p, 'a>>
+    ensures is { MatchOption result (grammar.after word.now (terminals_of pieces.entry) ≡ None) (λ r. grammar.after word.now (terminals_of pieces.entry) ≡ Some (terminals_of r)) }
+    ensures shorter { IfSome result (λ r. length (terminals_of r) < length (terminals_of pieces.entry)) }
 {
-    match pieces {
-        [Piece::Open, rest @ ..] => after_word(word, rest),
+    match pieces.first() {
+        Some((Piece::Open, rest)) => after_word(word, rest),
         _ => None,
     }
 }
 
 /// What comes after a word, where the tokens begin with it.
-fn after_word<'p, 'a>(word: &str, pieces: &'p [Piece<'a>]) -> Option<&'p [Piece<'a>]>
-    ensures is { MatchOption result (grammar.after_word word.now (map terminal pieces.now) ≡ None) (λ r. grammar.after_word word.now (map terminal pieces.now) ≡ Some (map terminal r.now)) }
-    ensures shorter { IfSome result (λ r. length r.now < length pieces.now) }
+fn after_word<'p, 'a>(word: &str, pieces: Pieces<'p, 'a>) -> Option<Pieces<'p, 'a>>
+    ensures is { MatchOption result (grammar.after_word word.now (terminals_of pieces.entry) ≡ None) (λ r. grammar.after_word word.now (terminals_of pieces.entry) ≡ Some (terminals_of r)) }
+    ensures shorter { IfSome result (λ r. length (terminals_of r) < length (terminals_of pieces.entry)) }
 {
-    match pieces {
-        [Piece::Word(of), rest @ ..] => { if *of == word { Some(rest) } else { None } }
+    match pieces.first() {
+        Some((Piece::Word(of), rest)) => { if of == word { Some(rest) } else { None } }
         _ => None,
     }
 }
@@ -143,11 +144,11 @@ fn after_word<'p, 'a>(word: &str, pieces: &'p [Piece<'a>]) -> Option<&'p [Piece<
 #[tactic(auto, unfolding(crate::specs::Grammar::lists_of))]
 fn lists<'p, 'a>(
     alloc: Global,
-    pieces: &'p [Piece<'a>],
-) -> Result<(FunctionType, &'p [Piece<'a>]), Refusal<'p, 'a>>
+    pieces: Pieces<'p, 'a>,
+) -> Result<(FunctionType, Pieces<'p, 'a>), Refusal<'p, 'a>>
     ensures { MatchResult result
-        (λ r. grammar.lists_of (map terminal pieces.now) ≡ Ok (type_of r.0, map terminal r.1.now))
-        (λ e. Faults (grammar.lists_of (map terminal pieces.now)) e) }
+        (λ r. grammar.lists_of (terminals_of pieces.entry) ≡ Ok (type_of r.0, terminals_of r.1))
+        (λ e. Faults (grammar.lists_of (terminals_of pieces.entry)) e) }
 {
     let (params, rest) = listed(alloc, "param", pieces)?;
     let (results, rest) = listed(alloc, "result", rest)?;
@@ -159,11 +160,11 @@ fn lists<'p, 'a>(
 fn type_use<'p, 'a>(
     alloc: Global,
     scope: &Scope<'_, '_>,
-    pieces: &'p [Piece<'a>],
-) -> Result<(TypeUse, &'p [Piece<'a>]), Refusal<'p, 'a>>
+    pieces: Pieces<'p, 'a>,
+) -> Result<(TypeUse, Pieces<'p, 'a>), Refusal<'p, 'a>>
     ensures is { MatchResult result
-        (λ r. grammar.use_of (scope_of scope.now).types (map terminal pieces.now) ≡ Ok (use_of r.0, map terminal r.1.now))
-        (λ e. Faults (grammar.use_of (scope_of scope.now).types (map terminal pieces.now)) e) }
+        (λ r. grammar.use_of (scope_of scope.now).types (terminals_of pieces.entry) ≡ Ok (use_of r.0, terminals_of r.1))
+        (λ e. Faults (grammar.use_of (scope_of scope.now).types (terminals_of pieces.entry)) e) }
     ensures small { IfOk result (λ r. spec.index_or r.0.index 0 < 2 ^ 63) }
 {
     match after("type", pieces) {
@@ -175,11 +176,11 @@ fn type_use<'p, 'a>(
 /// A type use that lists its type.
 fn listed_use<'p, 'a>(
     alloc: Global,
-    pieces: &'p [Piece<'a>],
-) -> Result<(TypeUse, &'p [Piece<'a>]), Refusal<'p, 'a>>
+    pieces: Pieces<'p, 'a>,
+) -> Result<(TypeUse, Pieces<'p, 'a>), Refusal<'p, 'a>>
     ensures is { MatchResult result
-        (λ r. grammar.listed_use (grammar.lists_of (map terminal pieces.now)) ≡ Ok (use_of r.0, map terminal r.1.now))
-        (λ e. Faults (grammar.listed_use (grammar.lists_of (map terminal pieces.now))) e) }
+        (λ r. grammar.listed_use (grammar.lists_of (terminals_of pieces.entry)) ≡ Ok (use_of r.0, terminals_of r.1))
+        (λ e. Faults (grammar.listed_use (grammar.lists_of (terminals_of pieces.entry))) e) }
     ensures small { IfOk result (λ r. spec.index_or r.0.index 0 < 2 ^ 63) }
 {
     let (of, rest) = lists(alloc, pieces)?;
@@ -191,11 +192,11 @@ fn listed_use<'p, 'a>(
 fn indexed_use<'p, 'a>(
     alloc: Global,
     scope: &Scope<'_, '_>,
-    pieces: &'p [Piece<'a>],
-) -> Result<(TypeUse, &'p [Piece<'a>]), Refusal<'p, 'a>>
+    pieces: Pieces<'p, 'a>,
+) -> Result<(TypeUse, Pieces<'p, 'a>), Refusal<'p, 'a>>
     ensures is { MatchResult result
-        (λ r. grammar.indexed_use (scope_of scope.now).types (map terminal pieces.now) (grammar.index (scope_of scope.now).types.names (map terminal pieces.now)) ≡ Ok (use_of r.0, map terminal r.1.now))
-        (λ e. Faults (grammar.indexed_use (scope_of scope.now).types (map terminal pieces.now) (grammar.index (scope_of scope.now).types.names (map terminal pieces.now))) e) }
+        (λ r. grammar.indexed_use (scope_of scope.now).types (terminals_of pieces.entry) (grammar.index (scope_of scope.now).types.names (terminals_of pieces.entry)) ≡ Ok (use_of r.0, terminals_of r.1))
+        (λ e. Faults (grammar.indexed_use (scope_of scope.now).types (terminals_of pieces.entry) (grammar.index (scope_of scope.now).types.names (terminals_of pieces.entry))) e) }
     ensures small { IfOk result (λ r. spec.index_or r.0.index 0 < 2 ^ 63) }
 {
     let (index, rest) = index(scope.type_names, pieces)?;
@@ -207,16 +208,16 @@ fn closed_use<'p, 'a>(
     alloc: Global,
     scope: &Scope<'_, '_>,
     index: usize,
-    all: &'p [Piece<'a>],
-    pieces: &'p [Piece<'a>],
-) -> Result<(TypeUse, &'p [Piece<'a>]), Refusal<'p, 'a>>
+    all: Pieces<'p, 'a>,
+    pieces: Pieces<'p, 'a>,
+) -> Result<(TypeUse, Pieces<'p, 'a>), Refusal<'p, 'a>>
     ensures is { MatchResult result
-        (λ r. grammar.closed_index (scope_of scope.now).types index (map terminal all.now) (map terminal pieces.now) ≡ Ok (use_of r.0, map terminal r.1.now))
-        (λ e. Faults (grammar.closed_index (scope_of scope.now).types index (map terminal all.now) (map terminal pieces.now)) e) }
+        (λ r. grammar.closed_index (scope_of scope.now).types index (terminals_of all.entry) (terminals_of pieces.entry) ≡ Ok (use_of r.0, terminals_of r.1))
+        (λ e. Faults (grammar.closed_index (scope_of scope.now).types index (terminals_of all.entry) (terminals_of pieces.entry)) e) }
     ensures small { IfOk result (λ r. spec.index_or r.0.index 0 < 2 ^ 63) }
 {
-    match pieces {
-        [Piece::Close, rest @ ..] => {
+    match pieces.first() {
+        Some((Piece::Close, rest)) => {
             if scope.are_types_known {
                 typed_use(alloc, scope.types, index, all, rest)
             } else {
@@ -230,11 +231,11 @@ fn closed_use<'p, 'a>(
 /// A type use after an index that counts for nothing: it is of the type that is listed.
 fn assumed_use<'p, 'a>(
     alloc: Global,
-    pieces: &'p [Piece<'a>],
-) -> Result<(TypeUse, &'p [Piece<'a>]), Refusal<'p, 'a>>
+    pieces: Pieces<'p, 'a>,
+) -> Result<(TypeUse, Pieces<'p, 'a>), Refusal<'p, 'a>>
     ensures is { MatchResult result
-        (λ r. grammar.assumed (grammar.lists_of (map terminal pieces.now)) ≡ Ok (use_of r.0, map terminal r.1.now))
-        (λ e. Faults (grammar.assumed (grammar.lists_of (map terminal pieces.now))) e) }
+        (λ r. grammar.assumed (grammar.lists_of (terminals_of pieces.entry)) ≡ Ok (use_of r.0, terminals_of r.1))
+        (λ e. Faults (grammar.assumed (grammar.lists_of (terminals_of pieces.entry))) e) }
     ensures small { IfOk result (λ r. spec.index_or r.0.index 0 < 2 ^ 63) }
 {
     let (of, rest) = lists(alloc, pieces)?;
@@ -255,12 +256,12 @@ fn typed_use<'p, 'a>(
     alloc: Global,
     types: &[FunctionType],
     index: usize,
-    all: &'p [Piece<'a>],
-    pieces: &'p [Piece<'a>],
-) -> Result<(TypeUse, &'p [Piece<'a>]), Refusal<'p, 'a>>
+    all: Pieces<'p, 'a>,
+    pieces: Pieces<'p, 'a>,
+) -> Result<(TypeUse, Pieces<'p, 'a>), Refusal<'p, 'a>>
     ensures is { MatchResult result
-        (λ r. grammar.indexed_by index (slice_get (map type_of types.now) index) (map terminal all.now) (map terminal pieces.now) ≡ Ok (use_of r.0, map terminal r.1.now))
-        (λ e. Faults (grammar.indexed_by index (slice_get (map type_of types.now) index) (map terminal all.now) (map terminal pieces.now)) e) }
+        (λ r. grammar.indexed_by index (slice_get (map type_of types.now) index) (terminals_of all.entry) (terminals_of pieces.entry) ≡ Ok (use_of r.0, terminals_of r.1))
+        (λ e. Faults (grammar.indexed_by index (slice_get (map type_of types.now) index) (terminals_of all.entry) (terminals_of pieces.entry)) e) }
     ensures small { IfOk result (λ r. spec.index_or r.0.index 0 < 2 ^ 63) }
 {
     match type_at_index(types, index) {
@@ -290,13 +291,13 @@ fn agreed<'p, 'a>(
     alloc: Global,
     index: usize,
     of: &FunctionType,
-    all: &'p [Piece<'a>],
-    pieces: &'p [Piece<'a>],
-) -> Result<(TypeUse, &'p [Piece<'a>]), Refusal<'p, 'a>>
+    all: Pieces<'p, 'a>,
+    pieces: Pieces<'p, 'a>,
+) -> Result<(TypeUse, Pieces<'p, 'a>), Refusal<'p, 'a>>
     requires { index < 2 ^ 63 }
     ensures is { MatchResult result
-        (λ r. grammar.agreed index (type_of of.now) (map terminal all.now) (grammar.lists_of (map terminal pieces.now)) ≡ Ok (use_of r.0, map terminal r.1.now))
-        (λ e. Faults (grammar.agreed index (type_of of.now) (map terminal all.now) (grammar.lists_of (map terminal pieces.now))) e) }
+        (λ r. grammar.agreed index (type_of of.now) (terminals_of all.entry) (grammar.lists_of (terminals_of pieces.entry)) ≡ Ok (use_of r.0, terminals_of r.1))
+        (λ e. Faults (grammar.agreed index (type_of of.now) (terminals_of all.entry) (grammar.lists_of (terminals_of pieces.entry))) e) }
     ensures small { IfOk result (λ r. spec.index_or r.0.index 0 < 2 ^ 63) }
 {
     let (listed, rest) = lists(alloc, pieces)?;
@@ -314,15 +315,15 @@ fn agreed<'p, 'a>(
 /// The index of a table, which is the first where no index comes.
 pub(crate) fn table_index<'p, 'a>(
     tables: &IndexedNames<'_>,
-    pieces: &'p [Piece<'a>],
-) -> Result<(usize, &'p [Piece<'a>]), Fault<'p, 'a>>
+    pieces: Pieces<'p, 'a>,
+) -> Result<(usize, Pieces<'p, 'a>), Fault<'p, 'a>>
     ensures { MatchResult result
-        (λ r. grammar.table_of tables.now (map terminal pieces.now) ≡ Ok (r.0, map terminal r.1.now))
-        (λ f. grammar.table_of tables.now (map terminal pieces.now) ≡ Err (fault_of f)) }
+        (λ r. grammar.table_of tables.now (terminals_of pieces.entry) ≡ Ok (r.0, terminals_of r.1))
+        (λ f. grammar.table_of tables.now (terminals_of pieces.entry) ≡ Err (fault_of f)) }
 {
-    match pieces {
-        [Piece::Integer(_, _), ..] => index(tables, pieces),
-        [Piece::Id(_), ..] => index(tables, pieces),
+    match pieces.first() {
+        Some((Piece::Integer(_, _), _)) => index(tables, pieces),
+        Some((Piece::Id(_), _)) => index(tables, pieces),
         _ => Ok((0, pieces)),
     }
 }
@@ -331,11 +332,11 @@ pub(crate) fn table_index<'p, 'a>(
 pub(crate) fn indirect_call<'p, 'a>(
     alloc: Global,
     scope: &Scope<'_, '_>,
-    pieces: &'p [Piece<'a>],
-) -> Result<(Argument, &'p [Piece<'a>]), Refusal<'p, 'a>>
+    pieces: Pieces<'p, 'a>,
+) -> Result<(Argument, Pieces<'p, 'a>), Refusal<'p, 'a>>
     ensures { MatchResult result
-        (λ r. grammar.indirect_by (scope_of scope.now).types (grammar.table_of (scope_of scope.now).tables (map terminal pieces.now)) ≡ Ok (r.0, map terminal r.1.now))
-        (λ e. Faults (grammar.indirect_by (scope_of scope.now).types (grammar.table_of (scope_of scope.now).tables (map terminal pieces.now))) e) }
+        (λ r. grammar.indirect_by (scope_of scope.now).types (grammar.table_of (scope_of scope.now).tables (terminals_of pieces.entry)) ≡ Ok (r.0, terminals_of r.1))
+        (λ e. Faults (grammar.indirect_by (scope_of scope.now).types (grammar.table_of (scope_of scope.now).tables (terminals_of pieces.entry))) e) }
 {
     let (table, rest) = table_index(scope.tables, pieces)?;
     let (uses, rest) = type_use(alloc, scope, rest)?;
@@ -346,11 +347,11 @@ pub(crate) fn indirect_call<'p, 'a>(
 /// The types of `select`, where it says them.
 pub(crate) fn select_types<'p, 'a>(
     alloc: Global,
-    pieces: &'p [Piece<'a>],
-) -> Result<(Argument, &'p [Piece<'a>]), Refusal<'p, 'a>>
+    pieces: Pieces<'p, 'a>,
+) -> Result<(Argument, Pieces<'p, 'a>), Refusal<'p, 'a>>
     ensures { MatchResult result
-        (λ r. grammar.select_by (grammar.after (codes "result") (map terminal pieces.now)) (map terminal pieces.now) ≡ Ok (r.0, map terminal r.1.now))
-        (λ e. Faults (grammar.select_by (grammar.after (codes "result") (map terminal pieces.now)) (map terminal pieces.now)) e) }
+        (λ r. grammar.select_by (grammar.after (codes "result") (terminals_of pieces.entry)) (terminals_of pieces.entry) ≡ Ok (r.0, terminals_of r.1))
+        (λ e. Faults (grammar.select_by (grammar.after (codes "result") (terminals_of pieces.entry)) (terminals_of pieces.entry)) e) }
 {
     match after("result", pieces) {
         Some(_) => {
@@ -366,11 +367,11 @@ pub(crate) fn select_types<'p, 'a>(
 pub(crate) fn block_type<'p, 'a>(
     alloc: Global,
     scope: &Scope<'_, '_>,
-    pieces: &'p [Piece<'a>],
-) -> Result<(Argument, &'p [Piece<'a>]), Refusal<'p, 'a>>
+    pieces: Pieces<'p, 'a>,
+) -> Result<(Argument, Pieces<'p, 'a>), Refusal<'p, 'a>>
     ensures { MatchResult result
-        (λ r. grammar.block_type (scope_of scope.now).types (map terminal pieces.now) ≡ Ok (r.0, map terminal r.1.now))
-        (λ e. Faults (grammar.block_type (scope_of scope.now).types (map terminal pieces.now)) e) }
+        (λ r. grammar.block_type (scope_of scope.now).types (terminals_of pieces.entry) ≡ Ok (r.0, terminals_of r.1))
+        (λ e. Faults (grammar.block_type (scope_of scope.now).types (terminals_of pieces.entry)) e) }
 {
     let (uses, rest) = type_use(alloc, scope, pieces)?;
     let argument = block_argument(alloc, uses)?;

@@ -1,25 +1,26 @@
 //! The immediates of vector instructions.
-ghost use Rattle.std.specs.Prelude.{◌≡◌, ◌<◌, ◌≤◌, ◌^◌, ◌*◌, Ok, Err, suc, map, IfOk, IfSome, MatchOption, MatchResult};
+ghost use Rattle.std.specs.Prelude.{◌≡◌, ◌<◌, ◌≤◌, ◌^◌, ◌*◌, Ok, Err, suc, IfOk, IfSome, MatchOption, MatchResult};
 ghost use Rattle.wat_instructions.specs.Grammar as grammar;
+ghost use Rattle.wat_instructions.specs.Pieces.{terminals_of};
 ghost use Rattle.wat_instructions.specs.Parts.{Faults, IsIndex, IsLane, fault_of};
-ghost use Rattle.wat_instructions.specs.Terminals.{terminal};
 
 use crate::floats::{float_32, float_64};
 use crate::memory::{align_at, offset_at};
 use crate::pieces::{Argument, Fault, FaultKind, Piece, Refusal, Sign, unexpected};
+use crate::source::Pieces;
 use crate::vectors::{Lane, VectorBytes};
 use std::alloc::{AllocError, Global};
 
 /// An index of a lane.
-fn lane_index<'p, 'a>(pieces: &'p [Piece<'a>]) -> Result<(u8, &'p [Piece<'a>]), Fault<'p, 'a>>
+fn lane_index<'p, 'a>(pieces: Pieces<'p, 'a>) -> Result<(u8, Pieces<'p, 'a>), Fault<'p, 'a>>
     ensures { MatchResult result
-        (λ r. grammar.lane_index (map terminal pieces.now) ≡ Ok (r.0, map terminal r.1.now))
-        (λ f. grammar.lane_index (map terminal pieces.now) ≡ Err (fault_of f)) }
+        (λ r. grammar.lane_index (terminals_of pieces.entry) ≡ Ok (r.0, terminals_of r.1))
+        (λ f. grammar.lane_index (terminals_of pieces.entry) ≡ Err (fault_of f)) }
 {
-    match pieces {
-        [Piece::Integer(Sign::Absent, n), rest @ ..] => {
-            if *n < 0x100 {
-                Ok((*n as u8, rest))
+    match pieces.first() {
+        Some((Piece::Integer(Sign::Absent, n), rest)) => {
+            if n < 0x100 {
+                Ok((n as u8, rest))
             } else {
                 Err(Fault {
                     kind: FaultKind::OutOfRange,
@@ -33,11 +34,11 @@ fn lane_index<'p, 'a>(pieces: &'p [Piece<'a>]) -> Result<(u8, &'p [Piece<'a>]), 
 
 /// The immediate that is an index of a lane.
 pub(crate) fn lane<'p, 'a>(
-    pieces: &'p [Piece<'a>],
-) -> Result<(Argument, &'p [Piece<'a>]), Fault<'p, 'a>>
+    pieces: Pieces<'p, 'a>,
+) -> Result<(Argument, Pieces<'p, 'a>), Fault<'p, 'a>>
     ensures { MatchResult result
-        (λ r. grammar.with_lane (grammar.lane_index (map terminal pieces.now)) ≡ Ok (r.0, map terminal r.1.now))
-        (λ f. grammar.with_lane (grammar.lane_index (map terminal pieces.now)) ≡ Err (fault_of f)) }
+        (λ r. grammar.with_lane (grammar.lane_index (terminals_of pieces.entry)) ≡ Ok (r.0, terminals_of r.1))
+        (λ f. grammar.with_lane (grammar.lane_index (terminals_of pieces.entry)) ≡ Err (fault_of f)) }
 {
     let (n, rest) = lane_index(pieces)?;
     Ok((Argument::Lane(n), rest))
@@ -46,11 +47,11 @@ pub(crate) fn lane<'p, 'a>(
 /// A memory argument, and an index of a lane.
 pub(crate) fn memory_lane<'p, 'a>(
     natural: u8,
-    pieces: &'p [Piece<'a>],
-) -> Result<(Argument, &'p [Piece<'a>]), Fault<'p, 'a>>
+    pieces: Pieces<'p, 'a>,
+) -> Result<(Argument, Pieces<'p, 'a>), Fault<'p, 'a>>
     ensures { MatchResult result
-        (λ r. grammar.memory_lane natural (map terminal pieces.now) ≡ Ok (r.0, map terminal r.1.now))
-        (λ f. grammar.memory_lane natural (map terminal pieces.now) ≡ Err (fault_of f)) }
+        (λ r. grammar.memory_lane natural (terminals_of pieces.entry) ≡ Ok (r.0, terminals_of r.1))
+        (λ f. grammar.memory_lane natural (terminals_of pieces.entry) ≡ Err (fault_of f)) }
 {
     let (offset, rest) = offset_at(pieces);
     let (align, rest) = align_at(natural, rest);
@@ -62,17 +63,17 @@ pub(crate) fn memory_lane<'p, 'a>(
 #[derive(Clone, Copy)]
 struct Left<'p, 'a> {
     lanes: usize,
-    pieces: &'p [Piece<'a>],
+    pieces: Pieces<'p, 'a>,
 }
 
 /// The indices of lanes that `i8x16.shuffle` has.
 fn lane_indices<'p, 'a>(
     alloc: Global,
-    pieces: &'p [Piece<'a>],
-) -> Result<(Vec<u8>, &'p [Piece<'a>]), Refusal<'p, 'a>>
+    pieces: Pieces<'p, 'a>,
+) -> Result<(Vec<u8>, Pieces<'p, 'a>), Refusal<'p, 'a>>
     ensures { MatchResult result
-        (λ r. grammar.lane_indices 16 (map terminal pieces.now) ≡ Ok (r.0.items, map terminal r.1.now))
-        (λ e. Faults (grammar.lane_indices 16 (map terminal pieces.now)) e) }
+        (λ r. grammar.lane_indices 16 (terminals_of pieces.entry) ≡ Ok (r.0.items, terminals_of r.1))
+        (λ e. Faults (grammar.lane_indices 16 (terminals_of pieces.entry)) e) }
 {
     let mut indices = Vec::new(alloc);
     let mut left = Left { lanes: 16, pieces };
@@ -95,8 +96,8 @@ fn next_index<'p, 'a>(
     ensures { MatchResult result
         (λ o. MatchOption o
         ((left.entry.lanes ≡ 0) × (indices.new.items ≡ indices.old.items))
-        (λ l. (left.entry.lanes ≡ suc l.lanes) × IsIndex (map terminal left.entry.pieces.now) indices.old.items indices.new.items (map terminal l.pieces.now)))
-        (λ e. (0 < left.entry.lanes) × Faults (grammar.lane_index (map terminal left.entry.pieces.now)) e) }
+        (λ l. (left.entry.lanes ≡ suc l.lanes) × IsIndex (terminals_of left.entry.pieces) indices.old.items indices.new.items (terminals_of l.pieces)))
+        (λ e. (0 < left.entry.lanes) × Faults (grammar.lane_index (terminals_of left.entry.pieces)) e) }
 {
     if left.lanes == 0 {
         return Ok(None);
@@ -112,11 +113,11 @@ fn next_index<'p, 'a>(
 /// The indices of `i8x16.shuffle`, a byte each.
 pub(crate) fn shuffle<'p, 'a>(
     alloc: Global,
-    pieces: &'p [Piece<'a>],
-) -> Result<(Argument, &'p [Piece<'a>]), Refusal<'p, 'a>>
+    pieces: Pieces<'p, 'a>,
+) -> Result<(Argument, Pieces<'p, 'a>), Refusal<'p, 'a>>
     ensures { MatchResult result
-        (λ r. grammar.shuffle (map terminal pieces.now) ≡ Ok (r.0, map terminal r.1.now))
-        (λ e. Faults (grammar.shuffle (map terminal pieces.now)) e) }
+        (λ r. grammar.shuffle (terminals_of pieces.entry) ≡ Ok (r.0, terminals_of r.1))
+        (λ e. Faults (grammar.shuffle (terminals_of pieces.entry)) e) }
 {
     let (indices, rest) = lane_indices(alloc, pieces)?;
     let bytes = VectorBytes::new(alloc, indices)?;
@@ -153,16 +154,16 @@ fn integer_bits(half: u64, sign: Sign, size: u64) -> Option<u64>
 /// An integer by its bits, of which the highest is this half.
 fn integer<'p, 'a>(
     half: u64,
-    pieces: &'p [Piece<'a>],
-) -> Result<(u64, &'p [Piece<'a>]), Fault<'p, 'a>>
+    pieces: Pieces<'p, 'a>,
+) -> Result<(u64, Pieces<'p, 'a>), Fault<'p, 'a>>
     requires { (0 < half) × (half ≤ 2 ^ 63) }
     ensures is { MatchResult result
-        (λ r. grammar.integer half (map terminal pieces.now) ≡ Ok (r.0, map terminal r.1.now))
-        (λ f. grammar.integer half (map terminal pieces.now) ≡ Err (fault_of f)) }
+        (λ r. grammar.integer half (terminals_of pieces.entry) ≡ Ok (r.0, terminals_of r.1))
+        (λ f. grammar.integer half (terminals_of pieces.entry) ≡ Err (fault_of f)) }
     ensures small { IfOk result (λ r. r.0 < half * 2) }
 {
-    match pieces {
-        [Piece::Integer(sign, size), rest @ ..] => match integer_bits(half, *sign, *size) {
+    match pieces.first() {
+        Some((Piece::Integer(sign, size), rest)) => match integer_bits(half, sign, size) {
             Some(n) => Ok((n, rest)),
             None => Err(Fault {
                 kind: FaultKind::OutOfRange,
@@ -175,13 +176,14 @@ fn integer<'p, 'a>(
 
 /// Reads a lane, and appends its bytes.
 fn add_lane<'p, 'a>(
+    alloc: Global,
     lane: Lane,
     bytes: &mut Vec<u8>,
-    pieces: &'p [Piece<'a>],
-) -> Result<&'p [Piece<'a>], Refusal<'p, 'a>>
+    pieces: Pieces<'p, 'a>,
+) -> Result<Pieces<'p, 'a>, Refusal<'p, 'a>>
     ensures { MatchResult result
-        (λ r. IsLane lane (map terminal pieces.now) bytes.old.items bytes.new.items (map terminal r.now))
-        (λ e. Faults (grammar.lane_of lane (map terminal pieces.now)) e) }
+        (λ r. IsLane lane (terminals_of pieces.entry) bytes.old.items bytes.new.items (terminals_of r))
+        (λ e. Faults (grammar.lane_of lane (terminals_of pieces.entry)) e) }
 {
     match lane {
         Lane::I8 => {
@@ -205,12 +207,12 @@ fn add_lane<'p, 'a>(
             Ok(rest)
         }
         Lane::F32 => {
-            let (n, rest) = float_32(pieces)?;
+            let (n, rest) = float_32(alloc, pieces)?;
             bytes.extend_from_slice(&n.to_le_bytes())?;
             Ok(rest)
         }
         Lane::F64 => {
-            let (n, rest) = float_64(pieces)?;
+            let (n, rest) = float_64(alloc, pieces)?;
             bytes.extend_from_slice(&n.to_le_bytes())?;
             Ok(rest)
         }
@@ -233,11 +235,11 @@ fn lane_count(lane: Lane) -> usize
 fn lanes<'p, 'a>(
     alloc: Global,
     lane: Lane,
-    pieces: &'p [Piece<'a>],
-) -> Result<(Vec<u8>, &'p [Piece<'a>]), Refusal<'p, 'a>>
+    pieces: Pieces<'p, 'a>,
+) -> Result<(Vec<u8>, Pieces<'p, 'a>), Refusal<'p, 'a>>
     ensures { MatchResult result
-        (λ r. grammar.lanes_from lane (grammar.lane_count lane) (map terminal pieces.now) ≡ Ok (r.0.items, map terminal r.1.now))
-        (λ e. Faults (grammar.lanes_from lane (grammar.lane_count lane) (map terminal pieces.now)) e) }
+        (λ r. grammar.lanes_from lane (grammar.lane_count lane) (terminals_of pieces.entry) ≡ Ok (r.0.items, terminals_of r.1))
+        (λ e. Faults (grammar.lanes_from lane (grammar.lane_count lane) (terminals_of pieces.entry)) e) }
 {
     let mut bytes = Vec::new(alloc);
     let mut left = Left {
@@ -245,7 +247,7 @@ fn lanes<'p, 'a>(
         pieces,
     };
     'lanes: loop {
-        match next_lane(lane, &mut bytes, left) {
+        match next_lane(alloc, lane, &mut bytes, left) {
             Ok(Some(next)) => {
                 left = next;
             }
@@ -257,6 +259,7 @@ fn lanes<'p, 'a>(
 
 /// After one lane, whose bytes are appended, where one is left.
 fn next_lane<'p, 'a>(
+    alloc: Global,
     lane: Lane,
     bytes: &mut Vec<u8>,
     left: Left<'p, 'a>,
@@ -264,13 +267,13 @@ fn next_lane<'p, 'a>(
     ensures { MatchResult result
         (λ o. MatchOption o
         ((left.entry.lanes ≡ 0) × (bytes.new.items ≡ bytes.old.items))
-        (λ l. (left.entry.lanes ≡ suc l.lanes) × IsLane lane (map terminal left.entry.pieces.now) bytes.old.items bytes.new.items (map terminal l.pieces.now)))
-        (λ e. (0 < left.entry.lanes) × Faults (grammar.lane_of lane (map terminal left.entry.pieces.now)) e) }
+        (λ l. (left.entry.lanes ≡ suc l.lanes) × IsLane lane (terminals_of left.entry.pieces) bytes.old.items bytes.new.items (terminals_of l.pieces)))
+        (λ e. (0 < left.entry.lanes) × Faults (grammar.lane_of lane (terminals_of left.entry.pieces)) e) }
 {
     if left.lanes == 0 {
         return Ok(None);
     }
-    let pieces = add_lane(lane, bytes, left.pieces)?;
+    let pieces = add_lane(alloc, lane, bytes, left.pieces)?;
     Ok(Some(Left {
         lanes: left.lanes - 1,
         pieces,
@@ -281,11 +284,11 @@ fn next_lane<'p, 'a>(
 pub(crate) fn vector<'p, 'a>(
     alloc: Global,
     lane: Lane,
-    pieces: &'p [Piece<'a>],
-) -> Result<(Argument, &'p [Piece<'a>]), Refusal<'p, 'a>>
+    pieces: Pieces<'p, 'a>,
+) -> Result<(Argument, Pieces<'p, 'a>), Refusal<'p, 'a>>
     ensures { MatchResult result
-        (λ r. grammar.vector_of lane (map terminal pieces.now) ≡ Ok (r.0, map terminal r.1.now))
-        (λ e. Faults (grammar.vector_of lane (map terminal pieces.now)) e) }
+        (λ r. grammar.vector_of lane (terminals_of pieces.entry) ≡ Ok (r.0, terminals_of r.1))
+        (λ e. Faults (grammar.vector_of lane (terminals_of pieces.entry)) e) }
 {
     let (bytes, rest) = lanes(alloc, lane, pieces)?;
     let bytes = VectorBytes::new(alloc, bytes)?;
@@ -316,14 +319,14 @@ fn shape(word: &str) -> Option<Lane>
 /// The shape and the lanes of `v128.const`.
 pub(crate) fn constant<'p, 'a>(
     alloc: Global,
-    pieces: &'p [Piece<'a>],
-) -> Result<(Argument, &'p [Piece<'a>]), Refusal<'p, 'a>>
+    pieces: Pieces<'p, 'a>,
+) -> Result<(Argument, Pieces<'p, 'a>), Refusal<'p, 'a>>
     ensures { MatchResult result
-        (λ r. grammar.constant (map terminal pieces.now) ≡ Ok (r.0, map terminal r.1.now))
-        (λ e. Faults (grammar.constant (map terminal pieces.now)) e) }
+        (λ r. grammar.constant (terminals_of pieces.entry) ≡ Ok (r.0, terminals_of r.1))
+        (λ e. Faults (grammar.constant (terminals_of pieces.entry)) e) }
 {
-    match pieces {
-        [Piece::Word(word), rest @ ..] => match shape(word) {
+    match pieces.first() {
+        Some((Piece::Word(word), rest)) => match shape(word) {
             Some(lane) => vector(alloc, lane, rest),
             None => Err(Refusal::Text(Fault {
                 kind: FaultKind::UnknownWord,

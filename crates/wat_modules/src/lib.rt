@@ -4,7 +4,7 @@
 
 ghost use Rattle.std.specs.Prelude.{◌≡◌, ◌<◌, ◌^◌, true, length, map, IfOk, List, None, Option};
 ghost use Rattle.wat_fields.specs.Fields.{Field};
-ghost use Rattle.wat_instructions.specs.Terminals.{terminal};
+ghost use Rattle.wat_instructions.specs.Tokens.{AreReadable};
 ghost use Rattle.wat_lex.specs.declared.lexer.kinds.Token.{Token};
 ghost use Rattle.wat_lex.specs.errors.Errors.{Custom, IsUnlessMemory, report_in};
 ghost use Rattle.wat_lexer_parser.specs.declared.parser.fault.Fault.{Fault};
@@ -13,8 +13,8 @@ ghost use Rattle.wat_lexer_parser.specs.names.RegisteredNames.{no_names};
 ghost use Rattle.wat_lexer_parser.specs.parser.State.{Answers};
 ghost use Rattle.wat_modules.specs.Compiling.{Fits, Spells, compiled, compiled_tokens, fitted};
 ghost use Rattle.wat_modules.specs.Compiling as compiling;
+ghost use Rattle.wat_pieces.specs.Drafts.{draft_terminals};
 ghost use Rattle.wat_pieces.specs.Pieces.{plain, terminal_of};
-ghost use Rattle.wat_pieces.specs.Values.{AreWithin, draft_terminals};
 ghost use Rattle.wat_sections.specs.Binary.{module_bytes};
 
 pub mod laws;
@@ -23,11 +23,12 @@ mod tests;
 
 use std::alloc::Global;
 use wat_fields_read::module;
-use wat_instructions::pieces::{FaultKind, Piece, Refusal};
+use wat_instructions::pieces::{FaultKind, Refusal};
+use wat_instructions::source::Source;
 use wat_lexer_parser::Error;
 use wat_lexer_parser::lexer::Token;
 use wat_lexer_parser::token::Span;
-use wat_pieces::{Draft, ShownPieces, completed, shown_pieces, shown_tokens};
+use wat_pieces::{Draft, ShownPieces, shown_pieces, shown_tokens};
 use wat_sections::encode;
 
 /// The bytes of the module that a text spells.
@@ -70,28 +71,28 @@ pub fn compile(alloc: Global, text: &str) -> Result<Vec<u8>, Error>
 /// The same of a text without a fault, of which these are the tokens that count.
 fn of_draft(alloc: Global, text: &str, draft: Draft<'_>) -> Result<Vec<u8>, Error>
     requires short { length text.now < 2 ^ 32 }
-    requires within { AreWithin (length draft.pieces.items) draft.values.items }
+    requires readable { AreReadable text.now (length draft.kept.items) draft.tokens.items }
     ensures { (tokens : List Token) → TextShows (plain text.now) no_names tokens None →
-        draft_terminals draft.entry ≡ map (terminal_of text.now) tokens →
+        draft_terminals text.now draft.entry ≡ map (terminal_of text.now) tokens →
         Answers true (λ bytes. bytes.items) (compiled_tokens text.now tokens) result }
 {
-    let Draft { pieces, values } = draft;
-    let pieces = completed(pieces, &values);
-    of_pieces(alloc, text, pieces)
+    let Draft { tokens, kept } = draft;
+    of_source(alloc, text, Source::new(text, tokens, &kept))
 }
 
-/// The same of pieces.
-fn of_pieces(alloc: Global, text: &str, pieces: Vec<Piece<'_>>) -> Result<Vec<u8>, Error>
+/// The same of tokens that can be read.
+fn of_source(alloc: Global, text: &str, source: Source<'_>) -> Result<Vec<u8>, Error>
     requires { length text.now < 2 ^ 32 }
     ensures { (tokens : List Token) → TextShows (plain text.now) no_names tokens None →
-        map terminal pieces.entry.items ≡ map (terminal_of text.now) tokens →
+        source.entry ≡ map (terminal_of text.now) tokens →
         Answers true (λ bytes. bytes.items) (compiled_tokens text.now tokens) result }
 {
     wat_fields_read::laws::reading_is_grammar();
-    match module::module(alloc, &pieces) {
+    match module::module(alloc, source.pieces()) {
         Ok(fields) => {
-            // Fields borrow from the text alone: bytes are written where tokens were.
-            drop(pieces);
+            // Fields borrow from the text, and from what is kept beside it: bytes are written where
+            // tokens were.
+            drop(source);
             fitting(alloc, text, encode::module_bytes(alloc, &fields)?)
         }
         Err(Refusal::Memory(refused)) => Err(Error::from(refused)),

@@ -1,78 +1,77 @@
--- Values in the places of pieces, one by one.
-use Rattle.std.proofs.Common.{◌≡◌, ◌∙◌, ◌<◌, ◌≤◌, ℕ, List, [], ◌∷◌, ◌++◌, ◌+◌, get_or, length, map, take, sym, ap, subst, refl, arith}
-use Rattle.std.specs.Prelude.{slice_set}
-use Rattle.std.proofs.lemmas.List.{set-append_left, length-map, length-set, map-append, map-set, take_more}
-use Rattle.std.proofs.Math.Seq.{set-append_seam}
+-- Tokens that are put down one by one.
+use Rattle.std.proofs.Common.{◌≡◌, ◌∙◌, ◌<◌, ◌≤◌, ℕ, suc, List, [], ◌∷◌, ◌++◌, get_or, length, map, sym, ap, subst, refl, arith, length-append, Some}
+use Rattle.std.specs.Prelude.{slice_get}
+use Rattle.std.proofs.lemmas.List.{get_or_append_left, map-append}
 use Rattle.std.proofs.lemmas.List.Elements.{All-head, All-nil, All-push, All-tail}
-use Rattle.wat_instructions.specs.declared.pieces.Piece.{Piece}
-use Rattle.wat_instructions.specs.Terminals.{Terminal, terminal}
-use Rattle.wat_pieces.specs.declared.Unescaped.{Unescaped}
-use Rattle.wat_pieces.specs.Values.{AreWithin, completed, value_terminal}
+use Rattle.std.proofs.lemmas.Option.{slice_get-get_or}
+use Rattle.wat_instructions.specs.declared.source.Kept.{Kept}
+use Rattle.wat_instructions.specs.declared.source.ShortToken.{ShortToken}
+use Rattle.wat_instructions.specs.declared.source.ShortToken.TheVariants as short
+use Rattle.wat_instructions.specs.Terminals.{Terminal}
+use Rattle.wat_instructions.specs.Tokens.{AreReadable, IsReadable, kept_or, kept_terminal, terminal_in}
 
-pub within_more : (n m : ℕ) (us : List Unescaped) → n ≤ m → AreWithin n us → AreWithin m us
-within_more n m us e w = λ k d h. omega (arith, e, w k d h)
+same_get : (ks : List Kept) (k : Kept) (i : ℕ) → i < length ks → slice_get (ks ++ k ∷ []) i ≡ slice_get ks i
+same_get ks k i h =
+    slice_get-get_or (ks ++ k ∷ []) i k (omega (arith, h, length-append ks (k ∷ []))) ∙ ap Some (get_or_append_left ks (k ∷ []) k i h) ∙ sym (slice_get-get_or ks i k h)
 
-within_head : (n : ℕ) (u : Unescaped) (us : List Unescaped) → AreWithin n (u ∷ us) → u.place < n
-within_head n u us w = All-head (λ x. x.place < n) u us w
+last_get : (ks : List Kept) (k : Kept) → slice_get (ks ++ k ∷ []) (length ks) ≡ Some k
+last_get [] k = refl
+last_get (x ∷ ks) k = last_get ks k
 
-within_tail : (ts : List Terminal) (t : Terminal) (u : Unescaped) (us : List Unescaped) → AreWithin (length ts) (u ∷ us) → AreWithin (length (slice_set ts u.place t)) us
-within_tail ts t u us w = subst (λ n. AreWithin n us) (sym (length-set ts u.place t)) (All-tail (λ x. x.place < length ts) u us w)
+-- a value more that is kept changes no token that could be read
+same_one : (text : List ℕ) (ks : List Kept) (k : Kept) (t : ShortToken) → IsReadable text (length ks) t → terminal_in text (ks ++ k ∷ []) t ≡ terminal_in text ks t
+same_one text ks k short.Open h = refl
+same_one text ks k short.Close h = refl
+same_one text ks k (short.Word o n) h = refl
+same_one text ks k (short.Id o n) h = refl
+same_one text ks k (short.Integer s n) h = refl
+same_one text ks k (short.Float o n) h = refl
+same_one text ks k (short.Text o n) h = refl
+same_one text ks k (short.Kept i) h = ap kept_or (same_get ks k i h)
+same_one text ks k short.Other h = refl
 
-pub within_push : (n : ℕ) (us : List Unescaped) (u : Unescaped) → AreWithin n us → u.place < n → AreWithin n (us ++ u ∷ [])
-within_push n us u w h = All-push (λ x. x.place < n) us u w h
+same : (text : List ℕ) (ks : List Kept) (k : Kept) (ts : List ShortToken) → AreReadable text (length ks) ts → map (terminal_in text (ks ++ k ∷ [])) ts ≡ map (terminal_in text ks) ts
+same text ks k [] h = refl
+same text ks k (t ∷ ts) h =
+    ap (λ x. x ∷ map (terminal_in text (ks ++ k ∷ [])) ts) (same_one text ks k t (All-head (IsReadable text (length ks)) t ts h))
+    ∙ ap (λ x. terminal_in text ks t ∷ x) (same text ks k ts (All-tail (IsReadable text (length ks)) t ts h))
 
-pub within_nothing : (n : ℕ) (us : List Unescaped) → us ≡ [] → AreWithin n us
-within_nothing n us e = subst (AreWithin n) (sym e) (All-nil (λ u. u.place < n))
+more_one : (text : List ℕ) (n m : ℕ) (t : ShortToken) → n ≤ m → IsReadable text n t → IsReadable text m t
+more_one text n m short.Open l h = tt
+more_one text n m short.Close l h = tt
+more_one text n m (short.Word o k) l h = h
+more_one text n m (short.Id o k) l h = h
+more_one text n m (short.Integer s k) l h = tt
+more_one text n m (short.Float o k) l h = h
+more_one text n m (short.Text o k) l h = h
+more_one text n m (short.Kept i) l h = omega (arith, l, h)
+more_one text n m short.Other l h = tt
 
-pub completed_nothing : (ts : List Terminal) → ts ≡ completed ts []
-unfolding completed
-completed_nothing ts = refl
+more : (text : List ℕ) (n m : ℕ) (ts : List ShortToken) → n ≤ m → AreReadable text n ts → AreReadable text m ts
+more text n m ts l h = λ k d b. more_one text n m (get_or ts k d) l (h k d b)
 
-pub nothing : (ps : List Piece) (us : List Unescaped) → ps ≡ [] → us ≡ [] → completed (map terminal ps) us ≡ []
-nothing ps us e f = ap (λ x. completed (map terminal x) us) e ∙ ap (completed []) f ∙ sym (completed_nothing [])
+-- a token more
+pub with_short : (text : List ℕ) (ks : List Kept) (ts us : List ShortToken) (t : ShortToken) (x : Terminal) → us ≡ ts ++ t ∷ [] → ((js : List Kept) → terminal_in text js t ≡ x) → map (terminal_in text ks) us ≡ map (terminal_in text ks) ts ++ x ∷ []
+with_short text ks ts us t x e h = ap (λ v. map (terminal_in text ks) v) e ∙ map-append (terminal_in text ks) ts (t ∷ []) ∙ ap (λ y. map (terminal_in text ks) ts ++ y ∷ []) (h ks)
 
--- a terminal after all places
-pub completed_more : (ts : List Terminal) (t : Terminal) (us : List Unescaped) → AreWithin (length ts) us → completed (ts ++ t ∷ []) us ≡ completed ts us ++ t ∷ []
-unfolding completed
-completed_more ts t [] w = refl
-completed_more ts t (u ∷ us) w =
-    let v = value_terminal u.value in
-    ap (λ x. completed x us) (set-append_left ts (t ∷ []) u.place v (within_head (length ts) u us w)) ∙ completed_more (slice_set ts u.place v) t us (within_tail ts v u us w)
+pub readable_short : (text : List ℕ) (n : ℕ) (ts us : List ShortToken) (t : ShortToken) → us ≡ ts ++ t ∷ [] → AreReadable text n ts → IsReadable text 0 t → AreReadable text n us
+readable_short text n ts us t e h r = subst (AreReadable text n) (sym e) (All-push (IsReadable text n) ts t h (more_one text 0 n t (omega arith) r))
 
--- the last value
-pub completed_last : (ts : List Terminal) (us : List Unescaped) (u : Unescaped) → completed ts (us ++ u ∷ []) ≡ slice_set (completed ts us) u.place (value_terminal u.value)
-unfolding completed
-completed_last ts [] u = refl
-completed_last ts (w ∷ us) u = completed_last (slice_set ts w.place (value_terminal w.value)) us u
+-- a value more, with its token
+pub with_kept : (text : List ℕ) (ks js : List Kept) (ts us : List ShortToken) (k : Kept) (i : ℕ) (x : Terminal) → js ≡ ks ++ k ∷ [] → us ≡ ts ++ short.Kept i ∷ [] → i ≡ length ks → AreReadable text (length ks) ts → kept_terminal k ≡ x → map (terminal_in text js) us ≡ map (terminal_in text ks) ts ++ x ∷ []
+with_kept text ks js ts us k i x e f o h r =
+    let is : terminal_in text (ks ++ k ∷ []) (short.Kept i) ≡ x = ap (λ n. kept_or (slice_get (ks ++ k ∷ []) n)) o ∙ ap kept_or (last_get ks k) ∙ r in
+    ap (λ v. map (terminal_in text v) us) e ∙ ap (λ v. map (terminal_in text (ks ++ k ∷ [])) v) f ∙ map-append (terminal_in text (ks ++ k ∷ [])) ts (short.Kept i ∷ [])
+    ∙ ap (λ y. y ++ map (terminal_in text (ks ++ k ∷ [])) (short.Kept i ∷ [])) (same text ks k ts h) ∙ ap (λ y. map (terminal_in text ks) ts ++ y ∷ []) is
 
--- one value on
-pub completed_next : (ts before after : List Terminal) (us : List Unescaped) (i : ℕ) (u d : Unescaped) → before ≡ completed ts (take i us) → i < length us → u ≡ get_or us i d → after ≡ slice_set before u.place (value_terminal u.value) → after ≡ completed ts (take (i + 1) us)
-completed_next ts before after us i u d h l e k =
-    k ∙ ap (λ x. slice_set x u.place (value_terminal u.value)) h ∙ sym (completed_last ts (take i us) u) ∙ ap (λ x. completed ts (take i us ++ x ∷ [])) e ∙ ap (completed ts) (sym (take_more us i d l))
+pub readable_kept : (text : List ℕ) (ks js : List Kept) (ts us : List ShortToken) (k : Kept) (i : ℕ) → js ≡ ks ++ k ∷ [] → us ≡ ts ++ short.Kept i ∷ [] → i ≡ length ks → AreReadable text (length ks) ts → AreReadable text (length js) us
+readable_kept text ks js ts us k i e f o h =
+    let l : length js ≡ suc (length ks) = ap length e ∙ length-append ks (k ∷ []) ∙ omega arith in
+    subst (λ n. AreReadable text n us) (sym l)
+    (subst (AreReadable text (suc (length ks))) (sym f) (All-push (IsReadable text (suc (length ks))) ts (short.Kept i) (more text (length ks) (suc (length ks)) ts (omega arith) h) (omega (arith, o))))
 
-length_completed : (ts : List Terminal) (us : List Unescaped) → length (completed ts us) ≡ length ts
-unfolding completed
-length_completed ts [] = refl
-length_completed ts (u ∷ us) = length_completed (slice_set ts u.place (value_terminal u.value)) us ∙ length-set ts u.place (value_terminal u.value)
+pub nothing : (text : List ℕ) (ks : List Kept) (ts : List ShortToken) → ts ≡ [] → map (terminal_in text ks) ts ≡ []
+nothing text ks ts e = ap (λ v. map (terminal_in text ks) v) e
 
--- a value whose place is after all others
-pub completed_push : (ts : List Terminal) (o : Terminal) (us : List Unescaped) (u : Unescaped) → AreWithin (length ts) us → u.place ≡ length ts → completed (ts ++ o ∷ []) (us ++ u ∷ []) ≡ completed ts us ++ value_terminal u.value ∷ []
-completed_push ts o us u w e =
-    let v = value_terminal u.value in
-    let place : u.place ≡ length (completed ts us) = e ∙ sym (length_completed ts us) in
-    completed_last (ts ++ o ∷ []) us u ∙ ap (λ x. slice_set x u.place v) (completed_more ts o us w) ∙ ap (λ n. slice_set (completed ts us ++ o ∷ []) n v) place ∙ set-append_seam (completed ts us) o [] v
-
--- a piece more
-pub with_piece : (ps qs : List Piece) (p : Piece) (us : List Unescaped) → AreWithin (length ps) us → qs ≡ ps ++ p ∷ [] → completed (map terminal qs) us ≡ completed (map terminal ps) us ++ terminal p ∷ []
-with_piece ps qs p us w e =
-    ap (λ x. completed (map terminal x) us) e ∙ ap (λ x. completed x us) (map-append terminal ps (p ∷ [])) ∙ completed_more (map terminal ps) (terminal p) us (subst (λ n. AreWithin n us) (sym (length-map ps terminal)) w)
-
--- a value more, with its piece
-pub with_value : (ps qs : List Piece) (o : Piece) (us vs : List Unescaped) (u : Unescaped) → AreWithin (length ps) us → u.place ≡ length ps → qs ≡ ps ++ o ∷ [] → vs ≡ us ++ u ∷ [] → completed (map terminal qs) vs ≡ completed (map terminal ps) us ++ value_terminal u.value ∷ []
-with_value ps qs o us vs u w l e f =
-    ap (λ x. completed (map terminal x) vs) e ∙ ap (λ x. completed x vs) (map-append terminal ps (o ∷ [])) ∙ ap (λ x. completed (map terminal ps ++ terminal o ∷ []) x) f
-    ∙ completed_push (map terminal ps) (terminal o) us u (subst (λ n. AreWithin n us) (sym (length-map ps terminal)) w) (l ∙ sym (length-map ps terminal))
-
--- a value in its place
-pub put_piece : (ps qs : List Piece) (p : Piece) (i : ℕ) → qs ≡ slice_set ps i p → map terminal qs ≡ slice_set (map terminal ps) i (terminal p)
-put_piece ps qs p i e = ap (λ x. map terminal x) e ∙ map-set terminal ps i p
+pub readable_nothing : (text : List ℕ) (n : ℕ) (ts : List ShortToken) → ts ≡ [] → AreReadable text n ts
+readable_nothing text n ts e = subst (AreReadable text n) (sym e) (All-nil (IsReadable text n))

@@ -1,14 +1,12 @@
 -- WebAssembly 2.0 specification, 6.2.2 (tokens) and 6.3 (values: integers, floating-point, strings, identifiers): the tokens that count, each with its value.
 use Rattle.std.specs.Prelude.{◌≡◌, ℕ, ◌^◌, true, List, map, nat_lt, Option, Some, None, Result, Ok, Err, if◌then◌else◌}
-use Rattle.std.specs.Float.{binary32, binary64}
-use Rattle.wat_floats.specs.Literals.{literal}
 use Rattle.wat_lex.specs.declared.lexer.faults.LexError.{LexError}
 use Rattle.wat_lex.specs.declared.lexer.faults.LexError.TheVariants.{EmptyId}
-use Rattle.wat_lex.specs.declared.lexer.kinds.SignToken.{SignToken}
-use Rattle.wat_lex.specs.declared.lexer.kinds.SignToken.TheVariants as token_sign
 use Rattle.wat_lex.specs.declared.lexer.kinds.Token.{Token}
 use Rattle.wat_lex.specs.declared.lexer.kinds.TokenKind.{TokenKind}
 use Rattle.wat_lex.specs.declared.lexer.kinds.TokenKind.TheVariants as kind
+use Rattle.wat_lex.specs.declared.lexer.kinds.SignToken.{SignToken}
+use Rattle.wat_lex.specs.declared.lexer.kinds.SignToken.TheVariants as token_sign
 use Rattle.wat_lex.specs.tokens.ReadableTokens.{token_text, word_of}
 use Rattle.wat_lex.specs.tokens.Setting.{Setting}
 use Rattle.wat_lex.specs.values.IntegerFacts.{kind_hex, kind_sign}
@@ -18,16 +16,12 @@ use Rattle.wat_lexer_parser.specs.laws.Blanking.{TextShows}
 use Rattle.wat_lexer_parser.specs.names.RegisteredNames.{no_names}
 use Rattle.wat_instructions.specs.declared.pieces.Sign.{Sign}
 use Rattle.wat_instructions.specs.declared.pieces.Sign.TheVariants as sign
-use Rattle.wat_instructions.specs.Terminals.{Terminal, Open, Close, Word, Id, Integer, Float, Text, Other}
+use Rattle.wat_instructions.specs.Terminals.{Terminal, Open, Close, Word, Id, Integer, Text, Other, float_of}
 
 abbrev pub sign_of : Option SignToken → Sign
 sign_of None = sign.Absent
 sign_of (Some token_sign.Plus) = sign.Plus
 sign_of (Some token_sign.Minus) = sign.Minus
-
--- a number's word, as a float
-abbrev pub float_of : List ℕ → Terminal
-float_of w = Float (literal binary32 w) (literal binary64 w)
 
 -- an integer: one of more than 64 bits is but a float
 abbrev pub integer : Sign → ℕ → List ℕ → Terminal

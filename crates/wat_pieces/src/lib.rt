@@ -2,19 +2,18 @@
 //! modules.
 #![tactic(auto)]
 
-ghost use Rattle.std.specs.List.{All};
-ghost use Rattle.std.specs.Prelude.{◌≡◌, ◌≤◌, ◌<◌, ◌^◌, ◌++◌, ◌∷◌, [], IfErr, IfOk, None, OnOk, length, map, slice_set};
-ghost use Rattle.wat_instructions.specs.Terminals.{terminal};
-ghost use Rattle.wat_lex.specs.tokens.ReadableTokens.{IsTokenOf};
-ghost use Rattle.wat_lexer_parser.specs.names.RegisteredNames.{no_names};
-ghost use Rattle.wat_pieces.specs.Pieces.{float_of, sign_of, terminal_of};
+ghost use Rattle.std.specs.Prelude.{◌≡◌, ◌≤◌, ◌<◌, ◌^◌, ◌++◌, ◌∷◌, [], suc, IfErr, IfOk, IfSome, None, OnOk, List, length, ℕ};
+ghost use Rattle.wat_instructions.specs.Terminals.{Id, Integer, Terminal, Text, Word, float_of};
+ghost use Rattle.wat_instructions.specs.Tokens.{AreReadable};
+ghost use Rattle.wat_lex.specs.tokens.ReadableTokens.{IsTokenOf, token_text};
+ghost use Rattle.wat_pieces.specs.Drafts.{IsReadAs, draft_terminals};
+ghost use Rattle.wat_pieces.specs.Pieces.{sign_of, terminal_of};
 ghost use Rattle.wat_pieces.specs.Shown.{PiecesFrom, PiecesShown, ShownFrom, TextShown};
-ghost use Rattle.wat_pieces.specs.Values.{AreWithin, completed, draft_terminals, read_terminal, value_terminal};
 
 use std::alloc::{AllocError, Global};
 use std::borrow::{CowSlice, CowStr};
-use wat_floats::{f32_bits, f64_bits};
 use wat_instructions::pieces::{Piece, Sign};
+use wat_instructions::source::{Kept, ShortToken};
 use wat_lexer_parser::lexer::{Lexer, Settings, SignToken, Token, TokenKind};
 use wat_lexer_parser::parser::{Cursor, LazyBuffer};
 use wat_lexer_parser::{Error, laws};
@@ -26,25 +25,11 @@ pub struct Shown {
     pub error: Option<Error>,
 }
 
-/// A value that the text does not have as it is, since escapes spell it.
-#[derive(Drop)]
-pub enum Value {
-    Id(String),
-    Text(Vec<u8>),
-}
-
-/// Such a value, and the place of its piece.
-#[derive(Drop)]
-pub struct Unescaped {
-    pub place: usize,
-    pub value: Value,
-}
-
-/// Pieces, and the values that are to be put in their places.
+/// The tokens of a text, and what is kept of them beside it.
 #[derive(Drop)]
 pub struct Draft<'t> {
-    pub pieces: Vec<Piece<'t>>,
-    pub values: Vec<Unescaped>,
+    pub tokens: Vec<ShortToken>,
+    pub kept: Vec<Kept<'t>>,
 }
 
 /// The pieces of the tokens that are shown, and the error of the fault after them.
@@ -54,11 +39,11 @@ pub struct ShownPieces<'t> {
     pub error: Option<Error>,
 }
 
-/// What a token is read as.
+/// What is put down of a token.
 #[derive(Drop)]
 enum Read<'t> {
-    Piece(Piece<'t>),
-    Value(Value),
+    Short(ShortToken),
+    Kept(Kept<'t>),
 }
 
 /// What the lexer takes: all characters in comments and strings, and no doubled underscores.
@@ -127,65 +112,128 @@ fn sign(sign: Option<SignToken>) -> Sign
     }
 }
 
-/// What a token is read as.
+/// What is put down of a token.
 fn read_token<'t>(alloc: Global, text: &'t str, token: &Token) -> Result<Read<'t>, AllocError>
-    requires { IsTokenOf text.now token.now }
-    ensures { IfOk result (λ r. read_terminal r ≡ terminal_of text.now token.now) }
+    requires token { IsTokenOf text.now token.now }
+    requires small { length text.now < 2 ^ 32 }
+    ensures { IfOk result (λ r. IsReadAs text.now r (terminal_of text.now token.now)) }
 {
     match token.kind {
-        TokenKind::LParen => Ok(Read::Piece(Piece::Open)),
-        TokenKind::RParen => Ok(Read::Piece(Piece::Close)),
-        TokenKind::Keyword => Ok(Read::Piece(Piece::Word(token.src(text)))),
+        TokenKind::LParen => Ok(Read::Short(ShortToken::Open)),
+        TokenKind::RParen => Ok(Read::Short(ShortToken::Close)),
+        TokenKind::Keyword => Ok(read_word(text, token)),
         TokenKind::Id => match token.name(alloc, text)? {
-            Ok(CowStr::Borrowed(name)) => Ok(Read::Piece(Piece::Id(name))),
-            Ok(CowStr::Owned(name)) => Ok(Read::Value(Value::Id(name))),
-            Err(_) => Ok(Read::Piece(Piece::Other)),
+            Ok(CowStr::Borrowed(name)) => Ok(read_name(text, token, name)),
+            Ok(CowStr::Owned(name)) => Ok(Read::Kept(Kept::Id(name))),
+            Err(_) => Ok(Read::Short(ShortToken::Other)),
         },
         TokenKind::Integer(kind) => match token.magnitude(text, kind) {
-            Some(size) => Ok(Read::Piece(Piece::Integer(sign(kind.sign()), size))),
-            None => read_float(alloc, token.src(text)),
+            Some(size) => Ok(read_integer(sign(kind.sign()), size)),
+            None => Ok(read_float(text, token)),
         },
-        TokenKind::Float(_) => read_float(alloc, token.src(text)),
+        TokenKind::Float(_) => Ok(read_float(text, token)),
         TokenKind::String => match token.string(alloc, text)? {
-            CowSlice::Borrowed(value) => Ok(Read::Piece(Piece::Text(value))),
-            CowSlice::Owned(value) => Ok(Read::Value(Value::Text(value))),
+            CowSlice::Borrowed(value) => Ok(read_string(text, token, value)),
+            CowSlice::Owned(value) => Ok(Read::Kept(Kept::Text(value))),
         },
         TokenKind::LineComment
         | TokenKind::BlockComment
         | TokenKind::Whitespace
         | TokenKind::Annotation
-        | TokenKind::Reserved => Ok(Read::Piece(Piece::Other)),
+        | TokenKind::Reserved => Ok(Read::Short(ShortToken::Other)),
     }
 }
 
-/// What a number's word is read as, as a float.
-fn read_float<'t>(alloc: Global, word: &str) -> Result<Read<'t>, AllocError>
-    ensures { IfOk result (λ r. read_terminal r ≡ float_of word.now) }
+/// What is put down of a keyword.
+fn read_word<'t>(text: &'t str, token: &Token) -> Read<'t>
+    requires token { IsTokenOf text.now token.now }
+    requires small { length text.now < 2 ^ 32 }
+    ensures { IsReadAs text.now result (Word (token_text text.now token.now)) }
 {
-    let single = f32_bits(alloc, word)?;
-    let double = f64_bits(alloc, word)?;
-    Ok(Read::Piece(Piece::Float(single, double)))
+    if token.len < 256 {
+        Read::Short(ShortToken::Word(token.offset as u32, token.len as u8))
+    } else {
+        Read::Kept(Kept::Piece(Piece::Word(token.src(text))))
+    }
 }
 
-/// Appends what a token is read as.
-#[tactic(auto, using(crate::proofs::Drafts::with_piece))]
-fn push<'t>(draft: &mut Draft<'t>, read: Read<'t>) -> Result<(), AllocError>
-    requires { AreWithin (length draft.old.pieces.items) draft.old.values.items }
-    ensures is { OnOk result (draft_terminals draft.new ≡ draft_terminals draft.old ++ read_terminal read.entry ∷ []) }
-    ensures within { OnOk result (AreWithin (length draft.new.pieces.items) draft.new.values.items) }
+/// What is put down of an integer.
+fn read_integer<'t>(sign: Sign, size: u64) -> Read<'t>
+    ensures { (text : List ℕ) → IsReadAs text result (Integer sign size) }
+{
+    if size < 0x1_0000_0000 {
+        Read::Short(ShortToken::Integer(sign, size as u32))
+    } else {
+        Read::Kept(Kept::Piece(Piece::Integer(sign, size)))
+    }
+}
+
+/// What is put down of another number.
+fn read_float<'t>(text: &'t str, token: &Token) -> Read<'t>
+    requires token { IsTokenOf text.now token.now }
+    requires small { length text.now < 2 ^ 32 }
+    ensures { IsReadAs text.now result (float_of (token_text text.now token.now)) }
+{
+    if token.len < 256 {
+        Read::Short(ShortToken::Float(token.offset as u32, token.len as u8))
+    } else {
+        Read::Kept(Kept::Piece(Piece::Float(token.src(text))))
+    }
+}
+
+/// What is put down of an identifier with this name, which mostly is what the text has after `$`.
+fn read_name<'t>(text: &'t str, token: &Token, name: &'t str) -> Read<'t>
+    requires token { IsTokenOf text.now token.now }
+    requires small { length text.now < 2 ^ 32 }
+    ensures { IsReadAs text.now result (Id name.now) }
+{
+    let start = token.offset + 1;
+    let end = start + name.len();
+    let is_there = text.is_char_boundary(start)
+        && text.is_char_boundary(end)
+        && &text[start..end] == name;
+    if is_there && name.len() < 256 {
+        return Read::Short(ShortToken::Id(start as u32, name.len() as u8));
+    }
+    Read::Kept(Kept::Piece(Piece::Id(name)))
+}
+
+/// What is put down of a string of this value, which is what the text has after the first quote.
+fn read_string<'t>(text: &'t str, token: &Token, value: &'t [u8]) -> Read<'t>
+    requires token { IsTokenOf text.now token.now }
+    requires small { length text.now < 2 ^ 32 }
+    ensures { IsReadAs text.now result (Text value.now) }
+{
+    let start = token.offset + 1;
+    match text.as_bytes().get(start..start + value.len()) {
+        Some(there) if value.len() < 256 && there == value => {
+            Read::Short(ShortToken::Text(start as u32, value.len() as u8))
+        }
+        _ => Read::Kept(Kept::Piece(Piece::Text(value))),
+    }
+}
+
+/// Appends what is put down of a token.
+#[tactic(auto, using(crate::proofs::Drafts::with_short))]
+fn push<'t>(text: &'t str, draft: &mut Draft<'t>, read: Read<'t>) -> Result<(), AllocError>
+    requires few { length draft.old.kept.items < 2 ^ 32 }
+    requires readable { AreReadable text.now (length draft.old.kept.items) draft.old.tokens.items }
+    ensures is { OnOk result ((x : Terminal) → IsReadAs text.now read.entry x → draft_terminals text.now draft.new ≡ draft_terminals text.now draft.old ++ x ∷ []) }
+    ensures readable { OnOk result ((x : Terminal) → IsReadAs text.now read.entry x → AreReadable text.now (length draft.new.kept.items) draft.new.tokens.items) }
+    ensures few { OnOk result (length draft.new.kept.items ≤ suc (length draft.old.kept.items)) }
 {
     match read {
-        Read::Piece(piece) => draft.pieces.push(piece)?,
-        Read::Value(value) => {
-            let place = draft.pieces.len();
-            draft.values.push(Unescaped { place, value })?;
-            draft.pieces.push(Piece::Other)?;
+        Read::Short(token) => draft.tokens.push(token)?,
+        Read::Kept(value) => {
+            let index = draft.kept.len() as u32;
+            draft.kept.push(value)?;
+            draft.tokens.push(ShortToken::Kept(index))?;
         }
     }
     Ok(())
 }
 
-/// Appends a token, as it is read.
+/// Appends a token.
 fn push_token<'t>(
     alloc: Global,
     text: &'t str,
@@ -193,19 +241,22 @@ fn push_token<'t>(
     draft: &mut Draft<'t>,
 ) -> Result<(), AllocError>
     requires token { IsTokenOf text.now token.now }
-    requires within { AreWithin (length draft.old.pieces.items) draft.old.values.items }
-    ensures is { OnOk result (draft_terminals draft.new ≡ draft_terminals draft.old ++ terminal_of text.now token.now ∷ []) }
-    ensures within { OnOk result (AreWithin (length draft.new.pieces.items) draft.new.values.items) }
+    requires small { length text.now < 2 ^ 32 }
+    requires few { length draft.old.kept.items < 2 ^ 32 }
+    requires readable { AreReadable text.now (length draft.old.kept.items) draft.old.tokens.items }
+    ensures is { OnOk result (draft_terminals text.now draft.new ≡ draft_terminals text.now draft.old ++ terminal_of text.now token.now ∷ []) }
+    ensures readable { OnOk result (AreReadable text.now (length draft.new.kept.items) draft.new.tokens.items) }
+    ensures few { OnOk result (length draft.new.kept.items ≤ suc (length draft.old.kept.items)) }
 {
     let read = read_token(alloc, text, token)?;
-    push(draft, read)
+    push(text, draft, read)
 }
 
 /// All that a text shows where no name is registered, as pieces.
 pub fn shown_pieces(alloc: Global, text: &str) -> Result<ShownPieces<'_>, Error>
     requires { length text.now < 2 ^ 32 }
-    ensures shown { IfOk result (λ r. PiecesShown text.now (draft_terminals r.draft) r.error) }
-    ensures within { IfOk result (λ r. AreWithin (length r.draft.pieces.items) r.draft.values.items) }
+    ensures shown { IfOk result (λ r. PiecesShown text.now (draft_terminals text.now r.draft) r.error) }
+    ensures readable { IfOk result (λ r. AreReadable text.now (length r.draft.kept.items) r.draft.tokens.items) }
     ensures refused { IfErr result (λ e. e ≡ None) }
 {
     let buffer = LazyBuffer::new_with_lexer(alloc, Lexer::with_settings(text, SETTINGS));
@@ -222,8 +273,8 @@ fn pieces_from<'p, 'a, 't>(
     requires { from.parser.now.source.setting.text ≡ text.now }
     ensures shown { IfOk result (λ r.
         PiecesFrom from.entry.parser.now.source from.entry.parser.now.names from.entry.at
-        (draft_terminals r.0.draft) r.0.error) }
-    ensures within { IfOk result (λ r. AreWithin (length r.0.draft.pieces.items) r.0.draft.values.items) }
+        (draft_terminals text.now r.0.draft) r.0.error) }
+    ensures readable { IfOk result (λ r. AreReadable text.now (length r.0.draft.kept.items) r.0.draft.tokens.items) }
     ensures parser { IfOk result (λ r. r.1.parser ≡ from.entry.parser) }
     ensures on { IfOk result (λ r. from.entry.at ≤ r.1.at) }
     ensures refused { IfErr result (λ e. e ≡ None) }
@@ -231,8 +282,8 @@ fn pieces_from<'p, 'a, 't>(
     laws::all_shown();
     from.lemma_sound();
     let mut draft = Draft {
-        pieces: Vec::new(alloc),
-        values: Vec::new(alloc),
+        tokens: Vec::new(alloc),
+        kept: Vec::new(alloc),
     };
     let mut cursor = from;
     'tokens: loop {
@@ -249,36 +300,4 @@ fn pieces_from<'p, 'a, 't>(
             }
         }
     }
-}
-
-/// A value as a piece.
-fn piece(value: &Value) -> Piece<'_>
-    ensures { terminal result ≡ value_terminal value.now }
-{
-    match value {
-        Value::Id(name) => Piece::Id(name.as_str()),
-        Value::Text(text) => Piece::Text(text.as_slice()),
-    }
-}
-
-/// Puts a value in its place.
-#[tactic(auto, using(crate::proofs::Drafts::put_piece))]
-fn put<'v>(pieces: &mut Vec<Piece<'v>>, unescaped: &'v Unescaped)
-    requires { unescaped.now.place < length pieces.old.items }
-    ensures is { map terminal pieces.new.items ≡ slice_set (map terminal pieces.old.items) unescaped.now.place (value_terminal unescaped.now.value) }
-    ensures long { length pieces.new.items ≡ length pieces.old.items }
-{
-    pieces[unescaped.place] = piece(&unescaped.value);
-}
-
-/// Pieces with the values in their places.
-pub fn completed<'v>(pieces: Vec<Piece<'v>>, values: &'v [Unescaped]) -> Vec<Piece<'v>>
-    requires { AreWithin (length pieces.items) values.now }
-    ensures { map terminal result.items ≡ completed (map terminal pieces.entry.items) values.now }
-{
-    let mut pieces = pieces;
-    for unescaped in values {
-        put(&mut pieces, unescaped);
-    }
-    pieces
 }

@@ -13,6 +13,7 @@ pub mod pairs;
 pub mod pieces;
 pub mod reading;
 mod slots;
+pub mod source;
 pub mod table;
 mod table_arguments;
 pub mod types;

@@ -7,11 +7,12 @@ pub mod laws;
 
 use wat_lex::shim::alloc::Global;
 use crate::reading::module;
-use crate::instructions::pieces::{FaultKind, Piece, Refusal};
+use crate::instructions::pieces::{FaultKind, Refusal};
+use crate::instructions::source::Source;
 use wat_parser::proved::Error;
 use wat_parser::proved::lexer::Token;
 use wat_parser::proved::token::Span;
-use crate::pieces::{Draft, ShownPieces, completed, shown_pieces, shown_tokens};
+use crate::pieces::{Draft, ShownPieces, shown_pieces, shown_tokens};
 use crate::sections::encode;
 
 /// The bytes of the module that a text spells.
@@ -61,33 +62,33 @@ pub fn compile(alloc: Global, text: &str) -> Result<Vec<u8>, Error> {
 ///
 /// ```text
 /// requires short { length text.now < 2 ^ 32 }
-/// requires within { AreWithin (length draft.pieces.items) draft.values.items }
+/// requires readable { AreReadable text.now (length draft.kept.items) draft.tokens.items }
 /// ensures { (tokens : List Token) → TextShows (plain text.now) no_names tokens None →
-///     draft_terminals draft.entry ≡ map (terminal_of text.now) tokens →
+///     draft_terminals text.now draft.entry ≡ map (terminal_of text.now) tokens →
 ///     Answers true (λ bytes. bytes.items) (compiled_tokens text.now tokens) result }
 /// ```
 fn of_draft(alloc: Global, text: &str, draft: Draft<'_>) -> Result<Vec<u8>, Error> {
-    let Draft { pieces, values } = draft;
-    let pieces = completed(pieces, &values);
-    of_pieces(alloc, text, pieces)
+    let Draft { tokens, kept } = draft;
+    of_source(alloc, text, Source::new(text, tokens, &kept))
 }
 
-/// The same of pieces.
+/// The same of tokens that can be read.
 ///
 /// # Proved
 ///
 /// ```text
 /// requires { length text.now < 2 ^ 32 }
 /// ensures { (tokens : List Token) → TextShows (plain text.now) no_names tokens None →
-///     map terminal pieces.entry.items ≡ map (terminal_of text.now) tokens →
+///     source.entry ≡ map (terminal_of text.now) tokens →
 ///     Answers true (λ bytes. bytes.items) (compiled_tokens text.now tokens) result }
 /// ```
-fn of_pieces(alloc: Global, text: &str, pieces: Vec<Piece<'_>>) -> Result<Vec<u8>, Error> {
+fn of_source(alloc: Global, text: &str, source: Source<'_>) -> Result<Vec<u8>, Error> {
     crate::reading::laws::reading_is_grammar();
-    match module::module(alloc, &pieces) {
+    match module::module(alloc, source.pieces()) {
         Ok(fields) => {
-            // Fields borrow from the text alone: bytes are written where tokens were.
-            drop(pieces);
+            // Fields borrow from the text, and from what is kept beside it: bytes are written where
+            // tokens were.
+            drop(source);
             fitting(alloc, text, encode::module_bytes(alloc, &fields)?)
         }
         Err(Refusal::Memory(refused)) => Err(Error::from(refused)),

@@ -1,8 +1,9 @@
 use Rattle.std.proofs.Common.{◌≡◌, ◌∙◌, ◌++◌, ◌∷◌, [], length, map, ap, sym, refl, subst, arith}
 use Rattle.std.proofs.lemmas.List.{map-append}
 use Rattle.wat_pieces.specs.Pieces.{terminal_of}
-use Rattle.wat_pieces.specs.Values.{draft_terminals}
-use Rattle.wat_pieces.proofs.Drafts.{nothing, within_nothing}
+use Rattle.wat_pieces.specs.Drafts.{draft_terminals}
+use Rattle.wat_pieces.proofs.Drafts.{nothing, readable_nothing}
+use Rattle.wat_pieces.proofs.FewTokens.{few_tokens}
 use Rattle.wat_pieces.proofs.ShownLaws.{shown_start, shown_more, shown_end, shown_reported, seen_found}
 use Rattle.wat_pieces.proofs.pieces_from.Goals as goal
 
@@ -12,8 +13,9 @@ tokens-init c = record {
   on = omega arith;
   tokens = [];
   shown = shown_start c.args.from.parser.now.source c.args.from.parser.now.names c.args.from.at [] refl;
-  are = nothing c.new.result.items c.new-2.result.items c.new.ensures.items c.new-2.ensures.items;
-  within = within_nothing (length c.new.result.items) c.new-2.result.items c.new-2.ensures.items;
+  are = nothing c.args.text.now c.new-2.result.items c.new.result.items c.new.ensures.items;
+  readable = readable_nothing c.args.text.now (length c.new-2.result.items) c.new.result.items c.new.ensures.items;
+  few = let e = ap length c.new-2.ensures.items in omega (arith, e);
 }
 
 pub tokens-preserved : goal.tokens-preserved
@@ -33,7 +35,8 @@ tokens-preserved c =
       shown = shown_more c.all_shown.ensures.looks s names c.args.from.at c.tokens.cursor.at c.in-Ok-Some.next.at before (before ++ t ∷ []) t c.lemma_sound.ensures.sound.utf8 c.lemma_sound.ensures.sound.read
           c.tokens.invariant.shown (seen_found s names c.tokens.cursor.at _ value) refl (rw (c.in-Ok-Some.is, c.in-Ok-Some.field-0-is, c.tokens.invariant.parser) at c.any.ensures.reader);
       are = c.in_ok-push_token-in-Ok-Some.ensures.is ∙ ap (λ x. x ++ f t ∷ []) c.tokens.invariant.are ∙ sym (map-append f before (t ∷ []));
-      within = c.in_ok-push_token-in-Ok-Some.ensures.within;
+      readable = c.in_ok-push_token-in-Ok-Some.ensures.readable;
+      few = omega (arith, on, c.tokens.invariant.few, c.in_ok-push_token-in-Ok-Some.ensures.few);
     }
 
 pub returns-in-Ok-None-clause-shown : goal.returns-in-Ok-None-clause-shown
@@ -44,7 +47,7 @@ returns-in-Ok-None-clause-shown c =
     record {
       tokens = c.tokens.invariant.tokens;
       shown = shown_end c.all_shown.ensures.looks s names c.args.from.at c.tokens.cursor.at c.tokens.invariant.tokens c.lemma_sound.ensures.sound.utf8 c.lemma_sound.ensures.sound.read c.tokens.invariant.shown (seen_found s names c.tokens.cursor.at _ value);
-      are = subst (λ x. draft_terminals c.tokens.draft ≡ map (terminal_of x) c.tokens.invariant.tokens) (sym c.requires) c.tokens.invariant.are;
+      are = subst (λ x. draft_terminals c.args.text.now c.tokens.draft ≡ map (terminal_of x) c.tokens.invariant.tokens) (sym c.requires) c.tokens.invariant.are;
     }
 
 pub returns-in-Err-2-clause-shown : goal.returns-in-Err-2-clause-shown
@@ -52,5 +55,11 @@ returns-in-Err-2-clause-shown c = record {
   tokens = c.tokens.invariant.tokens;
   shown = shown_reported c.all_shown.ensures.looks c.tokens.cursor.parser.now c.args.from.parser.now c.args.from.at c.tokens.cursor.at c.tokens.invariant.tokens _ c.any.result c.in-Err.error c.is_out_of_memory.result c.lemma_sound.ensures.sound.utf8 c.lemma_sound.ensures.sound.read
       c.tokens.invariant.shown c.any.ensures.value c.in-Err.is (ap (λ p. p.now) c.tokens.invariant.parser) c.if-is_out_of_memory.false c.is_out_of_memory.ensures.1;
-  are = subst (λ x. draft_terminals c.tokens.draft ≡ map (terminal_of x) c.tokens.invariant.tokens) (sym c.requires) c.tokens.invariant.are;
+  are = subst (λ x. draft_terminals c.args.text.now c.tokens.draft ≡ map (terminal_of x) c.tokens.invariant.tokens) (sym c.requires) c.tokens.invariant.are;
 }
+
+pub push_token-requires-clause-few : goal.push_token-requires-clause-few
+push_token-requires-clause-few c =
+    let few = few_tokens c.args.from.parser.now.source c.lemma_sound.ensures.sound.utf8 c.lemma_sound.ensures.sound.read in
+    let within = rw c.tokens.invariant.parser at c.tokens.cursor.in_text in
+    omega (arith, few, within, c.tokens.invariant.few, c.lemma_sound.ensures.sound.short)

@@ -2,8 +2,10 @@
 //! Floating-point immediates.
 
 use wat_lex::shim::prelude::*;
-use crate::instructions::pieces::{Fault, FaultKind, Piece, Sign, unexpected};
-use wat_parser::floats::{f32_of_integer, f64_of_integer};
+use crate::instructions::pieces::{Fault, FaultKind, Piece, Refusal, Sign, unexpected};
+use crate::instructions::source::Pieces;
+use wat_lex::shim::alloc::Global;
+use wat_parser::floats::{f32_bits, f32_of_integer, f64_bits, f64_of_integer};
 
 /// Whether an integer is one below 0, or `-0`.
 ///
@@ -25,14 +27,14 @@ fn is_minus(sign: Sign) -> bool {
 ///
 /// ```text
 /// ensures { MatchResult result
-/// (λ r. bits_by bits (map terminal all.now) (map terminal rest.now) ≡ Ok (r.0, map terminal r.1.now))
-/// (λ f. bits_by bits (map terminal all.now) (map terminal rest.now) ≡ Err (fault_of f)) }
+/// (λ r. bits_by bits (terminals_of all.entry) (terminals_of rest.entry) ≡ Ok (r.0, terminals_of r.1))
+/// (λ f. bits_by bits (terminals_of all.entry) (terminals_of rest.entry) ≡ Err (fault_of f)) }
 /// ```
 fn single<'p, 'a>(
     bits: Option<u32>,
-    all: &'p [Piece<'a>],
-    rest: &'p [Piece<'a>],
-) -> Result<(u32, &'p [Piece<'a>]), Fault<'p, 'a>> {
+    all: Pieces<'p, 'a>,
+    rest: Pieces<'p, 'a>,
+) -> Result<(u32, Pieces<'p, 'a>), Fault<'p, 'a>> {
     match bits {
         Some(bits) => Ok((bits, rest)),
         None => Err(Fault {
@@ -48,14 +50,14 @@ fn single<'p, 'a>(
 ///
 /// ```text
 /// ensures { MatchResult result
-/// (λ r. bits_by bits (map terminal all.now) (map terminal rest.now) ≡ Ok (r.0, map terminal r.1.now))
-/// (λ f. bits_by bits (map terminal all.now) (map terminal rest.now) ≡ Err (fault_of f)) }
+/// (λ r. bits_by bits (terminals_of all.entry) (terminals_of rest.entry) ≡ Ok (r.0, terminals_of r.1))
+/// (λ f. bits_by bits (terminals_of all.entry) (terminals_of rest.entry) ≡ Err (fault_of f)) }
 /// ```
 fn double<'p, 'a>(
     bits: Option<u64>,
-    all: &'p [Piece<'a>],
-    rest: &'p [Piece<'a>],
-) -> Result<(u64, &'p [Piece<'a>]), Fault<'p, 'a>> {
+    all: Pieces<'p, 'a>,
+    rest: Pieces<'p, 'a>,
+) -> Result<(u64, Pieces<'p, 'a>), Fault<'p, 'a>> {
     match bits {
         Some(bits) => Ok((bits, rest)),
         None => Err(Fault {
@@ -71,18 +73,23 @@ fn double<'p, 'a>(
 ///
 /// ```text
 /// ensures { MatchResult result
-/// (λ r. f32 (map terminal pieces.now) ≡ Ok (r.0, map terminal r.1.now))
-/// (λ f. f32 (map terminal pieces.now) ≡ Err (fault_of f)) }
+/// (λ r. f32 (terminals_of pieces.entry) ≡ Ok (r.0, terminals_of r.1))
+/// (λ e. Faults (f32 (terminals_of pieces.entry)) e) }
 /// ```
 pub(crate) fn float_32<'p, 'a>(
-    pieces: &'p [Piece<'a>],
-) -> Result<(u32, &'p [Piece<'a>]), Fault<'p, 'a>> {
-    match pieces {
-        [Piece::Integer(sign, size), rest @ ..] => {
-            single(f32_of_integer(is_minus(*sign), *size), pieces, rest)
+    alloc: Global,
+    pieces: Pieces<'p, 'a>,
+) -> Result<(u32, Pieces<'p, 'a>), Refusal<'p, 'a>> {
+    match pieces.first() {
+        Some((Piece::Integer(sign, size), rest)) => {
+            let bits = f32_of_integer(is_minus(sign), size);
+            Ok(single(bits, pieces, rest)?)
         }
-        [Piece::Float(bits, _), rest @ ..] => single(*bits, pieces, rest),
-        _ => Err(unexpected(pieces)),
+        Some((Piece::Float(word), rest)) => {
+            let bits = f32_bits(alloc, word)?;
+            Ok(single(bits, pieces, rest)?)
+        }
+        _ => Err(Refusal::Text(unexpected(pieces))),
     }
 }
 
@@ -92,17 +99,22 @@ pub(crate) fn float_32<'p, 'a>(
 ///
 /// ```text
 /// ensures { MatchResult result
-/// (λ r. f64 (map terminal pieces.now) ≡ Ok (r.0, map terminal r.1.now))
-/// (λ f. f64 (map terminal pieces.now) ≡ Err (fault_of f)) }
+/// (λ r. f64 (terminals_of pieces.entry) ≡ Ok (r.0, terminals_of r.1))
+/// (λ e. Faults (f64 (terminals_of pieces.entry)) e) }
 /// ```
 pub(crate) fn float_64<'p, 'a>(
-    pieces: &'p [Piece<'a>],
-) -> Result<(u64, &'p [Piece<'a>]), Fault<'p, 'a>> {
-    match pieces {
-        [Piece::Integer(sign, size), rest @ ..] => {
-            double(f64_of_integer(is_minus(*sign), *size), pieces, rest)
+    alloc: Global,
+    pieces: Pieces<'p, 'a>,
+) -> Result<(u64, Pieces<'p, 'a>), Refusal<'p, 'a>> {
+    match pieces.first() {
+        Some((Piece::Integer(sign, size), rest)) => {
+            let bits = f64_of_integer(is_minus(sign), size);
+            Ok(double(bits, pieces, rest)?)
         }
-        [Piece::Float(_, bits), rest @ ..] => double(*bits, pieces, rest),
-        _ => Err(unexpected(pieces)),
+        Some((Piece::Float(word), rest)) => {
+            let bits = f64_bits(alloc, word)?;
+            Ok(double(bits, pieces, rest)?)
+        }
+        _ => Err(Refusal::Text(unexpected(pieces))),
     }
 }

@@ -6,6 +6,7 @@ use crate::instructions::pieces::{
     Argument, Frame, Instruction, Name, Opcode, Piece, Refusal, unexpected,
 };
 use crate::instructions::reading::{self, Scope};
+use crate::instructions::source::Pieces;
 use crate::instructions::uses;
 use wat_lex::shim::alloc::Global;
 
@@ -29,14 +30,14 @@ const END: Instruction = Instruction {
 ///
 /// ```text
 /// ensures { MatchResult result
-/// (λ r. spec.body (scope_of scope.now) (map terminal pieces.now) ≡ Ok (r.0.items, map terminal r.1.now))
-/// (λ e. Faults (spec.body (scope_of scope.now) (map terminal pieces.now)) e) }
+/// (λ r. spec.body (scope_of scope.now) (terminals_of pieces.entry) ≡ Ok (r.0.items, terminals_of r.1))
+/// (λ e. Faults (spec.body (scope_of scope.now) (terminals_of pieces.entry)) e) }
 /// ```
 pub fn instructions<'p, 'a>(
     alloc: Global,
     scope: &Scope<'_, '_>,
-    pieces: &'p [Piece<'a>],
-) -> Result<(Vec<Instruction>, &'p [Piece<'a>]), Refusal<'p, 'a>> {
+    pieces: Pieces<'p, 'a>,
+) -> Result<(Vec<Instruction>, Pieces<'p, 'a>), Refusal<'p, 'a>> {
     let mut out = Vec::with_capacity(alloc, 1)?;
     let mut frames = Vec::new(alloc);
     frames.push(Frame::Body)?;
@@ -55,14 +56,14 @@ pub fn instructions<'p, 'a>(
 ///
 /// ```text
 /// ensures { MatchResult result
-/// (λ r. spec.folded (scope_of scope.now) (map terminal pieces.now) ≡ Ok (r.0.items, map terminal r.1.now))
-/// (λ e. Faults (spec.folded (scope_of scope.now) (map terminal pieces.now)) e) }
+/// (λ r. spec.folded (scope_of scope.now) (terminals_of pieces.entry) ≡ Ok (r.0.items, terminals_of r.1))
+/// (λ e. Faults (spec.folded (scope_of scope.now) (terminals_of pieces.entry)) e) }
 /// ```
 pub fn one_folded<'p, 'a>(
     alloc: Global,
     scope: &Scope<'_, '_>,
-    pieces: &'p [Piece<'a>],
-) -> Result<(Vec<Instruction>, &'p [Piece<'a>]), Refusal<'p, 'a>> {
+    pieces: Pieces<'p, 'a>,
+) -> Result<(Vec<Instruction>, Pieces<'p, 'a>), Refusal<'p, 'a>> {
     // Most are one instruction, and a first push makes room for four.
     let mut out = Vec::with_capacity(alloc, 1)?;
     let mut frames = Vec::new(alloc);
@@ -82,18 +83,18 @@ pub fn one_folded<'p, 'a>(
 /// ```text
 /// requires { stack frames.now.items ≡ [] }
 /// ensures { MatchResult result
-///     (λ r. Stepped (spec.first_step (scope_of scope.now) (map terminal pieces.now)) out.old.items out.new.items (stack frames.new.items) (map terminal r.now))
-///     (λ e. Faults (spec.first_step (scope_of scope.now) (map terminal pieces.now)) e) }
+///     (λ r. Stepped (spec.first_step (scope_of scope.now) (terminals_of pieces.entry)) out.old.items out.new.items (stack frames.new.items) (terminals_of r))
+///     (λ e. Faults (spec.first_step (scope_of scope.now) (terminals_of pieces.entry)) e) }
 /// ```
 fn first_step<'p, 'a>(
     alloc: Global,
     scope: &Scope<'_, '_>,
     frames: &mut Vec<Frame<'p>>,
     out: &mut Vec<Instruction>,
-    pieces: &'p [Piece<'a>],
-) -> Result<&'p [Piece<'a>], Refusal<'p, 'a>> {
-    match pieces {
-        [Piece::Word(word), rest @ ..] => {
+    pieces: Pieces<'p, 'a>,
+) -> Result<Pieces<'p, 'a>, Refusal<'p, 'a>> {
+    match pieces.first() {
+        Some((Piece::Word(word), rest)) => {
             folded_instruction(alloc, scope, frames, out, word, pieces, rest)
         }
         _ => Err(Refusal::Text(unexpected(pieces))),
@@ -106,16 +107,16 @@ fn first_step<'p, 'a>(
 ///
 /// ```text
 /// ensures { MatchResult result
-/// (λ r. RunsTo (scope_of scope.now) (stack frames.old.items) (map terminal pieces.now) out.old.items out.new.items (map terminal r.now))
-/// (λ e. RunsInto (scope_of scope.now) (stack frames.old.items) (map terminal pieces.now) e) }
+/// (λ r. RunsTo (scope_of scope.now) (stack frames.old.items) (terminals_of pieces.entry) out.old.items out.new.items (terminals_of r))
+/// (λ e. RunsInto (scope_of scope.now) (stack frames.old.items) (terminals_of pieces.entry) e) }
 /// ```
 fn steps<'p, 'a>(
     alloc: Global,
     scope: &Scope<'_, '_>,
     frames: &mut Vec<Frame<'p>>,
     out: &mut Vec<Instruction>,
-    pieces: &'p [Piece<'a>],
-) -> Result<&'p [Piece<'a>], Refusal<'p, 'a>> {
+    pieces: Pieces<'p, 'a>,
+) -> Result<Pieces<'p, 'a>, Refusal<'p, 'a>> {
     let mut left = Left { pieces };
     'open: loop {
         match frames.pop() {
@@ -133,7 +134,7 @@ fn steps<'p, 'a>(
 /// What is left to read.
 #[derive(Clone, Copy)]
 struct Left<'p, 'a> {
-    pieces: &'p [Piece<'a>],
+    pieces: Pieces<'p, 'a>,
 }
 
 /// A step.
@@ -142,8 +143,8 @@ struct Left<'p, 'a> {
 ///
 /// ```text
 /// ensures { MatchResult result
-/// (λ r. Stepped (spec.step (scope_of scope.now) (part frame.entry) (stack frames.old.items) (map terminal left.entry.pieces.now)) out.old.items out.new.items (stack frames.new.items) (map terminal r.pieces.now))
-/// (λ e. Faults (spec.step (scope_of scope.now) (part frame.entry) (stack frames.old.items) (map terminal left.entry.pieces.now)) e) }
+/// (λ r. Stepped (spec.step (scope_of scope.now) (part frame.entry) (stack frames.old.items) (terminals_of left.entry.pieces)) out.old.items out.new.items (stack frames.new.items) (terminals_of r.pieces))
+/// (λ e. Faults (spec.step (scope_of scope.now) (part frame.entry) (stack frames.old.items) (terminals_of left.entry.pieces)) e) }
 /// ```
 fn step_on<'p, 'a>(
     alloc: Global,
@@ -165,8 +166,8 @@ fn step_on<'p, 'a>(
 ///
 /// ```text
 /// ensures { MatchResult result
-/// (λ r. Stepped (spec.step (scope_of scope.now) (part frame.entry) (stack frames.old.items) (map terminal pieces.now)) out.old.items out.new.items (stack frames.new.items) (map terminal r.now))
-/// (λ e. Faults (spec.step (scope_of scope.now) (part frame.entry) (stack frames.old.items) (map terminal pieces.now)) e) }
+/// (λ r. Stepped (spec.step (scope_of scope.now) (part frame.entry) (stack frames.old.items) (terminals_of pieces.entry)) out.old.items out.new.items (stack frames.new.items) (terminals_of r))
+/// (λ e. Faults (spec.step (scope_of scope.now) (part frame.entry) (stack frames.old.items) (terminals_of pieces.entry)) e) }
 /// ```
 fn step<'p, 'a>(
     alloc: Global,
@@ -174,12 +175,12 @@ fn step<'p, 'a>(
     frame: Frame<'p>,
     frames: &mut Vec<Frame<'p>>,
     out: &mut Vec<Instruction>,
-    pieces: &'p [Piece<'a>],
-) -> Result<&'p [Piece<'a>], Refusal<'p, 'a>> {
-    match pieces {
-        [Piece::Open, rest @ ..] => folded(alloc, scope, frame, frames, out, rest),
-        [Piece::Close, rest @ ..] => closed(frame, frames, out, pieces, rest),
-        [Piece::Word(word), rest @ ..] => {
+    pieces: Pieces<'p, 'a>,
+) -> Result<Pieces<'p, 'a>, Refusal<'p, 'a>> {
+    match pieces.first() {
+        Some((Piece::Open, rest)) => folded(alloc, scope, frame, frames, out, rest),
+        Some((Piece::Close, rest)) => closed(frame, frames, out, pieces, rest),
+        Some((Piece::Word(word), rest)) => {
             at_word(alloc, scope, frame, frames, out, word, pieces, rest)
         }
         _ => Err(Refusal::Text(unexpected(pieces))),
@@ -192,16 +193,16 @@ fn step<'p, 'a>(
 ///
 /// ```text
 /// ensures { MatchResult result
-/// (λ r. Stepped (spec.close_step (part frame.entry) (map terminal pieces.now) (map terminal rest.now) (stack frames.old.items)) out.old.items out.new.items (stack frames.new.items) (map terminal r.now))
-/// (λ e. Faults (spec.close_step (part frame.entry) (map terminal pieces.now) (map terminal rest.now) (stack frames.old.items)) e) }
+/// (λ r. Stepped (spec.close_step (part frame.entry) (terminals_of pieces.entry) (terminals_of rest.entry) (stack frames.old.items)) out.old.items out.new.items (stack frames.new.items) (terminals_of r))
+/// (λ e. Faults (spec.close_step (part frame.entry) (terminals_of pieces.entry) (terminals_of rest.entry) (stack frames.old.items)) e) }
 /// ```
 fn closed<'p, 'a>(
     frame: Frame<'p>,
     frames: &mut Vec<Frame<'p>>,
     out: &mut Vec<Instruction>,
-    pieces: &'p [Piece<'a>],
-    rest: &'p [Piece<'a>],
-) -> Result<&'p [Piece<'a>], Refusal<'p, 'a>> {
+    pieces: Pieces<'p, 'a>,
+    rest: Pieces<'p, 'a>,
+) -> Result<Pieces<'p, 'a>, Refusal<'p, 'a>> {
     match frame {
         Frame::Body => Ok(rest),
         Frame::Group(_) => {
@@ -225,16 +226,16 @@ fn closed<'p, 'a>(
 ///
 /// ```text
 /// ensures { MatchResult result
-/// (λ r. Stepped (spec.else_step (map terminal pieces.now) (stack frames.old.items)) out.old.items out.new.items (stack frames.new.items) (map terminal r.now))
-/// (λ e. Faults (spec.else_step (map terminal pieces.now) (stack frames.old.items)) e) }
+/// (λ r. Stepped (spec.else_step (terminals_of pieces.entry) (stack frames.old.items)) out.old.items out.new.items (stack frames.new.items) (terminals_of r))
+/// (λ e. Faults (spec.else_step (terminals_of pieces.entry) (stack frames.old.items)) e) }
 /// ```
 fn after_else<'p, 'a>(
     frames: &mut Vec<Frame<'p>>,
     out: &mut Vec<Instruction>,
-    pieces: &'p [Piece<'a>],
-) -> Result<&'p [Piece<'a>], Refusal<'p, 'a>> {
-    match pieces {
-        [Piece::Close, rest @ ..] => {
+    pieces: Pieces<'p, 'a>,
+) -> Result<Pieces<'p, 'a>, Refusal<'p, 'a>> {
+    match pieces.first() {
+        Some((Piece::Close, rest)) => {
             out.push(END)?;
             Ok(rest)
         }
@@ -248,21 +249,21 @@ fn after_else<'p, 'a>(
 ///
 /// ```text
 /// ensures { MatchResult result
-/// (λ r. Stepped (spec.then_step (terminals.label label.entry) (map terminal pieces.now) (stack frames.old.items)) out.old.items out.new.items (stack frames.new.items) (map terminal r.now))
-/// (λ e. Faults (spec.then_step (terminals.label label.entry) (map terminal pieces.now) (stack frames.old.items)) e) }
+/// (λ r. Stepped (spec.then_step (terminals.label label.entry) (terminals_of pieces.entry) (stack frames.old.items)) out.old.items out.new.items (stack frames.new.items) (terminals_of r))
+/// (λ e. Faults (spec.then_step (terminals.label label.entry) (terminals_of pieces.entry) (stack frames.old.items)) e) }
 /// ```
 fn after_then<'p, 'a>(
     label: Name<'p>,
     frames: &mut Vec<Frame<'p>>,
     out: &mut Vec<Instruction>,
-    pieces: &'p [Piece<'a>],
-) -> Result<&'p [Piece<'a>], Refusal<'p, 'a>> {
-    match pieces {
-        [Piece::Close, rest @ ..] => {
+    pieces: Pieces<'p, 'a>,
+) -> Result<Pieces<'p, 'a>, Refusal<'p, 'a>> {
+    match pieces.first() {
+        Some((Piece::Close, rest)) => {
             out.push(END)?;
             Ok(rest)
         }
-        [Piece::Open, rest @ ..] => other_part(label, frames, out, rest),
+        Some((Piece::Open, rest)) => other_part(label, frames, out, rest),
         _ => Err(Refusal::Text(unexpected(pieces))),
     }
 }
@@ -273,17 +274,17 @@ fn after_then<'p, 'a>(
 ///
 /// ```text
 /// ensures { MatchResult result
-/// (λ r. Stepped (spec.other_step (terminals.label label.entry) (map terminal pieces.now) (stack frames.old.items)) out.old.items out.new.items (stack frames.new.items) (map terminal r.now))
-/// (λ e. Faults (spec.other_step (terminals.label label.entry) (map terminal pieces.now) (stack frames.old.items)) e) }
+/// (λ r. Stepped (spec.other_step (terminals.label label.entry) (terminals_of pieces.entry) (stack frames.old.items)) out.old.items out.new.items (stack frames.new.items) (terminals_of r))
+/// (λ e. Faults (spec.other_step (terminals.label label.entry) (terminals_of pieces.entry) (stack frames.old.items)) e) }
 /// ```
 fn other_part<'p, 'a>(
     label: Name<'p>,
     frames: &mut Vec<Frame<'p>>,
     out: &mut Vec<Instruction>,
-    pieces: &'p [Piece<'a>],
-) -> Result<&'p [Piece<'a>], Refusal<'p, 'a>> {
-    match pieces {
-        [Piece::Word(word), rest @ ..] => {
+    pieces: Pieces<'p, 'a>,
+) -> Result<Pieces<'p, 'a>, Refusal<'p, 'a>> {
+    match pieces.first() {
+        Some((Piece::Word(word), rest)) => {
             if reading::is_else(word) {
                 turned(label, frames, out, rest)
             } else {
@@ -300,15 +301,15 @@ fn other_part<'p, 'a>(
 ///
 /// ```text
 /// ensures { MatchResult result
-/// (λ r. Stepped (spec.other_part (terminals.label label.entry) (map terminal rest.now) (stack frames.old.items)) out.old.items out.new.items (stack frames.new.items) (map terminal r.now))
-/// (λ e. Faults (spec.other_part (terminals.label label.entry) (map terminal rest.now) (stack frames.old.items)) e) }
+/// (λ r. Stepped (spec.other_part (terminals.label label.entry) (terminals_of rest.entry) (stack frames.old.items)) out.old.items out.new.items (stack frames.new.items) (terminals_of r))
+/// (λ e. Faults (spec.other_part (terminals.label label.entry) (terminals_of rest.entry) (stack frames.old.items)) e) }
 /// ```
 fn turned<'p, 'a>(
     label: Name<'p>,
     frames: &mut Vec<Frame<'p>>,
     out: &mut Vec<Instruction>,
-    rest: &'p [Piece<'a>],
-) -> Result<&'p [Piece<'a>], Refusal<'p, 'a>> {
+    rest: Pieces<'p, 'a>,
+) -> Result<Pieces<'p, 'a>, Refusal<'p, 'a>> {
     frames.push(Frame::Else(label))?;
     out.push(ELSE)?;
     Ok(rest)
@@ -320,8 +321,8 @@ fn turned<'p, 'a>(
 ///
 /// ```text
 /// ensures { MatchResult result
-/// (λ r. Stepped (spec.open_step (scope_of scope.now) (part frame.entry) (map terminal pieces.now) (stack frames.old.items)) out.old.items out.new.items (stack frames.new.items) (map terminal r.now))
-/// (λ e. Faults (spec.open_step (scope_of scope.now) (part frame.entry) (map terminal pieces.now) (stack frames.old.items)) e) }
+/// (λ r. Stepped (spec.open_step (scope_of scope.now) (part frame.entry) (terminals_of pieces.entry) (stack frames.old.items)) out.old.items out.new.items (stack frames.new.items) (terminals_of r))
+/// (λ e. Faults (spec.open_step (scope_of scope.now) (part frame.entry) (terminals_of pieces.entry) (stack frames.old.items)) e) }
 /// ```
 fn folded<'p, 'a>(
     alloc: Global,
@@ -329,10 +330,10 @@ fn folded<'p, 'a>(
     frame: Frame<'p>,
     frames: &mut Vec<Frame<'p>>,
     out: &mut Vec<Instruction>,
-    pieces: &'p [Piece<'a>],
-) -> Result<&'p [Piece<'a>], Refusal<'p, 'a>> {
-    match pieces {
-        [Piece::Word(word), rest @ ..] => {
+    pieces: Pieces<'p, 'a>,
+) -> Result<Pieces<'p, 'a>, Refusal<'p, 'a>> {
+    match pieces.first() {
+        Some((Piece::Word(word), rest)) => {
             folded_word(alloc, scope, frame, frames, out, word, pieces, rest)
         }
         _ => Err(Refusal::Text(unexpected(pieces))),
@@ -345,8 +346,8 @@ fn folded<'p, 'a>(
 ///
 /// ```text
 /// ensures { MatchResult result
-/// (λ r. Stepped (spec.folded_by (scope_of scope.now) (part frame.entry) word.now (map terminal pieces.now) (map terminal rest.now) (stack frames.old.items)) out.old.items out.new.items (stack frames.new.items) (map terminal r.now))
-/// (λ e. Faults (spec.folded_by (scope_of scope.now) (part frame.entry) word.now (map terminal pieces.now) (map terminal rest.now) (stack frames.old.items)) e) }
+/// (λ r. Stepped (spec.folded_by (scope_of scope.now) (part frame.entry) word.now (terminals_of pieces.entry) (terminals_of rest.entry) (stack frames.old.items)) out.old.items out.new.items (stack frames.new.items) (terminals_of r))
+/// (λ e. Faults (spec.folded_by (scope_of scope.now) (part frame.entry) word.now (terminals_of pieces.entry) (terminals_of rest.entry) (stack frames.old.items)) e) }
 /// ```
 fn folded_word<'p, 'a>(
     alloc: Global,
@@ -355,9 +356,9 @@ fn folded_word<'p, 'a>(
     frames: &mut Vec<Frame<'p>>,
     out: &mut Vec<Instruction>,
     word: &str,
-    pieces: &'p [Piece<'a>],
-    rest: &'p [Piece<'a>],
-) -> Result<&'p [Piece<'a>], Refusal<'p, 'a>> {
+    pieces: Pieces<'p, 'a>,
+    rest: Pieces<'p, 'a>,
+) -> Result<Pieces<'p, 'a>, Refusal<'p, 'a>> {
     match frame {
         Frame::Condition(instruction, label) => {
             if reading::is_then(word) {
@@ -386,8 +387,8 @@ fn folded_word<'p, 'a>(
 ///
 /// ```text
 /// ensures { MatchResult result
-/// (λ r. Stepped (spec.open_by (scope_of scope.now) (structured word.now) (map terminal pieces.now) (map terminal rest.now) (stack frames.old.items)) out.old.items out.new.items (stack frames.new.items) (map terminal r.now))
-/// (λ e. Faults (spec.open_by (scope_of scope.now) (structured word.now) (map terminal pieces.now) (map terminal rest.now) (stack frames.old.items)) e) }
+/// (λ r. Stepped (spec.open_by (scope_of scope.now) (structured word.now) (terminals_of pieces.entry) (terminals_of rest.entry) (stack frames.old.items)) out.old.items out.new.items (stack frames.new.items) (terminals_of r))
+/// (λ e. Faults (spec.open_by (scope_of scope.now) (structured word.now) (terminals_of pieces.entry) (terminals_of rest.entry) (stack frames.old.items)) e) }
 /// ```
 fn folded_instruction<'p, 'a>(
     alloc: Global,
@@ -395,9 +396,9 @@ fn folded_instruction<'p, 'a>(
     frames: &mut Vec<Frame<'p>>,
     out: &mut Vec<Instruction>,
     word: &str,
-    pieces: &'p [Piece<'a>],
-    rest: &'p [Piece<'a>],
-) -> Result<&'p [Piece<'a>], Refusal<'p, 'a>> {
+    pieces: Pieces<'p, 'a>,
+    rest: Pieces<'p, 'a>,
+) -> Result<Pieces<'p, 'a>, Refusal<'p, 'a>> {
     match reading::structured(word) {
         Some(opcode) => folded_block(alloc, scope, frames, out, opcode, rest),
         None => {
@@ -414,8 +415,8 @@ fn folded_instruction<'p, 'a>(
 ///
 /// ```text
 /// ensures { MatchResult result
-/// (λ r. Stepped (spec.open_block (scope_of scope.now) opcode (map terminal pieces.now) (stack frames.old.items)) out.old.items out.new.items (stack frames.new.items) (map terminal r.now))
-/// (λ e. Faults (spec.open_block (scope_of scope.now) opcode (map terminal pieces.now) (stack frames.old.items)) e) }
+/// (λ r. Stepped (spec.open_block (scope_of scope.now) opcode (terminals_of pieces.entry) (stack frames.old.items)) out.old.items out.new.items (stack frames.new.items) (terminals_of r))
+/// (λ e. Faults (spec.open_block (scope_of scope.now) opcode (terminals_of pieces.entry) (stack frames.old.items)) e) }
 /// ```
 fn folded_block<'p, 'a>(
     alloc: Global,
@@ -423,8 +424,8 @@ fn folded_block<'p, 'a>(
     frames: &mut Vec<Frame<'p>>,
     out: &mut Vec<Instruction>,
     opcode: u8,
-    pieces: &'p [Piece<'a>],
-) -> Result<&'p [Piece<'a>], Refusal<'p, 'a>> {
+    pieces: Pieces<'p, 'a>,
+) -> Result<Pieces<'p, 'a>, Refusal<'p, 'a>> {
     let (label, rest) = reading::label(pieces);
     let (argument, rest) = uses::block_type(alloc, scope, rest)?;
     let instruction = Instruction {
@@ -446,8 +447,8 @@ fn folded_block<'p, 'a>(
 ///
 /// ```text
 /// ensures { MatchResult result
-/// (λ r. Stepped (spec.word_step (scope_of scope.now) (part frame.entry) word.now (map terminal pieces.now) (map terminal rest.now) (stack frames.old.items)) out.old.items out.new.items (stack frames.new.items) (map terminal r.now))
-/// (λ e. Faults (spec.word_step (scope_of scope.now) (part frame.entry) word.now (map terminal pieces.now) (map terminal rest.now) (stack frames.old.items)) e) }
+/// (λ r. Stepped (spec.word_step (scope_of scope.now) (part frame.entry) word.now (terminals_of pieces.entry) (terminals_of rest.entry) (stack frames.old.items)) out.old.items out.new.items (stack frames.new.items) (terminals_of r))
+/// (λ e. Faults (spec.word_step (scope_of scope.now) (part frame.entry) word.now (terminals_of pieces.entry) (terminals_of rest.entry) (stack frames.old.items)) e) }
 /// ```
 fn at_word<'p, 'a>(
     alloc: Global,
@@ -456,9 +457,9 @@ fn at_word<'p, 'a>(
     frames: &mut Vec<Frame<'p>>,
     out: &mut Vec<Instruction>,
     word: &str,
-    pieces: &'p [Piece<'a>],
-    rest: &'p [Piece<'a>],
-) -> Result<&'p [Piece<'a>], Refusal<'p, 'a>> {
+    pieces: Pieces<'p, 'a>,
+    rest: Pieces<'p, 'a>,
+) -> Result<Pieces<'p, 'a>, Refusal<'p, 'a>> {
     match frame {
         Frame::Operands(_) => Err(Refusal::Text(unexpected(pieces))),
         Frame::Condition(_, _) => Err(Refusal::Text(unexpected(pieces))),
@@ -490,8 +491,8 @@ fn at_word<'p, 'a>(
 ///
 /// ```text
 /// ensures { MatchResult result
-/// (λ r. Stepped (spec.word_by (scope_of scope.now) (structured word.now) (map terminal pieces.now) (map terminal rest.now) (stack frames.old.items)) out.old.items out.new.items (stack frames.new.items) (map terminal r.now))
-/// (λ e. Faults (spec.word_by (scope_of scope.now) (structured word.now) (map terminal pieces.now) (map terminal rest.now) (stack frames.old.items)) e) }
+/// (λ r. Stepped (spec.word_by (scope_of scope.now) (structured word.now) (terminals_of pieces.entry) (terminals_of rest.entry) (stack frames.old.items)) out.old.items out.new.items (stack frames.new.items) (terminals_of r))
+/// (λ e. Faults (spec.word_by (scope_of scope.now) (structured word.now) (terminals_of pieces.entry) (terminals_of rest.entry) (stack frames.old.items)) e) }
 /// ```
 fn instruction<'p, 'a>(
     alloc: Global,
@@ -499,9 +500,9 @@ fn instruction<'p, 'a>(
     frames: &mut Vec<Frame<'p>>,
     out: &mut Vec<Instruction>,
     word: &str,
-    pieces: &'p [Piece<'a>],
-    rest: &'p [Piece<'a>],
-) -> Result<&'p [Piece<'a>], Refusal<'p, 'a>> {
+    pieces: Pieces<'p, 'a>,
+    rest: Pieces<'p, 'a>,
+) -> Result<Pieces<'p, 'a>, Refusal<'p, 'a>> {
     match reading::structured(word) {
         Some(opcode) => {
             let (label, rest) = reading::label(rest);

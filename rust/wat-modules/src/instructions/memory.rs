@@ -3,6 +3,7 @@
 
 use wat_lex::shim::prelude::*;
 use crate::instructions::pieces::{Argument, Piece};
+use crate::instructions::source::Pieces;
 use wat_lex::proved::lexer::magnitude;
 
 /// The argument, which is one of offset 0 and of this alignment where nothing is written.
@@ -10,13 +11,10 @@ use wat_lex::proved::lexer::magnitude;
 /// # Proved
 ///
 /// ```text
-/// ensures argument { result.0 ≡ (memory_of natural (map terminal pieces.now)).0 }
-/// ensures rest { map terminal result.1.now ≡ (memory_of natural (map terminal pieces.now)).1 }
+/// ensures argument { result.0 ≡ (memory_of natural (terminals_of pieces.entry)).0 }
+/// ensures rest { terminals_of result.1 ≡ (memory_of natural (terminals_of pieces.entry)).1 }
 /// ```
-pub(crate) fn argument<'p, 'a>(
-    natural: u8,
-    pieces: &'p [Piece<'a>],
-) -> (Argument, &'p [Piece<'a>]) {
+pub(crate) fn argument<'p, 'a>(natural: u8, pieces: Pieces<'p, 'a>) -> (Argument, Pieces<'p, 'a>) {
     let (offset, rest) = offset_at(pieces);
     let (align, rest) = align_at(natural, rest);
     (Argument::Memory(align, offset), rest)
@@ -27,12 +25,12 @@ pub(crate) fn argument<'p, 'a>(
 /// # Proved
 ///
 /// ```text
-/// ensures offset { result.0 ≡ (offset_of (map terminal pieces.now)).0 }
-/// ensures rest { map terminal result.1.now ≡ (offset_of (map terminal pieces.now)).1 }
+/// ensures offset { result.0 ≡ (offset_of (terminals_of pieces.entry)).0 }
+/// ensures rest { terminals_of result.1 ≡ (offset_of (terminals_of pieces.entry)).1 }
 /// ```
-pub(crate) fn offset_at<'p, 'a>(pieces: &'p [Piece<'a>]) -> (u32, &'p [Piece<'a>]) {
-    match pieces {
-        [Piece::Word(word), rest @ ..] => match offset(word.as_bytes()) {
+pub(crate) fn offset_at<'p, 'a>(pieces: Pieces<'p, 'a>) -> (u32, Pieces<'p, 'a>) {
+    match pieces.first() {
+        Some((Piece::Word(word), rest)) => match offset(word.as_bytes()) {
             Some(n) => (n, rest),
             None => (0, pieces),
         },
@@ -45,12 +43,12 @@ pub(crate) fn offset_at<'p, 'a>(pieces: &'p [Piece<'a>]) -> (u32, &'p [Piece<'a>
 /// # Proved
 ///
 /// ```text
-/// ensures align { result.0 ≡ (align_of natural (map terminal pieces.now)).0 }
-/// ensures rest { map terminal result.1.now ≡ (align_of natural (map terminal pieces.now)).1 }
+/// ensures align { result.0 ≡ (align_of natural (terminals_of pieces.entry)).0 }
+/// ensures rest { terminals_of result.1 ≡ (align_of natural (terminals_of pieces.entry)).1 }
 /// ```
-pub(crate) fn align_at<'p, 'a>(natural: u8, pieces: &'p [Piece<'a>]) -> (u8, &'p [Piece<'a>]) {
-    match pieces {
-        [Piece::Word(word), rest @ ..] => match align(word.as_bytes()) {
+pub(crate) fn align_at<'p, 'a>(natural: u8, pieces: Pieces<'p, 'a>) -> (u8, Pieces<'p, 'a>) {
+    match pieces.first() {
+        Some((Piece::Word(word), rest)) => match align(word.as_bytes()) {
             Some(n) => (n, rest),
             None => (natural, pieces),
         },

@@ -4,6 +4,7 @@
 use wat_lex::shim::prelude::*;
 use crate::instructions::branches::BranchTable;
 use crate::instructions::pairs::IndexPair;
+use crate::instructions::source::Pieces;
 use crate::instructions::types::{BoxedUse, IndirectCall, SelectTypes};
 use crate::instructions::vectors::VectorBytes;
 use wat_lex::shim::alloc::{AllocError, AllocFailed};
@@ -27,8 +28,8 @@ pub enum Piece<'a> {
     Id(&'a str),
     /// An integer below 2^64 in size.
     Integer(Sign, u64),
-    /// Another number: its bits as a float of 32 and of 64 bits, where it is in range.
-    Float(Option<u32>, Option<u64>),
+    /// Another number, by its word.
+    Float(&'a str),
     /// A string, by its value.
     Text(&'a [u8]),
     /// Any other token: no rule takes it.
@@ -171,7 +172,7 @@ pub enum FaultKind {
 #[derive(Clone, Copy)]
 pub struct Fault<'p, 'a> {
     pub kind: FaultKind,
-    pub left: &'p [Piece<'a>],
+    pub left: Pieces<'p, 'a>,
 }
 
 /// The fault of a token that no rule takes here, or of the end.
@@ -179,9 +180,9 @@ pub struct Fault<'p, 'a> {
 /// # Proved
 ///
 /// ```text
-/// ensures { (result.kind ≡ Unexpected) × (result.left.now ≡ pieces.now) }
+/// ensures { (result.kind ≡ Unexpected) × (result.left ≡ pieces.entry) }
 /// ```
-pub(crate) fn unexpected<'p, 'a>(pieces: &'p [Piece<'a>]) -> Fault<'p, 'a> {
+pub(crate) fn unexpected<'p, 'a>(pieces: Pieces<'p, 'a>) -> Fault<'p, 'a> {
     Fault {
         kind: FaultKind::Unexpected,
         left: pieces,

@@ -8,6 +8,7 @@ use crate::instructions::pieces::{
     Argument, Fault, FaultKind, Frame, Instruction, Name, Opcode, Piece, ReferenceType, Refusal,
     Sign, ValueType, unexpected,
 };
+use crate::instructions::source::Pieces;
 use crate::instructions::table::{self, Immediate};
 use crate::instructions::types::FunctionType;
 use crate::instructions::{floats, memory, table_arguments, uses, vector_arguments};
@@ -74,17 +75,17 @@ fn label_index(frames: &[Frame<'_>], name: &str) -> Option<usize> {
 ///
 /// ```text
 /// ensures { MatchResult result
-/// (λ r. index names.now (map terminal pieces.now) ≡ Ok (r.0, map terminal r.1.now))
-/// (λ f. index names.now (map terminal pieces.now) ≡ Err (fault_of f)) }
+/// (λ r. index names.now (terminals_of pieces.entry) ≡ Ok (r.0, terminals_of r.1))
+/// (λ f. index names.now (terminals_of pieces.entry) ≡ Err (fault_of f)) }
 /// ```
 pub fn index<'p, 'a>(
     names: &IndexedNames<'_>,
-    pieces: &'p [Piece<'a>],
-) -> Result<(usize, &'p [Piece<'a>]), Fault<'p, 'a>> {
-    match pieces {
-        [Piece::Integer(Sign::Absent, n), rest @ ..] => {
-            if *n < 0x1_0000_0000 {
-                Ok((*n as usize, rest))
+    pieces: Pieces<'p, 'a>,
+) -> Result<(usize, Pieces<'p, 'a>), Fault<'p, 'a>> {
+    match pieces.first() {
+        Some((Piece::Integer(Sign::Absent, n), rest)) => {
+            if n < 0x1_0000_0000 {
+                Ok((n as usize, rest))
             } else {
                 Err(Fault {
                     kind: FaultKind::OutOfRange,
@@ -92,7 +93,7 @@ pub fn index<'p, 'a>(
                 })
             }
         }
-        [Piece::Id(name), rest @ ..] => match names.position(name) {
+        Some((Piece::Id(name), rest)) => match names.position(name) {
             Some(n) => Ok((n, rest)),
             None => Err(Fault {
                 kind: FaultKind::UnknownName,
@@ -109,17 +110,17 @@ pub fn index<'p, 'a>(
 ///
 /// ```text
 /// ensures { MatchResult result
-/// (λ r. index (labels_in (stack frames.now)) (map terminal pieces.now) ≡ Ok (r.0, map terminal r.1.now))
-/// (λ f. index (labels_in (stack frames.now)) (map terminal pieces.now) ≡ Err (fault_of f)) }
+/// (λ r. index (labels_in (stack frames.now)) (terminals_of pieces.entry) ≡ Ok (r.0, terminals_of r.1))
+/// (λ f. index (labels_in (stack frames.now)) (terminals_of pieces.entry) ≡ Err (fault_of f)) }
 /// ```
 fn label_number<'p, 'a>(
     frames: &[Frame<'_>],
-    pieces: &'p [Piece<'a>],
-) -> Result<(usize, &'p [Piece<'a>]), Fault<'p, 'a>> {
-    match pieces {
-        [Piece::Integer(Sign::Absent, n), rest @ ..] => {
-            if *n < 0x1_0000_0000 {
-                Ok((*n as usize, rest))
+    pieces: Pieces<'p, 'a>,
+) -> Result<(usize, Pieces<'p, 'a>), Fault<'p, 'a>> {
+    match pieces.first() {
+        Some((Piece::Integer(Sign::Absent, n), rest)) => {
+            if n < 0x1_0000_0000 {
+                Ok((n as usize, rest))
             } else {
                 Err(Fault {
                     kind: FaultKind::OutOfRange,
@@ -127,7 +128,7 @@ fn label_number<'p, 'a>(
                 })
             }
         }
-        [Piece::Id(name), rest @ ..] => match label_index(frames, name) {
+        Some((Piece::Id(name), rest)) => match label_index(frames, name) {
             Some(n) => Ok((n, rest)),
             None => Err(Fault {
                 kind: FaultKind::UnknownName,
@@ -144,13 +145,13 @@ fn label_number<'p, 'a>(
 ///
 /// ```text
 /// ensures { MatchResult result
-/// (λ r. with_index (index names.now (map terminal pieces.now)) ≡ Ok (r.0, map terminal r.1.now))
-/// (λ f. with_index (index names.now (map terminal pieces.now)) ≡ Err (fault_of f)) }
+/// (λ r. with_index (index names.now (terminals_of pieces.entry)) ≡ Ok (r.0, terminals_of r.1))
+/// (λ f. with_index (index names.now (terminals_of pieces.entry)) ≡ Err (fault_of f)) }
 /// ```
 fn name_argument<'p, 'a>(
     names: &IndexedNames<'_>,
-    pieces: &'p [Piece<'a>],
-) -> Result<(Argument, &'p [Piece<'a>]), Fault<'p, 'a>> {
+    pieces: Pieces<'p, 'a>,
+) -> Result<(Argument, Pieces<'p, 'a>), Fault<'p, 'a>> {
     let (n, rest) = index(names, pieces)?;
     Ok((Argument::Index(n), rest))
 }
@@ -161,13 +162,13 @@ fn name_argument<'p, 'a>(
 ///
 /// ```text
 /// ensures { MatchResult result
-/// (λ r. with_zero (index names.now (map terminal pieces.now)) ≡ Ok (r.0, map terminal r.1.now))
-/// (λ f. with_zero (index names.now (map terminal pieces.now)) ≡ Err (fault_of f)) }
+/// (λ r. with_zero (index names.now (terminals_of pieces.entry)) ≡ Ok (r.0, terminals_of r.1))
+/// (λ f. with_zero (index names.now (terminals_of pieces.entry)) ≡ Err (fault_of f)) }
 /// ```
 fn name_and_zero<'p, 'a>(
     names: &IndexedNames<'_>,
-    pieces: &'p [Piece<'a>],
-) -> Result<(Argument, &'p [Piece<'a>]), Fault<'p, 'a>> {
+    pieces: Pieces<'p, 'a>,
+) -> Result<(Argument, Pieces<'p, 'a>), Fault<'p, 'a>> {
     let (n, rest) = index(names, pieces)?;
     Ok((Argument::IndexZero(n), rest))
 }
@@ -178,13 +179,13 @@ fn name_and_zero<'p, 'a>(
 ///
 /// ```text
 /// ensures { MatchResult result
-/// (λ r. with_index (index (labels_in (stack frames.now)) (map terminal pieces.now)) ≡ Ok (r.0, map terminal r.1.now))
-/// (λ f. with_index (index (labels_in (stack frames.now)) (map terminal pieces.now)) ≡ Err (fault_of f)) }
+/// (λ r. with_index (index (labels_in (stack frames.now)) (terminals_of pieces.entry)) ≡ Ok (r.0, terminals_of r.1))
+/// (λ f. with_index (index (labels_in (stack frames.now)) (terminals_of pieces.entry)) ≡ Err (fault_of f)) }
 /// ```
 fn label_argument<'p, 'a>(
     frames: &[Frame<'_>],
-    pieces: &'p [Piece<'a>],
-) -> Result<(Argument, &'p [Piece<'a>]), Fault<'p, 'a>> {
+    pieces: Pieces<'p, 'a>,
+) -> Result<(Argument, Pieces<'p, 'a>), Fault<'p, 'a>> {
     let (n, rest) = label_number(frames, pieces)?;
     Ok((Argument::Index(n), rest))
 }
@@ -193,7 +194,7 @@ fn label_argument<'p, 'a>(
 #[derive(Clone, Copy)]
 struct LastLabel<'p, 'a> {
     label: usize,
-    pieces: &'p [Piece<'a>],
+    pieces: Pieces<'p, 'a>,
 }
 
 /// The labels of `br_table`, of which the last is the default.
@@ -202,14 +203,14 @@ struct LastLabel<'p, 'a> {
 ///
 /// ```text
 /// ensures { MatchResult result
-/// (λ r. labels_by (labels_in (stack frames.now)) (index (labels_in (stack frames.now)) (map terminal pieces.now)) ≡ Ok (r.0, map terminal r.1.now))
-/// (λ e. Faults (labels_by (labels_in (stack frames.now)) (index (labels_in (stack frames.now)) (map terminal pieces.now))) e) }
+/// (λ r. labels_by (labels_in (stack frames.now)) (index (labels_in (stack frames.now)) (terminals_of pieces.entry)) ≡ Ok (r.0, terminals_of r.1))
+/// (λ e. Faults (labels_by (labels_in (stack frames.now)) (index (labels_in (stack frames.now)) (terminals_of pieces.entry))) e) }
 /// ```
 fn labels_argument<'p, 'a>(
     alloc: Global,
     frames: &[Frame<'_>],
-    pieces: &'p [Piece<'a>],
-) -> Result<(Argument, &'p [Piece<'a>]), Refusal<'p, 'a>> {
+    pieces: Pieces<'p, 'a>,
+) -> Result<(Argument, Pieces<'p, 'a>), Refusal<'p, 'a>> {
     let (label, pieces) = label_number(frames, pieces)?;
     let mut labels = Vec::new(alloc);
     let mut last = LastLabel { label, pieces };
@@ -230,14 +231,14 @@ fn labels_argument<'p, 'a>(
 ///
 /// ```text
 /// ensures { MatchResult result
-/// (λ r. with_labels (Ok (branches labels.items last.entry.label, map terminal last.entry.pieces.now)) ≡ Ok (r.0, map terminal r.1.now))
+/// (λ r. with_labels (Ok (branches labels.items last.entry.label, terminals_of last.entry.pieces)) ≡ Ok (r.0, terminals_of r.1))
 /// IsMemory }
 /// ```
 fn branch_table<'p, 'a>(
     alloc: Global,
     labels: Vec<usize>,
     last: LastLabel<'p, 'a>,
-) -> Result<(Argument, &'p [Piece<'a>]), Refusal<'p, 'a>> {
+) -> Result<(Argument, Pieces<'p, 'a>), Refusal<'p, 'a>> {
     let table = BranchTable::new(alloc, labels, last.label)?;
     Ok((Argument::Labels(table), last.pieces))
 }
@@ -249,18 +250,18 @@ fn branch_table<'p, 'a>(
 /// ```text
 /// ensures is { MatchResult result
 ///     (λ o. MatchOption o
-///     (NoLabel (labels_in (stack frames.now)) last.entry.label (map terminal last.entry.pieces.now) labels.old.items labels.new.items)
-///     (λ l. IsLabel (labels_in (stack frames.now)) last.entry.label (map terminal last.entry.pieces.now) labels.old.items labels.new.items l.label (map terminal l.pieces.now)))
-///     (λ e. Faults (labels_from (labels_in (stack frames.now)) last.entry.label (map terminal last.entry.pieces.now)) e) }
-/// ensures shorter { IfOk result (λ o. IfSome o (λ l. length l.pieces.now < length last.entry.pieces.now)) }
+///     (NoLabel (labels_in (stack frames.now)) last.entry.label (terminals_of last.entry.pieces) labels.old.items labels.new.items)
+///     (λ l. IsLabel (labels_in (stack frames.now)) last.entry.label (terminals_of last.entry.pieces) labels.old.items labels.new.items l.label (terminals_of l.pieces)))
+///     (λ e. Faults (labels_from (labels_in (stack frames.now)) last.entry.label (terminals_of last.entry.pieces)) e) }
+/// ensures shorter { IfOk result (λ o. IfSome o (λ l. length (terminals_of l.pieces) < length (terminals_of last.entry.pieces))) }
 /// ```
 fn next_label<'p, 'a>(
     frames: &[Frame<'_>],
     labels: &mut Vec<usize>,
     last: LastLabel<'p, 'a>,
 ) -> Result<Option<LastLabel<'p, 'a>>, Refusal<'p, 'a>> {
-    match last.pieces {
-        [Piece::Integer(_, _) | Piece::Id(_), ..] => {
+    match last.pieces.first() {
+        Some((Piece::Integer(_, _) | Piece::Id(_), _)) => {
             let (label, pieces) = label_number(frames, last.pieces)?;
             labels.push(last.label)?;
             Ok(Some(LastLabel { label, pieces }))
@@ -310,14 +311,12 @@ fn signed_32(sign: Sign, size: u64) -> Option<i32> {
 ///
 /// ```text
 /// ensures { MatchResult result
-/// (λ r. i32 (map terminal pieces.now) ≡ Ok (r.0, map terminal r.1.now))
-/// (λ f. i32 (map terminal pieces.now) ≡ Err (fault_of f)) }
+/// (λ r. i32 (terminals_of pieces.entry) ≡ Ok (r.0, terminals_of r.1))
+/// (λ f. i32 (terminals_of pieces.entry) ≡ Err (fault_of f)) }
 /// ```
-fn number_32<'p, 'a>(
-    pieces: &'p [Piece<'a>],
-) -> Result<(Argument, &'p [Piece<'a>]), Fault<'p, 'a>> {
-    match pieces {
-        [Piece::Integer(sign, size), rest @ ..] => match signed_32(*sign, *size) {
+fn number_32<'p, 'a>(pieces: Pieces<'p, 'a>) -> Result<(Argument, Pieces<'p, 'a>), Fault<'p, 'a>> {
+    match pieces.first() {
+        Some((Piece::Integer(sign, size), rest)) => match signed_32(sign, size) {
             Some(n) => Ok((Argument::I32(n), rest)),
             None => Err(Fault {
                 kind: FaultKind::OutOfRange,
@@ -367,14 +366,12 @@ fn signed_64(sign: Sign, size: u64) -> Option<i64> {
 ///
 /// ```text
 /// ensures { MatchResult result
-/// (λ r. i64 (map terminal pieces.now) ≡ Ok (r.0, map terminal r.1.now))
-/// (λ f. i64 (map terminal pieces.now) ≡ Err (fault_of f)) }
+/// (λ r. i64 (terminals_of pieces.entry) ≡ Ok (r.0, terminals_of r.1))
+/// (λ f. i64 (terminals_of pieces.entry) ≡ Err (fault_of f)) }
 /// ```
-fn number_64<'p, 'a>(
-    pieces: &'p [Piece<'a>],
-) -> Result<(Argument, &'p [Piece<'a>]), Fault<'p, 'a>> {
-    match pieces {
-        [Piece::Integer(sign, size), rest @ ..] => match signed_64(*sign, *size) {
+fn number_64<'p, 'a>(pieces: Pieces<'p, 'a>) -> Result<(Argument, Pieces<'p, 'a>), Fault<'p, 'a>> {
+    match pieces.first() {
+        Some((Piece::Integer(sign, size), rest)) => match signed_64(sign, size) {
             Some(n) => Ok((Argument::I64(n), rest)),
             None => Err(Fault {
                 kind: FaultKind::OutOfRange,
@@ -391,11 +388,14 @@ fn number_64<'p, 'a>(
 ///
 /// ```text
 /// ensures { MatchResult result
-/// (λ r. with_f32 (f32 (map terminal pieces.now)) ≡ Ok (r.0, map terminal r.1.now))
-/// (λ f. with_f32 (f32 (map terminal pieces.now)) ≡ Err (fault_of f)) }
+/// (λ r. with_f32 (f32 (terminals_of pieces.entry)) ≡ Ok (r.0, terminals_of r.1))
+/// (λ e. Faults (with_f32 (f32 (terminals_of pieces.entry))) e) }
 /// ```
-fn float_32<'p, 'a>(pieces: &'p [Piece<'a>]) -> Result<(Argument, &'p [Piece<'a>]), Fault<'p, 'a>> {
-    let (bits, rest) = floats::float_32(pieces)?;
+fn float_32<'p, 'a>(
+    alloc: Global,
+    pieces: Pieces<'p, 'a>,
+) -> Result<(Argument, Pieces<'p, 'a>), Refusal<'p, 'a>> {
+    let (bits, rest) = floats::float_32(alloc, pieces)?;
     Ok((Argument::F32(bits), rest))
 }
 
@@ -405,11 +405,14 @@ fn float_32<'p, 'a>(pieces: &'p [Piece<'a>]) -> Result<(Argument, &'p [Piece<'a>
 ///
 /// ```text
 /// ensures { MatchResult result
-/// (λ r. with_f64 (f64 (map terminal pieces.now)) ≡ Ok (r.0, map terminal r.1.now))
-/// (λ f. with_f64 (f64 (map terminal pieces.now)) ≡ Err (fault_of f)) }
+/// (λ r. with_f64 (f64 (terminals_of pieces.entry)) ≡ Ok (r.0, terminals_of r.1))
+/// (λ e. Faults (with_f64 (f64 (terminals_of pieces.entry))) e) }
 /// ```
-fn float_64<'p, 'a>(pieces: &'p [Piece<'a>]) -> Result<(Argument, &'p [Piece<'a>]), Fault<'p, 'a>> {
-    let (bits, rest) = floats::float_64(pieces)?;
+fn float_64<'p, 'a>(
+    alloc: Global,
+    pieces: Pieces<'p, 'a>,
+) -> Result<(Argument, Pieces<'p, 'a>), Refusal<'p, 'a>> {
+    let (bits, rest) = floats::float_64(alloc, pieces)?;
     Ok((Argument::F64(bits), rest))
 }
 
@@ -436,14 +439,14 @@ fn heap_type(word: &str) -> Option<ReferenceType> {
 ///
 /// ```text
 /// ensures { MatchResult result
-/// (λ r. heap_of (map terminal pieces.now) ≡ Ok (r.0, map terminal r.1.now))
-/// (λ f. heap_of (map terminal pieces.now) ≡ Err (fault_of f)) }
+/// (λ r. heap_of (terminals_of pieces.entry) ≡ Ok (r.0, terminals_of r.1))
+/// (λ f. heap_of (terminals_of pieces.entry) ≡ Err (fault_of f)) }
 /// ```
 fn heap_argument<'p, 'a>(
-    pieces: &'p [Piece<'a>],
-) -> Result<(Argument, &'p [Piece<'a>]), Fault<'p, 'a>> {
-    match pieces {
-        [Piece::Word(word), rest @ ..] => match heap_type(word) {
+    pieces: Pieces<'p, 'a>,
+) -> Result<(Argument, Pieces<'p, 'a>), Fault<'p, 'a>> {
+    match pieces.first() {
+        Some((Piece::Word(word), rest)) => match heap_type(word) {
             Some(of) => Ok((Argument::HeapType(of), rest)),
             None => Err(Fault {
                 kind: FaultKind::UnknownWord,
@@ -460,16 +463,16 @@ fn heap_argument<'p, 'a>(
 ///
 /// ```text
 /// ensures { MatchResult result
-/// (λ r. immediate_of (scope_of scope.now) (labels_in (stack frames.now)) kind (map terminal pieces.now) ≡ Ok (r.0, map terminal r.1.now))
-/// (λ e. Faults (immediate_of (scope_of scope.now) (labels_in (stack frames.now)) kind (map terminal pieces.now)) e) }
+/// (λ r. immediate_of (scope_of scope.now) (labels_in (stack frames.now)) kind (terminals_of pieces.entry) ≡ Ok (r.0, terminals_of r.1))
+/// (λ e. Faults (immediate_of (scope_of scope.now) (labels_in (stack frames.now)) kind (terminals_of pieces.entry)) e) }
 /// ```
 fn immediate<'p, 'a>(
     alloc: Global,
     scope: &Scope<'_, '_>,
     frames: &[Frame<'_>],
     kind: Immediate,
-    pieces: &'p [Piece<'a>],
-) -> Result<(Argument, &'p [Piece<'a>]), Refusal<'p, 'a>> {
+    pieces: Pieces<'p, 'a>,
+) -> Result<(Argument, Pieces<'p, 'a>), Refusal<'p, 'a>> {
     match kind {
         Immediate::No => Ok((Argument::Nothing, pieces)),
         Immediate::Local => Ok(name_argument(scope.locals, pieces)?),
@@ -480,8 +483,8 @@ fn immediate<'p, 'a>(
         Immediate::Global => Ok(name_argument(scope.globals, pieces)?),
         Immediate::I32 => Ok(number_32(pieces)?),
         Immediate::I64 => Ok(number_64(pieces)?),
-        Immediate::F32 => Ok(float_32(pieces)?),
-        Immediate::F64 => Ok(float_64(pieces)?),
+        Immediate::F32 => float_32(alloc, pieces),
+        Immediate::F64 => float_64(alloc, pieces),
         Immediate::Memory(natural) => Ok(memory::argument(natural, pieces)),
         Immediate::Zero => Ok((Argument::Zero, pieces)),
         Immediate::HeapType => Ok(heap_argument(pieces)?),
@@ -538,17 +541,17 @@ fn opcode_of(opcode: Opcode, argument: &Argument) -> Opcode {
 ///
 /// ```text
 /// ensures { MatchResult result
-/// (λ r. plain (scope_of scope.now) (labels_in (stack frames.now)) (map terminal pieces.now) ≡ Ok (r.0, map terminal r.1.now))
-/// (λ e. Faults (plain (scope_of scope.now) (labels_in (stack frames.now)) (map terminal pieces.now)) e) }
+/// (λ r. plain (scope_of scope.now) (labels_in (stack frames.now)) (terminals_of pieces.entry) ≡ Ok (r.0, terminals_of r.1))
+/// (λ e. Faults (plain (scope_of scope.now) (labels_in (stack frames.now)) (terminals_of pieces.entry)) e) }
 /// ```
 pub fn plain<'p, 'a>(
     alloc: Global,
     scope: &Scope<'_, '_>,
     frames: &[Frame<'_>],
-    pieces: &'p [Piece<'a>],
-) -> Result<(Instruction, &'p [Piece<'a>]), Refusal<'p, 'a>> {
-    match pieces {
-        [Piece::Word(word), rest @ ..] => match table::find(word) {
+    pieces: Pieces<'p, 'a>,
+) -> Result<(Instruction, Pieces<'p, 'a>), Refusal<'p, 'a>> {
+    match pieces.first() {
+        Some((Piece::Word(word), rest)) => match table::find(word) {
             Some(row) => {
                 let (argument, rest) = immediate(alloc, scope, frames, row.immediate, rest)?;
                 let opcode = opcode_of(row.opcode, &argument);
@@ -568,12 +571,12 @@ pub fn plain<'p, 'a>(
 /// # Proved
 ///
 /// ```text
-/// ensures name { label result.0 ≡ (label_of (map terminal pieces.now)).0 }
-/// ensures rest { map terminal result.1.now ≡ (label_of (map terminal pieces.now)).1 }
+/// ensures name { label result.0 ≡ (label_of (terminals_of pieces.entry)).0 }
+/// ensures rest { terminals_of result.1 ≡ (label_of (terminals_of pieces.entry)).1 }
 /// ```
-pub fn label<'p, 'a>(pieces: &'p [Piece<'a>]) -> (Name<'a>, &'p [Piece<'a>]) {
-    match pieces {
-        [Piece::Id(name), rest @ ..] => (Name::Given(*name), rest),
+pub fn label<'p, 'a>(pieces: Pieces<'p, 'a>) -> (Name<'a>, Pieces<'p, 'a>) {
+    match pieces.first() {
+        Some((Piece::Id(name), rest)) => (Name::Given(name), rest),
         _ => (Name::Absent, pieces),
     }
 }
@@ -584,15 +587,15 @@ pub fn label<'p, 'a>(pieces: &'p [Piece<'a>]) -> (Name<'a>, &'p [Piece<'a>]) {
 ///
 /// ```text
 /// ensures { MatchResult result
-/// (λ r. end_label (label name.entry) (map terminal pieces.now) ≡ Ok (map terminal r.now))
-/// (λ f. end_label (label name.entry) (map terminal pieces.now) ≡ Err (fault_of f)) }
+/// (λ r. end_label (label name.entry) (terminals_of pieces.entry) ≡ Ok (terminals_of r))
+/// (λ f. end_label (label name.entry) (terminals_of pieces.entry) ≡ Err (fault_of f)) }
 /// ```
 pub fn end_label<'p, 'a>(
     name: Name<'_>,
-    pieces: &'p [Piece<'a>],
-) -> Result<&'p [Piece<'a>], Fault<'p, 'a>> {
-    match pieces {
-        [Piece::Id(given), rest @ ..] => {
+    pieces: Pieces<'p, 'a>,
+) -> Result<Pieces<'p, 'a>, Fault<'p, 'a>> {
+    match pieces.first() {
+        Some((Piece::Id(given), rest)) => {
             if name.is(given) {
                 Ok(rest)
             } else {

@@ -6,6 +6,7 @@ use crate::instructions::names::IndexedNames;
 use crate::instructions::pairs::IndexPair;
 use crate::instructions::pieces::{Argument, Fault, Piece, Refusal};
 use crate::instructions::reading::index;
+use crate::instructions::source::Pieces;
 use crate::instructions::uses::table_index;
 use wat_lex::shim::alloc::Global;
 
@@ -14,11 +15,11 @@ use wat_lex::shim::alloc::Global;
 /// # Proved
 ///
 /// ```text
-/// ensures { result ≡ grammar.is_index (map terminal pieces.now) }
+/// ensures { result ≡ grammar.is_index (terminals_of pieces.entry) }
 /// ```
-fn is_index(pieces: &[Piece<'_>]) -> bool {
-    match pieces {
-        [Piece::Integer(_, _) | Piece::Id(_), ..] => true,
+fn is_index(pieces: Pieces<'_, '_>) -> bool {
+    match pieces.first() {
+        Some((Piece::Integer(_, _) | Piece::Id(_), _)) => true,
         _ => false,
     }
 }
@@ -28,11 +29,11 @@ fn is_index(pieces: &[Piece<'_>]) -> bool {
 /// # Proved
 ///
 /// ```text
-/// ensures { result ≡ grammar.are_indices (map terminal pieces.now) }
+/// ensures { result ≡ grammar.are_indices (terminals_of pieces.entry) }
 /// ```
-fn are_indices(pieces: &[Piece<'_>]) -> bool {
-    match pieces {
-        [Piece::Integer(_, _) | Piece::Id(_), rest @ ..] => is_index(rest),
+fn are_indices(pieces: Pieces<'_, '_>) -> bool {
+    match pieces.first() {
+        Some((Piece::Integer(_, _) | Piece::Id(_), rest)) => is_index(rest),
         _ => false,
     }
 }
@@ -43,13 +44,13 @@ fn are_indices(pieces: &[Piece<'_>]) -> bool {
 ///
 /// ```text
 /// ensures { MatchResult result
-/// (λ r. grammar.with_index (grammar.table_of tables.now (map terminal pieces.now)) ≡ Ok (r.0, map terminal r.1.now))
-/// (λ f. grammar.with_index (grammar.table_of tables.now (map terminal pieces.now)) ≡ Err (fault_of f)) }
+/// (λ r. grammar.with_index (grammar.table_of tables.now (terminals_of pieces.entry)) ≡ Ok (r.0, terminals_of r.1))
+/// (λ f. grammar.with_index (grammar.table_of tables.now (terminals_of pieces.entry)) ≡ Err (fault_of f)) }
 /// ```
 pub(crate) fn table<'p, 'a>(
     tables: &IndexedNames<'_>,
-    pieces: &'p [Piece<'a>],
-) -> Result<(Argument, &'p [Piece<'a>]), Fault<'p, 'a>> {
+    pieces: Pieces<'p, 'a>,
+) -> Result<(Argument, Pieces<'p, 'a>), Fault<'p, 'a>> {
     let (n, rest) = table_index(tables, pieces)?;
     Ok((Argument::Index(n), rest))
 }
@@ -60,14 +61,14 @@ pub(crate) fn table<'p, 'a>(
 ///
 /// ```text
 /// ensures { MatchResult result
-/// (λ r. grammar.copy_of tables.now (map terminal pieces.now) ≡ Ok (r.0, map terminal r.1.now))
-/// (λ e. Faults (grammar.copy_of tables.now (map terminal pieces.now)) e) }
+/// (λ r. grammar.copy_of tables.now (terminals_of pieces.entry) ≡ Ok (r.0, terminals_of r.1))
+/// (λ e. Faults (grammar.copy_of tables.now (terminals_of pieces.entry)) e) }
 /// ```
 pub(crate) fn copy<'p, 'a>(
     alloc: Global,
     tables: &IndexedNames<'_>,
-    pieces: &'p [Piece<'a>],
-) -> Result<(Argument, &'p [Piece<'a>]), Refusal<'p, 'a>> {
+    pieces: Pieces<'p, 'a>,
+) -> Result<(Argument, Pieces<'p, 'a>), Refusal<'p, 'a>> {
     if !is_index(pieces) {
         let pair = IndexPair::new(alloc, 0, 0)?;
         return Ok((Argument::Pair(pair), pieces));
@@ -84,13 +85,13 @@ pub(crate) fn copy<'p, 'a>(
 ///
 /// ```text
 /// ensures { MatchResult result
-/// (λ r. grammar.init_table tables.now (map terminal pieces.now) ≡ Ok (r.0, map terminal r.1.now))
-/// (λ f. grammar.init_table tables.now (map terminal pieces.now) ≡ Err (fault_of f)) }
+/// (λ r. grammar.init_table tables.now (terminals_of pieces.entry) ≡ Ok (r.0, terminals_of r.1))
+/// (λ f. grammar.init_table tables.now (terminals_of pieces.entry) ≡ Err (fault_of f)) }
 /// ```
 fn init_table<'p, 'a>(
     tables: &IndexedNames<'_>,
-    pieces: &'p [Piece<'a>],
-) -> Result<(usize, &'p [Piece<'a>]), Fault<'p, 'a>> {
+    pieces: Pieces<'p, 'a>,
+) -> Result<(usize, Pieces<'p, 'a>), Fault<'p, 'a>> {
     if are_indices(pieces) {
         index(tables, pieces)
     } else {
@@ -104,15 +105,15 @@ fn init_table<'p, 'a>(
 ///
 /// ```text
 /// ensures { MatchResult result
-/// (λ r. grammar.init_by elems.now (grammar.init_table tables.now (map terminal pieces.now)) ≡ Ok (r.0, map terminal r.1.now))
-/// (λ e. Faults (grammar.init_by elems.now (grammar.init_table tables.now (map terminal pieces.now))) e) }
+/// (λ r. grammar.init_by elems.now (grammar.init_table tables.now (terminals_of pieces.entry)) ≡ Ok (r.0, terminals_of r.1))
+/// (λ e. Faults (grammar.init_by elems.now (grammar.init_table tables.now (terminals_of pieces.entry))) e) }
 /// ```
 pub(crate) fn init<'p, 'a>(
     alloc: Global,
     tables: &IndexedNames<'_>,
     elems: &IndexedNames<'_>,
-    pieces: &'p [Piece<'a>],
-) -> Result<(Argument, &'p [Piece<'a>]), Refusal<'p, 'a>> {
+    pieces: Pieces<'p, 'a>,
+) -> Result<(Argument, Pieces<'p, 'a>), Refusal<'p, 'a>> {
     let (table, rest) = init_table(tables, pieces)?;
     let (elements, rest) = index(elems, rest)?;
     let pair = IndexPair::new(alloc, elements, table)?;

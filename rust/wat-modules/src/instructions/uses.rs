@@ -5,6 +5,7 @@ use wat_lex::shim::prelude::*;
 use crate::instructions::names::IndexedNames;
 use crate::instructions::pieces::{Argument, Fault, FaultKind, Piece, Refusal, ValueType, unexpected};
 use crate::instructions::reading::{Scope, index, value_type};
+use crate::instructions::source::Pieces;
 use crate::instructions::types::{
     BoxedUse, FunctionType, IndirectCall, SelectTypes, TypeUse, copied, same_type,
 };
@@ -14,7 +15,7 @@ use wat_lex::shim::alloc::{AllocError, Global};
 #[derive(Clone, Copy)]
 struct Place<'p, 'a> {
     is_inside: bool,
-    pieces: &'p [Piece<'a>],
+    pieces: Pieces<'p, 'a>,
 }
 
 /// The value types that groups of a word list.
@@ -23,14 +24,14 @@ struct Place<'p, 'a> {
 ///
 /// ```text
 /// ensures { MatchResult result
-/// (λ r. grammar.listed word.now false (map terminal pieces.now) ≡ Ok (r.0.items, map terminal r.1.now))
-/// (λ e. Faults (grammar.listed word.now false (map terminal pieces.now)) e) }
+/// (λ r. grammar.listed word.now false (terminals_of pieces.entry) ≡ Ok (r.0.items, terminals_of r.1))
+/// (λ e. Faults (grammar.listed word.now false (terminals_of pieces.entry)) e) }
 /// ```
 fn listed<'p, 'a>(
     alloc: Global,
     word: &str,
-    pieces: &'p [Piece<'a>],
-) -> Result<(Vec<ValueType>, &'p [Piece<'a>]), Refusal<'p, 'a>> {
+    pieces: Pieces<'p, 'a>,
+) -> Result<(Vec<ValueType>, Pieces<'p, 'a>), Refusal<'p, 'a>> {
     let mut types = Vec::new(alloc);
     let mut place = Place {
         is_inside: false,
@@ -54,10 +55,10 @@ fn listed<'p, 'a>(
 /// ```text
 /// ensures is { MatchResult result
 ///     (λ o. MatchOption o
-///     (NotListed word.now place.entry.is_inside (map terminal place.entry.pieces.now) types.old.items types.new.items)
-///     (λ l. IsListed word.now place.entry.is_inside (map terminal place.entry.pieces.now) types.old.items types.new.items l.is_inside (map terminal l.pieces.now)))
-///     (λ e. Faults (grammar.listed word.now place.entry.is_inside (map terminal place.entry.pieces.now)) e) }
-/// ensures shorter { IfOk result (λ o. IfSome o (λ l. length l.pieces.now < length place.entry.pieces.now)) }
+///     (NotListed word.now place.entry.is_inside (terminals_of place.entry.pieces) types.old.items types.new.items)
+///     (λ l. IsListed word.now place.entry.is_inside (terminals_of place.entry.pieces) types.old.items types.new.items l.is_inside (terminals_of l.pieces)))
+///     (λ e. Faults (grammar.listed word.now place.entry.is_inside (terminals_of place.entry.pieces)) e) }
+/// ensures shorter { IfOk result (λ o. IfSome o (λ l. length (terminals_of l.pieces) < length (terminals_of place.entry.pieces))) }
 /// ```
 fn next_place<'p, 'a>(
     word: &str,
@@ -77,11 +78,11 @@ fn next_place<'p, 'a>(
 ///
 /// ```text
 /// ensures is { MatchOption result
-///     (grammar.listed word.now false (map terminal pieces.now) ≡ Ok ([], map terminal pieces.now))
-///     (λ l. grammar.listed word.now false (map terminal pieces.now) ≡ grammar.listed word.now l.is_inside (map terminal l.pieces.now)) }
-/// ensures shorter { IfSome result (λ l. length l.pieces.now < length pieces.now) }
+///     (grammar.listed word.now false (terminals_of pieces.entry) ≡ Ok ([], terminals_of pieces.entry))
+///     (λ l. grammar.listed word.now false (terminals_of pieces.entry) ≡ grammar.listed word.now l.is_inside (terminals_of l.pieces)) }
+/// ensures shorter { IfSome result (λ l. length (terminals_of l.pieces) < length (terminals_of pieces.entry)) }
 /// ```
-fn group<'p, 'a>(word: &str, pieces: &'p [Piece<'a>]) -> Option<Place<'p, 'a>> {
+fn group<'p, 'a>(word: &str, pieces: Pieces<'p, 'a>) -> Option<Place<'p, 'a>> {
     match after(word, pieces) {
         Some(rest) => Some(Place {
             is_inside: true,
@@ -97,17 +98,17 @@ fn group<'p, 'a>(word: &str, pieces: &'p [Piece<'a>]) -> Option<Place<'p, 'a>> {
 ///
 /// ```text
 /// ensures is { MatchResult result
-///     (λ l. IsListed word.now true (map terminal pieces.now) types.old.items types.new.items l.is_inside (map terminal l.pieces.now))
-///     (λ e. Faults (grammar.listed word.now true (map terminal pieces.now)) e) }
-/// ensures shorter { IfOk result (λ l. length l.pieces.now < length pieces.now) }
+///     (λ l. IsListed word.now true (terminals_of pieces.entry) types.old.items types.new.items l.is_inside (terminals_of l.pieces))
+///     (λ e. Faults (grammar.listed word.now true (terminals_of pieces.entry)) e) }
+/// ensures shorter { IfOk result (λ l. length (terminals_of l.pieces) < length (terminals_of pieces.entry)) }
 /// ```
 fn in_group<'p, 'a>(
     word: &str,
     types: &mut Vec<ValueType>,
-    pieces: &'p [Piece<'a>],
+    pieces: Pieces<'p, 'a>,
 ) -> Result<Place<'p, 'a>, Refusal<'p, 'a>> {
-    match pieces {
-        [Piece::Word(name), rest @ ..] => match value_type(name) {
+    match pieces.first() {
+        Some((Piece::Word(name), rest)) => match value_type(name) {
             Some(of) => {
                 types.push(of)?;
                 Ok(Place {
@@ -120,7 +121,7 @@ fn in_group<'p, 'a>(
                 left: pieces,
             })),
         },
-        [Piece::Close, rest @ ..] => Ok(Place {
+        Some((Piece::Close, rest)) => Ok(Place {
             is_inside: false,
             pieces: rest,
         }),
@@ -133,12 +134,12 @@ fn in_group<'p, 'a>(
 /// # Proved
 ///
 /// ```text
-/// ensures is { MatchOption result (grammar.after word.now (map terminal pieces.now) ≡ None) (λ r. grammar.after word.now (map terminal pieces.now) ≡ Some (map terminal r.now)) }
-/// ensures shorter { IfSome result (λ r. length r.now < length pieces.now) }
+/// ensures is { MatchOption result (grammar.after word.now (terminals_of pieces.entry) ≡ None) (λ r. grammar.after word.now (terminals_of pieces.entry) ≡ Some (terminals_of r)) }
+/// ensures shorter { IfSome result (λ r. length (terminals_of r) < length (terminals_of pieces.entry)) }
 /// ```
-fn after<'p, 'a>(word: &str, pieces: &'p [Piece<'a>]) -> Option<&'p [Piece<'a>]> {
-    match pieces {
-        [Piece::Open, rest @ ..] => after_word(word, rest),
+fn after<'p, 'a>(word: &str, pieces: Pieces<'p, 'a>) -> Option<Pieces<'p, 'a>> {
+    match pieces.first() {
+        Some((Piece::Open, rest)) => after_word(word, rest),
         _ => None,
     }
 }
@@ -148,13 +149,13 @@ fn after<'p, 'a>(word: &str, pieces: &'p [Piece<'a>]) -> Option<&'p [Piece<'a>]>
 /// # Proved
 ///
 /// ```text
-/// ensures is { MatchOption result (grammar.after_word word.now (map terminal pieces.now) ≡ None) (λ r. grammar.after_word word.now (map terminal pieces.now) ≡ Some (map terminal r.now)) }
-/// ensures shorter { IfSome result (λ r. length r.now < length pieces.now) }
+/// ensures is { MatchOption result (grammar.after_word word.now (terminals_of pieces.entry) ≡ None) (λ r. grammar.after_word word.now (terminals_of pieces.entry) ≡ Some (terminals_of r)) }
+/// ensures shorter { IfSome result (λ r. length (terminals_of r) < length (terminals_of pieces.entry)) }
 /// ```
-fn after_word<'p, 'a>(word: &str, pieces: &'p [Piece<'a>]) -> Option<&'p [Piece<'a>]> {
-    match pieces {
-        [Piece::Word(of), rest @ ..] => {
-            if *of == word {
+fn after_word<'p, 'a>(word: &str, pieces: Pieces<'p, 'a>) -> Option<Pieces<'p, 'a>> {
+    match pieces.first() {
+        Some((Piece::Word(of), rest)) => {
+            if of == word {
                 Some(rest)
             } else {
                 None
@@ -170,13 +171,13 @@ fn after_word<'p, 'a>(word: &str, pieces: &'p [Piece<'a>]) -> Option<&'p [Piece<
 ///
 /// ```text
 /// ensures { MatchResult result
-/// (λ r. grammar.lists_of (map terminal pieces.now) ≡ Ok (type_of r.0, map terminal r.1.now))
-/// (λ e. Faults (grammar.lists_of (map terminal pieces.now)) e) }
+/// (λ r. grammar.lists_of (terminals_of pieces.entry) ≡ Ok (type_of r.0, terminals_of r.1))
+/// (λ e. Faults (grammar.lists_of (terminals_of pieces.entry)) e) }
 /// ```
 fn lists<'p, 'a>(
     alloc: Global,
-    pieces: &'p [Piece<'a>],
-) -> Result<(FunctionType, &'p [Piece<'a>]), Refusal<'p, 'a>> {
+    pieces: Pieces<'p, 'a>,
+) -> Result<(FunctionType, Pieces<'p, 'a>), Refusal<'p, 'a>> {
     let (params, rest) = listed(alloc, "param", pieces)?;
     let (results, rest) = listed(alloc, "result", rest)?;
     Ok((FunctionType { params, results }, rest))
@@ -188,15 +189,15 @@ fn lists<'p, 'a>(
 ///
 /// ```text
 /// ensures is { MatchResult result
-///     (λ r. grammar.use_of (scope_of scope.now).types (map terminal pieces.now) ≡ Ok (use_of r.0, map terminal r.1.now))
-///     (λ e. Faults (grammar.use_of (scope_of scope.now).types (map terminal pieces.now)) e) }
+///     (λ r. grammar.use_of (scope_of scope.now).types (terminals_of pieces.entry) ≡ Ok (use_of r.0, terminals_of r.1))
+///     (λ e. Faults (grammar.use_of (scope_of scope.now).types (terminals_of pieces.entry)) e) }
 /// ensures small { IfOk result (λ r. spec.index_or r.0.index 0 < 2 ^ 63) }
 /// ```
 fn type_use<'p, 'a>(
     alloc: Global,
     scope: &Scope<'_, '_>,
-    pieces: &'p [Piece<'a>],
-) -> Result<(TypeUse, &'p [Piece<'a>]), Refusal<'p, 'a>> {
+    pieces: Pieces<'p, 'a>,
+) -> Result<(TypeUse, Pieces<'p, 'a>), Refusal<'p, 'a>> {
     match after("type", pieces) {
         Some(rest) => indexed_use(alloc, scope, rest),
         None => listed_use(alloc, pieces),
@@ -209,14 +210,14 @@ fn type_use<'p, 'a>(
 ///
 /// ```text
 /// ensures is { MatchResult result
-///     (λ r. grammar.listed_use (grammar.lists_of (map terminal pieces.now)) ≡ Ok (use_of r.0, map terminal r.1.now))
-///     (λ e. Faults (grammar.listed_use (grammar.lists_of (map terminal pieces.now))) e) }
+///     (λ r. grammar.listed_use (grammar.lists_of (terminals_of pieces.entry)) ≡ Ok (use_of r.0, terminals_of r.1))
+///     (λ e. Faults (grammar.listed_use (grammar.lists_of (terminals_of pieces.entry))) e) }
 /// ensures small { IfOk result (λ r. spec.index_or r.0.index 0 < 2 ^ 63) }
 /// ```
 fn listed_use<'p, 'a>(
     alloc: Global,
-    pieces: &'p [Piece<'a>],
-) -> Result<(TypeUse, &'p [Piece<'a>]), Refusal<'p, 'a>> {
+    pieces: Pieces<'p, 'a>,
+) -> Result<(TypeUse, Pieces<'p, 'a>), Refusal<'p, 'a>> {
     let (of, rest) = lists(alloc, pieces)?;
     let index = None;
     Ok((TypeUse { index, of }, rest))
@@ -228,15 +229,15 @@ fn listed_use<'p, 'a>(
 ///
 /// ```text
 /// ensures is { MatchResult result
-///     (λ r. grammar.indexed_use (scope_of scope.now).types (map terminal pieces.now) (grammar.index (scope_of scope.now).types.names (map terminal pieces.now)) ≡ Ok (use_of r.0, map terminal r.1.now))
-///     (λ e. Faults (grammar.indexed_use (scope_of scope.now).types (map terminal pieces.now) (grammar.index (scope_of scope.now).types.names (map terminal pieces.now))) e) }
+///     (λ r. grammar.indexed_use (scope_of scope.now).types (terminals_of pieces.entry) (grammar.index (scope_of scope.now).types.names (terminals_of pieces.entry)) ≡ Ok (use_of r.0, terminals_of r.1))
+///     (λ e. Faults (grammar.indexed_use (scope_of scope.now).types (terminals_of pieces.entry) (grammar.index (scope_of scope.now).types.names (terminals_of pieces.entry))) e) }
 /// ensures small { IfOk result (λ r. spec.index_or r.0.index 0 < 2 ^ 63) }
 /// ```
 fn indexed_use<'p, 'a>(
     alloc: Global,
     scope: &Scope<'_, '_>,
-    pieces: &'p [Piece<'a>],
-) -> Result<(TypeUse, &'p [Piece<'a>]), Refusal<'p, 'a>> {
+    pieces: Pieces<'p, 'a>,
+) -> Result<(TypeUse, Pieces<'p, 'a>), Refusal<'p, 'a>> {
     let (index, rest) = index(scope.type_names, pieces)?;
     closed_use(alloc, scope, index, pieces, rest)
 }
@@ -247,19 +248,19 @@ fn indexed_use<'p, 'a>(
 ///
 /// ```text
 /// ensures is { MatchResult result
-///     (λ r. grammar.closed_index (scope_of scope.now).types index (map terminal all.now) (map terminal pieces.now) ≡ Ok (use_of r.0, map terminal r.1.now))
-///     (λ e. Faults (grammar.closed_index (scope_of scope.now).types index (map terminal all.now) (map terminal pieces.now)) e) }
+///     (λ r. grammar.closed_index (scope_of scope.now).types index (terminals_of all.entry) (terminals_of pieces.entry) ≡ Ok (use_of r.0, terminals_of r.1))
+///     (λ e. Faults (grammar.closed_index (scope_of scope.now).types index (terminals_of all.entry) (terminals_of pieces.entry)) e) }
 /// ensures small { IfOk result (λ r. spec.index_or r.0.index 0 < 2 ^ 63) }
 /// ```
 fn closed_use<'p, 'a>(
     alloc: Global,
     scope: &Scope<'_, '_>,
     index: usize,
-    all: &'p [Piece<'a>],
-    pieces: &'p [Piece<'a>],
-) -> Result<(TypeUse, &'p [Piece<'a>]), Refusal<'p, 'a>> {
-    match pieces {
-        [Piece::Close, rest @ ..] => {
+    all: Pieces<'p, 'a>,
+    pieces: Pieces<'p, 'a>,
+) -> Result<(TypeUse, Pieces<'p, 'a>), Refusal<'p, 'a>> {
+    match pieces.first() {
+        Some((Piece::Close, rest)) => {
             if scope.are_types_known {
                 typed_use(alloc, scope.types, index, all, rest)
             } else {
@@ -276,14 +277,14 @@ fn closed_use<'p, 'a>(
 ///
 /// ```text
 /// ensures is { MatchResult result
-///     (λ r. grammar.assumed (grammar.lists_of (map terminal pieces.now)) ≡ Ok (use_of r.0, map terminal r.1.now))
-///     (λ e. Faults (grammar.assumed (grammar.lists_of (map terminal pieces.now))) e) }
+///     (λ r. grammar.assumed (grammar.lists_of (terminals_of pieces.entry)) ≡ Ok (use_of r.0, terminals_of r.1))
+///     (λ e. Faults (grammar.assumed (grammar.lists_of (terminals_of pieces.entry))) e) }
 /// ensures small { IfOk result (λ r. spec.index_or r.0.index 0 < 2 ^ 63) }
 /// ```
 fn assumed_use<'p, 'a>(
     alloc: Global,
-    pieces: &'p [Piece<'a>],
-) -> Result<(TypeUse, &'p [Piece<'a>]), Refusal<'p, 'a>> {
+    pieces: Pieces<'p, 'a>,
+) -> Result<(TypeUse, Pieces<'p, 'a>), Refusal<'p, 'a>> {
     let (of, rest) = lists(alloc, pieces)?;
     let index = Some(0);
     Ok((TypeUse { index, of }, rest))
@@ -307,17 +308,17 @@ fn type_at_index(types: &[FunctionType], index: usize) -> Option<&FunctionType> 
 ///
 /// ```text
 /// ensures is { MatchResult result
-///     (λ r. grammar.indexed_by index (slice_get (map type_of types.now) index) (map terminal all.now) (map terminal pieces.now) ≡ Ok (use_of r.0, map terminal r.1.now))
-///     (λ e. Faults (grammar.indexed_by index (slice_get (map type_of types.now) index) (map terminal all.now) (map terminal pieces.now)) e) }
+///     (λ r. grammar.indexed_by index (slice_get (map type_of types.now) index) (terminals_of all.entry) (terminals_of pieces.entry) ≡ Ok (use_of r.0, terminals_of r.1))
+///     (λ e. Faults (grammar.indexed_by index (slice_get (map type_of types.now) index) (terminals_of all.entry) (terminals_of pieces.entry)) e) }
 /// ensures small { IfOk result (λ r. spec.index_or r.0.index 0 < 2 ^ 63) }
 /// ```
 fn typed_use<'p, 'a>(
     alloc: Global,
     types: &[FunctionType],
     index: usize,
-    all: &'p [Piece<'a>],
-    pieces: &'p [Piece<'a>],
-) -> Result<(TypeUse, &'p [Piece<'a>]), Refusal<'p, 'a>> {
+    all: Pieces<'p, 'a>,
+    pieces: Pieces<'p, 'a>,
+) -> Result<(TypeUse, Pieces<'p, 'a>), Refusal<'p, 'a>> {
     match type_at_index(types, index) {
         Some(of) => agreed(alloc, index, of, all, pieces),
         None => Err(Refusal::Text(Fault {
@@ -351,17 +352,17 @@ fn list_nothing(params: &[ValueType], results: &[ValueType]) -> bool {
 /// ```text
 /// requires { index < 2 ^ 63 }
 /// ensures is { MatchResult result
-///     (λ r. grammar.agreed index (type_of of.now) (map terminal all.now) (grammar.lists_of (map terminal pieces.now)) ≡ Ok (use_of r.0, map terminal r.1.now))
-///     (λ e. Faults (grammar.agreed index (type_of of.now) (map terminal all.now) (grammar.lists_of (map terminal pieces.now))) e) }
+///     (λ r. grammar.agreed index (type_of of.now) (terminals_of all.entry) (grammar.lists_of (terminals_of pieces.entry)) ≡ Ok (use_of r.0, terminals_of r.1))
+///     (λ e. Faults (grammar.agreed index (type_of of.now) (terminals_of all.entry) (grammar.lists_of (terminals_of pieces.entry))) e) }
 /// ensures small { IfOk result (λ r. spec.index_or r.0.index 0 < 2 ^ 63) }
 /// ```
 fn agreed<'p, 'a>(
     alloc: Global,
     index: usize,
     of: &FunctionType,
-    all: &'p [Piece<'a>],
-    pieces: &'p [Piece<'a>],
-) -> Result<(TypeUse, &'p [Piece<'a>]), Refusal<'p, 'a>> {
+    all: Pieces<'p, 'a>,
+    pieces: Pieces<'p, 'a>,
+) -> Result<(TypeUse, Pieces<'p, 'a>), Refusal<'p, 'a>> {
     let (listed, rest) = lists(alloc, pieces)?;
     if list_nothing(&listed.params, &listed.results) || same_type(&listed, of) {
         let of = copied(alloc, of)?;
@@ -380,16 +381,16 @@ fn agreed<'p, 'a>(
 ///
 /// ```text
 /// ensures { MatchResult result
-/// (λ r. grammar.table_of tables.now (map terminal pieces.now) ≡ Ok (r.0, map terminal r.1.now))
-/// (λ f. grammar.table_of tables.now (map terminal pieces.now) ≡ Err (fault_of f)) }
+/// (λ r. grammar.table_of tables.now (terminals_of pieces.entry) ≡ Ok (r.0, terminals_of r.1))
+/// (λ f. grammar.table_of tables.now (terminals_of pieces.entry) ≡ Err (fault_of f)) }
 /// ```
 pub(crate) fn table_index<'p, 'a>(
     tables: &IndexedNames<'_>,
-    pieces: &'p [Piece<'a>],
-) -> Result<(usize, &'p [Piece<'a>]), Fault<'p, 'a>> {
-    match pieces {
-        [Piece::Integer(_, _), ..] => index(tables, pieces),
-        [Piece::Id(_), ..] => index(tables, pieces),
+    pieces: Pieces<'p, 'a>,
+) -> Result<(usize, Pieces<'p, 'a>), Fault<'p, 'a>> {
+    match pieces.first() {
+        Some((Piece::Integer(_, _), _)) => index(tables, pieces),
+        Some((Piece::Id(_), _)) => index(tables, pieces),
         _ => Ok((0, pieces)),
     }
 }
@@ -400,14 +401,14 @@ pub(crate) fn table_index<'p, 'a>(
 ///
 /// ```text
 /// ensures { MatchResult result
-/// (λ r. grammar.indirect_by (scope_of scope.now).types (grammar.table_of (scope_of scope.now).tables (map terminal pieces.now)) ≡ Ok (r.0, map terminal r.1.now))
-/// (λ e. Faults (grammar.indirect_by (scope_of scope.now).types (grammar.table_of (scope_of scope.now).tables (map terminal pieces.now))) e) }
+/// (λ r. grammar.indirect_by (scope_of scope.now).types (grammar.table_of (scope_of scope.now).tables (terminals_of pieces.entry)) ≡ Ok (r.0, terminals_of r.1))
+/// (λ e. Faults (grammar.indirect_by (scope_of scope.now).types (grammar.table_of (scope_of scope.now).tables (terminals_of pieces.entry))) e) }
 /// ```
 pub(crate) fn indirect_call<'p, 'a>(
     alloc: Global,
     scope: &Scope<'_, '_>,
-    pieces: &'p [Piece<'a>],
-) -> Result<(Argument, &'p [Piece<'a>]), Refusal<'p, 'a>> {
+    pieces: Pieces<'p, 'a>,
+) -> Result<(Argument, Pieces<'p, 'a>), Refusal<'p, 'a>> {
     let (table, rest) = table_index(scope.tables, pieces)?;
     let (uses, rest) = type_use(alloc, scope, rest)?;
     let call = IndirectCall::new(alloc, table, uses)?;
@@ -420,13 +421,13 @@ pub(crate) fn indirect_call<'p, 'a>(
 ///
 /// ```text
 /// ensures { MatchResult result
-/// (λ r. grammar.select_by (grammar.after (codes "result") (map terminal pieces.now)) (map terminal pieces.now) ≡ Ok (r.0, map terminal r.1.now))
-/// (λ e. Faults (grammar.select_by (grammar.after (codes "result") (map terminal pieces.now)) (map terminal pieces.now)) e) }
+/// (λ r. grammar.select_by (grammar.after (codes "result") (terminals_of pieces.entry)) (terminals_of pieces.entry) ≡ Ok (r.0, terminals_of r.1))
+/// (λ e. Faults (grammar.select_by (grammar.after (codes "result") (terminals_of pieces.entry)) (terminals_of pieces.entry)) e) }
 /// ```
 pub(crate) fn select_types<'p, 'a>(
     alloc: Global,
-    pieces: &'p [Piece<'a>],
-) -> Result<(Argument, &'p [Piece<'a>]), Refusal<'p, 'a>> {
+    pieces: Pieces<'p, 'a>,
+) -> Result<(Argument, Pieces<'p, 'a>), Refusal<'p, 'a>> {
     match after("result", pieces) {
         Some(_) => {
             let (types, rest) = listed(alloc, "result", pieces)?;
@@ -443,14 +444,14 @@ pub(crate) fn select_types<'p, 'a>(
 ///
 /// ```text
 /// ensures { MatchResult result
-/// (λ r. grammar.block_type (scope_of scope.now).types (map terminal pieces.now) ≡ Ok (r.0, map terminal r.1.now))
-/// (λ e. Faults (grammar.block_type (scope_of scope.now).types (map terminal pieces.now)) e) }
+/// (λ r. grammar.block_type (scope_of scope.now).types (terminals_of pieces.entry) ≡ Ok (r.0, terminals_of r.1))
+/// (λ e. Faults (grammar.block_type (scope_of scope.now).types (terminals_of pieces.entry)) e) }
 /// ```
 pub(crate) fn block_type<'p, 'a>(
     alloc: Global,
     scope: &Scope<'_, '_>,
-    pieces: &'p [Piece<'a>],
-) -> Result<(Argument, &'p [Piece<'a>]), Refusal<'p, 'a>> {
+    pieces: Pieces<'p, 'a>,
+) -> Result<(Argument, Pieces<'p, 'a>), Refusal<'p, 'a>> {
     let (uses, rest) = type_use(alloc, scope, pieces)?;
     let argument = block_argument(alloc, uses)?;
     Ok((argument, rest))

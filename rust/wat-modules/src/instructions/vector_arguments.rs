@@ -5,6 +5,7 @@ use wat_lex::shim::prelude::*;
 use crate::instructions::floats::{float_32, float_64};
 use crate::instructions::memory::{align_at, offset_at};
 use crate::instructions::pieces::{Argument, Fault, FaultKind, Piece, Refusal, Sign, unexpected};
+use crate::instructions::source::Pieces;
 use crate::instructions::vectors::{Lane, VectorBytes};
 use wat_lex::shim::alloc::{AllocError, Global};
 
@@ -14,14 +15,14 @@ use wat_lex::shim::alloc::{AllocError, Global};
 ///
 /// ```text
 /// ensures { MatchResult result
-/// (λ r. grammar.lane_index (map terminal pieces.now) ≡ Ok (r.0, map terminal r.1.now))
-/// (λ f. grammar.lane_index (map terminal pieces.now) ≡ Err (fault_of f)) }
+/// (λ r. grammar.lane_index (terminals_of pieces.entry) ≡ Ok (r.0, terminals_of r.1))
+/// (λ f. grammar.lane_index (terminals_of pieces.entry) ≡ Err (fault_of f)) }
 /// ```
-fn lane_index<'p, 'a>(pieces: &'p [Piece<'a>]) -> Result<(u8, &'p [Piece<'a>]), Fault<'p, 'a>> {
-    match pieces {
-        [Piece::Integer(Sign::Absent, n), rest @ ..] => {
-            if *n < 0x100 {
-                Ok((*n as u8, rest))
+fn lane_index<'p, 'a>(pieces: Pieces<'p, 'a>) -> Result<(u8, Pieces<'p, 'a>), Fault<'p, 'a>> {
+    match pieces.first() {
+        Some((Piece::Integer(Sign::Absent, n), rest)) => {
+            if n < 0x100 {
+                Ok((n as u8, rest))
             } else {
                 Err(Fault {
                     kind: FaultKind::OutOfRange,
@@ -39,12 +40,12 @@ fn lane_index<'p, 'a>(pieces: &'p [Piece<'a>]) -> Result<(u8, &'p [Piece<'a>]), 
 ///
 /// ```text
 /// ensures { MatchResult result
-/// (λ r. grammar.with_lane (grammar.lane_index (map terminal pieces.now)) ≡ Ok (r.0, map terminal r.1.now))
-/// (λ f. grammar.with_lane (grammar.lane_index (map terminal pieces.now)) ≡ Err (fault_of f)) }
+/// (λ r. grammar.with_lane (grammar.lane_index (terminals_of pieces.entry)) ≡ Ok (r.0, terminals_of r.1))
+/// (λ f. grammar.with_lane (grammar.lane_index (terminals_of pieces.entry)) ≡ Err (fault_of f)) }
 /// ```
 pub(crate) fn lane<'p, 'a>(
-    pieces: &'p [Piece<'a>],
-) -> Result<(Argument, &'p [Piece<'a>]), Fault<'p, 'a>> {
+    pieces: Pieces<'p, 'a>,
+) -> Result<(Argument, Pieces<'p, 'a>), Fault<'p, 'a>> {
     let (n, rest) = lane_index(pieces)?;
     Ok((Argument::Lane(n), rest))
 }
@@ -55,13 +56,13 @@ pub(crate) fn lane<'p, 'a>(
 ///
 /// ```text
 /// ensures { MatchResult result
-/// (λ r. grammar.memory_lane natural (map terminal pieces.now) ≡ Ok (r.0, map terminal r.1.now))
-/// (λ f. grammar.memory_lane natural (map terminal pieces.now) ≡ Err (fault_of f)) }
+/// (λ r. grammar.memory_lane natural (terminals_of pieces.entry) ≡ Ok (r.0, terminals_of r.1))
+/// (λ f. grammar.memory_lane natural (terminals_of pieces.entry) ≡ Err (fault_of f)) }
 /// ```
 pub(crate) fn memory_lane<'p, 'a>(
     natural: u8,
-    pieces: &'p [Piece<'a>],
-) -> Result<(Argument, &'p [Piece<'a>]), Fault<'p, 'a>> {
+    pieces: Pieces<'p, 'a>,
+) -> Result<(Argument, Pieces<'p, 'a>), Fault<'p, 'a>> {
     let (offset, rest) = offset_at(pieces);
     let (align, rest) = align_at(natural, rest);
     let (n, rest) = lane_index(rest)?;
@@ -72,7 +73,7 @@ pub(crate) fn memory_lane<'p, 'a>(
 #[derive(Clone, Copy)]
 struct Left<'p, 'a> {
     lanes: usize,
-    pieces: &'p [Piece<'a>],
+    pieces: Pieces<'p, 'a>,
 }
 
 /// The indices of lanes that `i8x16.shuffle` has.
@@ -81,13 +82,13 @@ struct Left<'p, 'a> {
 ///
 /// ```text
 /// ensures { MatchResult result
-/// (λ r. grammar.lane_indices 16 (map terminal pieces.now) ≡ Ok (r.0.items, map terminal r.1.now))
-/// (λ e. Faults (grammar.lane_indices 16 (map terminal pieces.now)) e) }
+/// (λ r. grammar.lane_indices 16 (terminals_of pieces.entry) ≡ Ok (r.0.items, terminals_of r.1))
+/// (λ e. Faults (grammar.lane_indices 16 (terminals_of pieces.entry)) e) }
 /// ```
 fn lane_indices<'p, 'a>(
     alloc: Global,
-    pieces: &'p [Piece<'a>],
-) -> Result<(Vec<u8>, &'p [Piece<'a>]), Refusal<'p, 'a>> {
+    pieces: Pieces<'p, 'a>,
+) -> Result<(Vec<u8>, Pieces<'p, 'a>), Refusal<'p, 'a>> {
     let mut indices = Vec::new(alloc);
     let mut left = Left { lanes: 16, pieces };
     'indices: loop {
@@ -109,8 +110,8 @@ fn lane_indices<'p, 'a>(
 /// ensures { MatchResult result
 /// (λ o. MatchOption o
 /// ((left.entry.lanes ≡ 0) × (indices.new.items ≡ indices.old.items))
-/// (λ l. (left.entry.lanes ≡ suc l.lanes) × IsIndex (map terminal left.entry.pieces.now) indices.old.items indices.new.items (map terminal l.pieces.now)))
-/// (λ e. (0 < left.entry.lanes) × Faults (grammar.lane_index (map terminal left.entry.pieces.now)) e) }
+/// (λ l. (left.entry.lanes ≡ suc l.lanes) × IsIndex (terminals_of left.entry.pieces) indices.old.items indices.new.items (terminals_of l.pieces)))
+/// (λ e. (0 < left.entry.lanes) × Faults (grammar.lane_index (terminals_of left.entry.pieces)) e) }
 /// ```
 fn next_index<'p, 'a>(
     indices: &mut Vec<u8>,
@@ -133,13 +134,13 @@ fn next_index<'p, 'a>(
 ///
 /// ```text
 /// ensures { MatchResult result
-/// (λ r. grammar.shuffle (map terminal pieces.now) ≡ Ok (r.0, map terminal r.1.now))
-/// (λ e. Faults (grammar.shuffle (map terminal pieces.now)) e) }
+/// (λ r. grammar.shuffle (terminals_of pieces.entry) ≡ Ok (r.0, terminals_of r.1))
+/// (λ e. Faults (grammar.shuffle (terminals_of pieces.entry)) e) }
 /// ```
 pub(crate) fn shuffle<'p, 'a>(
     alloc: Global,
-    pieces: &'p [Piece<'a>],
-) -> Result<(Argument, &'p [Piece<'a>]), Refusal<'p, 'a>> {
+    pieces: Pieces<'p, 'a>,
+) -> Result<(Argument, Pieces<'p, 'a>), Refusal<'p, 'a>> {
     let (indices, rest) = lane_indices(alloc, pieces)?;
     let bytes = VectorBytes::new(alloc, indices)?;
     Ok((Argument::Bytes(bytes), rest))
@@ -189,16 +190,16 @@ fn integer_bits(half: u64, sign: Sign, size: u64) -> Option<u64> {
 /// ```text
 /// requires { (0 < half) × (half ≤ 2 ^ 63) }
 /// ensures is { MatchResult result
-///     (λ r. grammar.integer half (map terminal pieces.now) ≡ Ok (r.0, map terminal r.1.now))
-///     (λ f. grammar.integer half (map terminal pieces.now) ≡ Err (fault_of f)) }
+///     (λ r. grammar.integer half (terminals_of pieces.entry) ≡ Ok (r.0, terminals_of r.1))
+///     (λ f. grammar.integer half (terminals_of pieces.entry) ≡ Err (fault_of f)) }
 /// ensures small { IfOk result (λ r. r.0 < half * 2) }
 /// ```
 fn integer<'p, 'a>(
     half: u64,
-    pieces: &'p [Piece<'a>],
-) -> Result<(u64, &'p [Piece<'a>]), Fault<'p, 'a>> {
-    match pieces {
-        [Piece::Integer(sign, size), rest @ ..] => match integer_bits(half, *sign, *size) {
+    pieces: Pieces<'p, 'a>,
+) -> Result<(u64, Pieces<'p, 'a>), Fault<'p, 'a>> {
+    match pieces.first() {
+        Some((Piece::Integer(sign, size), rest)) => match integer_bits(half, sign, size) {
             Some(n) => Ok((n, rest)),
             None => Err(Fault {
                 kind: FaultKind::OutOfRange,
@@ -215,14 +216,15 @@ fn integer<'p, 'a>(
 ///
 /// ```text
 /// ensures { MatchResult result
-/// (λ r. IsLane lane (map terminal pieces.now) bytes.old.items bytes.new.items (map terminal r.now))
-/// (λ e. Faults (grammar.lane_of lane (map terminal pieces.now)) e) }
+/// (λ r. IsLane lane (terminals_of pieces.entry) bytes.old.items bytes.new.items (terminals_of r))
+/// (λ e. Faults (grammar.lane_of lane (terminals_of pieces.entry)) e) }
 /// ```
 fn add_lane<'p, 'a>(
+    alloc: Global,
     lane: Lane,
     bytes: &mut Vec<u8>,
-    pieces: &'p [Piece<'a>],
-) -> Result<&'p [Piece<'a>], Refusal<'p, 'a>> {
+    pieces: Pieces<'p, 'a>,
+) -> Result<Pieces<'p, 'a>, Refusal<'p, 'a>> {
     match lane {
         Lane::I8 => {
             let (n, rest) = integer(0x80, pieces)?;
@@ -245,12 +247,12 @@ fn add_lane<'p, 'a>(
             Ok(rest)
         }
         Lane::F32 => {
-            let (n, rest) = float_32(pieces)?;
+            let (n, rest) = float_32(alloc, pieces)?;
             bytes.extend_from_slice(&n.to_le_bytes())?;
             Ok(rest)
         }
         Lane::F64 => {
-            let (n, rest) = float_64(pieces)?;
+            let (n, rest) = float_64(alloc, pieces)?;
             bytes.extend_from_slice(&n.to_le_bytes())?;
             Ok(rest)
         }
@@ -279,21 +281,21 @@ fn lane_count(lane: Lane) -> usize {
 ///
 /// ```text
 /// ensures { MatchResult result
-/// (λ r. grammar.lanes_from lane (grammar.lane_count lane) (map terminal pieces.now) ≡ Ok (r.0.items, map terminal r.1.now))
-/// (λ e. Faults (grammar.lanes_from lane (grammar.lane_count lane) (map terminal pieces.now)) e) }
+/// (λ r. grammar.lanes_from lane (grammar.lane_count lane) (terminals_of pieces.entry) ≡ Ok (r.0.items, terminals_of r.1))
+/// (λ e. Faults (grammar.lanes_from lane (grammar.lane_count lane) (terminals_of pieces.entry)) e) }
 /// ```
 fn lanes<'p, 'a>(
     alloc: Global,
     lane: Lane,
-    pieces: &'p [Piece<'a>],
-) -> Result<(Vec<u8>, &'p [Piece<'a>]), Refusal<'p, 'a>> {
+    pieces: Pieces<'p, 'a>,
+) -> Result<(Vec<u8>, Pieces<'p, 'a>), Refusal<'p, 'a>> {
     let mut bytes = Vec::new(alloc);
     let mut left = Left {
         lanes: lane_count(lane),
         pieces,
     };
     'lanes: loop {
-        match next_lane(lane, &mut bytes, left) {
+        match next_lane(alloc, lane, &mut bytes, left) {
             Ok(Some(next)) => {
                 left = next;
             }
@@ -311,10 +313,11 @@ fn lanes<'p, 'a>(
 /// ensures { MatchResult result
 /// (λ o. MatchOption o
 /// ((left.entry.lanes ≡ 0) × (bytes.new.items ≡ bytes.old.items))
-/// (λ l. (left.entry.lanes ≡ suc l.lanes) × IsLane lane (map terminal left.entry.pieces.now) bytes.old.items bytes.new.items (map terminal l.pieces.now)))
-/// (λ e. (0 < left.entry.lanes) × Faults (grammar.lane_of lane (map terminal left.entry.pieces.now)) e) }
+/// (λ l. (left.entry.lanes ≡ suc l.lanes) × IsLane lane (terminals_of left.entry.pieces) bytes.old.items bytes.new.items (terminals_of l.pieces)))
+/// (λ e. (0 < left.entry.lanes) × Faults (grammar.lane_of lane (terminals_of left.entry.pieces)) e) }
 /// ```
 fn next_lane<'p, 'a>(
+    alloc: Global,
     lane: Lane,
     bytes: &mut Vec<u8>,
     left: Left<'p, 'a>,
@@ -322,7 +325,7 @@ fn next_lane<'p, 'a>(
     if left.lanes == 0 {
         return Ok(None);
     }
-    let pieces = add_lane(lane, bytes, left.pieces)?;
+    let pieces = add_lane(alloc, lane, bytes, left.pieces)?;
     Ok(Some(Left {
         lanes: left.lanes - 1,
         pieces,
@@ -335,14 +338,14 @@ fn next_lane<'p, 'a>(
 ///
 /// ```text
 /// ensures { MatchResult result
-/// (λ r. grammar.vector_of lane (map terminal pieces.now) ≡ Ok (r.0, map terminal r.1.now))
-/// (λ e. Faults (grammar.vector_of lane (map terminal pieces.now)) e) }
+/// (λ r. grammar.vector_of lane (terminals_of pieces.entry) ≡ Ok (r.0, terminals_of r.1))
+/// (λ e. Faults (grammar.vector_of lane (terminals_of pieces.entry)) e) }
 /// ```
 pub(crate) fn vector<'p, 'a>(
     alloc: Global,
     lane: Lane,
-    pieces: &'p [Piece<'a>],
-) -> Result<(Argument, &'p [Piece<'a>]), Refusal<'p, 'a>> {
+    pieces: Pieces<'p, 'a>,
+) -> Result<(Argument, Pieces<'p, 'a>), Refusal<'p, 'a>> {
     let (bytes, rest) = lanes(alloc, lane, pieces)?;
     let bytes = VectorBytes::new(alloc, bytes)?;
     Ok((Argument::Bytes(bytes), rest))
@@ -379,15 +382,15 @@ fn shape(word: &str) -> Option<Lane> {
 ///
 /// ```text
 /// ensures { MatchResult result
-/// (λ r. grammar.constant (map terminal pieces.now) ≡ Ok (r.0, map terminal r.1.now))
-/// (λ e. Faults (grammar.constant (map terminal pieces.now)) e) }
+/// (λ r. grammar.constant (terminals_of pieces.entry) ≡ Ok (r.0, terminals_of r.1))
+/// (λ e. Faults (grammar.constant (terminals_of pieces.entry)) e) }
 /// ```
 pub(crate) fn constant<'p, 'a>(
     alloc: Global,
-    pieces: &'p [Piece<'a>],
-) -> Result<(Argument, &'p [Piece<'a>]), Refusal<'p, 'a>> {
-    match pieces {
-        [Piece::Word(word), rest @ ..] => match shape(word) {
+    pieces: Pieces<'p, 'a>,
+) -> Result<(Argument, Pieces<'p, 'a>), Refusal<'p, 'a>> {
+    match pieces.first() {
+        Some((Piece::Word(word), rest)) => match shape(word) {
             Some(lane) => vector(alloc, lane, rest),
             None => Err(Refusal::Text(Fault {
                 kind: FaultKind::UnknownWord,

@@ -11,6 +11,7 @@ use wat_lex::shim::alloc::Global;
 use crate::fields::fields::{Elem, ElemMode, Elements, Field, Limits, Table, TableType, Target};
 use crate::instructions::pieces::{Fault, FaultKind, Instruction, Name, Piece, ReferenceType, Refusal};
 use crate::instructions::reading;
+use crate::instructions::source::Pieces;
 
 /// Elements by their instructions.
 ///
@@ -18,14 +19,14 @@ use crate::instructions::reading;
 ///
 /// ```text
 /// ensures { MatchResult result
-/// (λ r. reading.all (reading.element_item (context_of names.now)) (map terminal pieces.now) ≡ Ok (map expression_of r.0.items, map terminal r.1.now))
-/// (λ e. Faults (reading.all (reading.element_item (context_of names.now)) (map terminal pieces.now)) e) }
+/// (λ r. reading.all (reading.element_item (context_of names.now)) (terminals_of pieces.entry) ≡ Ok (map expression_of r.0.items, terminals_of r.1))
+/// (λ e. Faults (reading.all (reading.element_item (context_of names.now)) (terminals_of pieces.entry)) e) }
 /// ```
 fn items<'p, 'a>(
     alloc: Global,
     names: &Names<'a>,
-    pieces: &'p [Piece<'a>],
-) -> Result<(Vec<Vec<Instruction>>, &'p [Piece<'a>]), Refusal<'p, 'a>> {
+    pieces: Pieces<'p, 'a>,
+) -> Result<(Vec<Vec<Instruction>>, Pieces<'p, 'a>), Refusal<'p, 'a>> {
     crate::instructions::laws::machine_is_grammar();
     crate::instructions::laws::folded_is_grammar();
     crate::instructions::laws::instructions_are_balanced();
@@ -49,9 +50,9 @@ fn items<'p, 'a>(
 /// ```text
 /// ensures { MatchResult result
 /// (λ o. MatchOption o
-/// (NoItem (reading.element_item (context_of names.now) (map terminal left.entry.pieces.now)) (map expression_of found.old.items) (map expression_of found.new.items))
-/// (λ l. IsItem (reading.element_item (context_of names.now) (map terminal left.entry.pieces.now)) (map expression_of found.old.items) (map expression_of found.new.items) (map terminal l.pieces.now)))
-/// (λ e. ItemFaults (reading.element_item (context_of names.now) (map terminal left.entry.pieces.now)) e) }
+/// (NoItem (reading.element_item (context_of names.now) (terminals_of left.entry.pieces)) (map expression_of found.old.items) (map expression_of found.new.items))
+/// (λ l. IsItem (reading.element_item (context_of names.now) (terminals_of left.entry.pieces)) (map expression_of found.old.items) (map expression_of found.new.items) (terminals_of l.pieces)))
+/// (λ e. ItemFaults (reading.element_item (context_of names.now) (terminals_of left.entry.pieces)) e) }
 /// ```
 fn next_item<'p, 'a>(
     alloc: Global,
@@ -59,8 +60,8 @@ fn next_item<'p, 'a>(
     found: &mut Vec<Vec<Instruction>>,
     left: Left<'p, 'a>,
 ) -> Result<Option<Left<'p, 'a>>, Refusal<'p, 'a>> {
-    match left.pieces {
-        [Piece::Open, ..] => match expression(alloc, names, "item", left.pieces) {
+    match left.pieces.first() {
+        Some((Piece::Open, _)) => match expression(alloc, names, "item", left.pieces) {
             Ok((element, pieces)) => {
                 found.push(element)?;
                 Ok(Some(Left { pieces }))
@@ -77,14 +78,14 @@ fn next_item<'p, 'a>(
 ///
 /// ```text
 /// ensures { MatchResult result
-/// (λ r. reading.all (reading.function_item (context_of names.now)) (map terminal pieces.now) ≡ Ok (map grammar.ref_func r.0.items, map terminal r.1.now))
-/// (λ e. Faults (reading.all (reading.function_item (context_of names.now)) (map terminal pieces.now)) e) }
+/// (λ r. reading.all (reading.function_item (context_of names.now)) (terminals_of pieces.entry) ≡ Ok (map grammar.ref_func r.0.items, terminals_of r.1))
+/// (λ e. Faults (reading.all (reading.function_item (context_of names.now)) (terminals_of pieces.entry)) e) }
 /// ```
 fn functions<'p, 'a>(
     alloc: Global,
     names: &Names<'a>,
-    pieces: &'p [Piece<'a>],
-) -> Result<(Vec<usize>, &'p [Piece<'a>]), Refusal<'p, 'a>> {
+    pieces: Pieces<'p, 'a>,
+) -> Result<(Vec<usize>, Pieces<'p, 'a>), Refusal<'p, 'a>> {
     crate::instructions::laws::machine_is_grammar();
     crate::instructions::laws::folded_is_grammar();
     crate::instructions::laws::instructions_are_balanced();
@@ -108,17 +109,17 @@ fn functions<'p, 'a>(
 /// ```text
 /// ensures { MatchResult result
 /// (λ o. MatchOption o
-/// (NoItem (reading.function_item (context_of names.now) (map terminal left.entry.pieces.now)) (map grammar.ref_func found.old.items) (map grammar.ref_func found.new.items))
-/// (λ l. IsItem (reading.function_item (context_of names.now) (map terminal left.entry.pieces.now)) (map grammar.ref_func found.old.items) (map grammar.ref_func found.new.items) (map terminal l.pieces.now)))
-/// (λ e. ItemFaults (reading.function_item (context_of names.now) (map terminal left.entry.pieces.now)) e) }
+/// (NoItem (reading.function_item (context_of names.now) (terminals_of left.entry.pieces)) (map grammar.ref_func found.old.items) (map grammar.ref_func found.new.items))
+/// (λ l. IsItem (reading.function_item (context_of names.now) (terminals_of left.entry.pieces)) (map grammar.ref_func found.old.items) (map grammar.ref_func found.new.items) (terminals_of l.pieces)))
+/// (λ e. ItemFaults (reading.function_item (context_of names.now) (terminals_of left.entry.pieces)) e) }
 /// ```
 fn next_function<'p, 'a>(
     names: &Names<'a>,
     found: &mut Vec<usize>,
     left: Left<'p, 'a>,
 ) -> Result<Option<Left<'p, 'a>>, Refusal<'p, 'a>> {
-    match left.pieces {
-        [Piece::Integer(_, _) | Piece::Id(_), ..] => {
+    match left.pieces.first() {
+        Some((Piece::Integer(_, _) | Piece::Id(_), _)) => {
             let (index, pieces) = reading::index(&names.funcs, left.pieces)?;
             found.push(index)?;
             Ok(Some(Left { pieces }))
@@ -133,16 +134,16 @@ fn next_function<'p, 'a>(
 ///
 /// ```text
 /// ensures { MatchResult result
-/// (λ r. reading.either_at (context_of names.now) (map terminal pieces.now) ≡ Ok (expressions_of r.0, map terminal r.1.now))
-/// (λ e. Faults (reading.either_at (context_of names.now) (map terminal pieces.now)) e) }
+/// (λ r. reading.either_at (context_of names.now) (terminals_of pieces.entry) ≡ Ok (expressions_of r.0, terminals_of r.1))
+/// (λ e. Faults (reading.either_at (context_of names.now) (terminals_of pieces.entry)) e) }
 /// ```
 fn either<'p, 'a>(
     alloc: Global,
     names: &Names<'a>,
-    pieces: &'p [Piece<'a>],
-) -> Result<(Elements, &'p [Piece<'a>]), Refusal<'p, 'a>> {
-    match pieces {
-        [Piece::Open, ..] => {
+    pieces: Pieces<'p, 'a>,
+) -> Result<(Elements, Pieces<'p, 'a>), Refusal<'p, 'a>> {
+    match pieces.first() {
+        Some((Piece::Open, _)) => {
             let (expressions, rest) = items(alloc, names, pieces)?;
             Ok((Elements::Expressions(expressions), rest))
         }
@@ -159,35 +160,35 @@ fn either<'p, 'a>(
 ///
 /// ```text
 /// ensures { MatchResult result
-/// (λ r. reading.table_at (context_of names.now) (label name.entry) (map text_of exports.entry.items) (map terminal pieces.now) ≡ Ok (field_of r.0 ∷ [], map terminal r.1.now))
-/// (λ e. Faults (reading.table_at (context_of names.now) (label name.entry) (map text_of exports.entry.items) (map terminal pieces.now)) e) }
+/// (λ r. reading.table_at (context_of names.now) (label name.entry) (map text_of exports.entry.items) (terminals_of pieces.entry) ≡ Ok (field_of r.0 ∷ [], terminals_of r.1))
+/// (λ e. Faults (reading.table_at (context_of names.now) (label name.entry) (map text_of exports.entry.items) (terminals_of pieces.entry)) e) }
 /// ```
 pub(crate) fn table_at<'p, 'a>(
     alloc: Global,
     names: &Names<'a>,
     name: Name<'a>,
     exports: Vec<&'a [u8]>,
-    pieces: &'p [Piece<'a>],
-) -> Result<(Field<'a>, &'p [Piece<'a>]), Refusal<'p, 'a>> {
-    match pieces {
-        [Piece::Word(word), rest @ ..] => match reading::reference_type(word) {
+    pieces: Pieces<'p, 'a>,
+) -> Result<(Field<'a>, Pieces<'p, 'a>), Refusal<'p, 'a>> {
+    match pieces.first() {
+        Some((Piece::Word(word), rest)) => match reading::reference_type(word) {
             Some(of) => table_open(alloc, names, name, exports, of, rest),
             None => Err(Refusal::Text(Fault {
                 kind: FaultKind::UnknownWord,
                 left: pieces,
             })),
         },
-        [
+        Some((
             Piece::Open
             | Piece::Close
             | Piece::Id(_)
             | Piece::Integer(_, _)
             | Piece::Text(_)
-            | Piece::Float(_, _)
+            | Piece::Float(_)
             | Piece::Other,
-            ..,
-        ] => Ok(table_limits(name, exports, pieces)?),
-        [] => Ok(table_limits(name, exports, pieces)?),
+            _,
+        )) => Ok(table_limits(name, exports, pieces)?),
+        None => Ok(table_limits(name, exports, pieces)?),
     }
 }
 
@@ -197,14 +198,14 @@ pub(crate) fn table_at<'p, 'a>(
 ///
 /// ```text
 /// ensures { MatchResult result
-/// (λ r. reading.table_limits (label name.entry) (map text_of exports.entry.items) (map terminal pieces.now) ≡ Ok (field_of r.0 ∷ [], map terminal r.1.now))
-/// (λ f. reading.table_limits (label name.entry) (map text_of exports.entry.items) (map terminal pieces.now) ≡ Err (fault_of f)) }
+/// (λ r. reading.table_limits (label name.entry) (map text_of exports.entry.items) (terminals_of pieces.entry) ≡ Ok (field_of r.0 ∷ [], terminals_of r.1))
+/// (λ f. reading.table_limits (label name.entry) (map text_of exports.entry.items) (terminals_of pieces.entry) ≡ Err (fault_of f)) }
 /// ```
 fn table_limits<'p, 'a>(
     name: Name<'a>,
     exports: Vec<&'a [u8]>,
-    pieces: &'p [Piece<'a>],
-) -> Result<(Field<'a>, &'p [Piece<'a>]), Fault<'p, 'a>> {
+    pieces: Pieces<'p, 'a>,
+) -> Result<(Field<'a>, Pieces<'p, 'a>), Fault<'p, 'a>> {
     let (of, rest) = table_type(pieces)?;
     let rest = closed(rest)?;
     Ok((
@@ -224,8 +225,8 @@ fn table_limits<'p, 'a>(
 ///
 /// ```text
 /// ensures { MatchResult result
-/// (λ r. reading.table_by (context_of names.now) (label name.entry) (map text_of exports.entry.items) (Some of) (map terminal pieces.now) (map terminal pieces.now) ≡ Ok (field_of r.0 ∷ [], map terminal r.1.now))
-/// (λ e. Faults (reading.table_by (context_of names.now) (label name.entry) (map text_of exports.entry.items) (Some of) (map terminal pieces.now) (map terminal pieces.now)) e) }
+/// (λ r. reading.table_by (context_of names.now) (label name.entry) (map text_of exports.entry.items) (Some of) (terminals_of pieces.entry) (terminals_of pieces.entry) ≡ Ok (field_of r.0 ∷ [], terminals_of r.1))
+/// (λ e. Faults (reading.table_by (context_of names.now) (label name.entry) (map text_of exports.entry.items) (Some of) (terminals_of pieces.entry) (terminals_of pieces.entry)) e) }
 /// ```
 fn table_open<'p, 'a>(
     alloc: Global,
@@ -233,8 +234,8 @@ fn table_open<'p, 'a>(
     name: Name<'a>,
     exports: Vec<&'a [u8]>,
     of: ReferenceType,
-    pieces: &'p [Piece<'a>],
-) -> Result<(Field<'a>, &'p [Piece<'a>]), Refusal<'p, 'a>> {
+    pieces: Pieces<'p, 'a>,
+) -> Result<(Field<'a>, Pieces<'p, 'a>), Refusal<'p, 'a>> {
     match after("elem", pieces) {
         Some(rest) => table_elements(alloc, names, name, exports, of, rest),
         None => Err(Refusal::Text(Fault {
@@ -250,8 +251,8 @@ fn table_open<'p, 'a>(
 ///
 /// ```text
 /// ensures { MatchResult result
-/// (λ r. reading.table_elements (context_of names.now) (label name.entry) (map text_of exports.entry.items) of (map terminal pieces.now) ≡ Ok (field_of r.0 ∷ [], map terminal r.1.now))
-/// (λ e. Faults (reading.table_elements (context_of names.now) (label name.entry) (map text_of exports.entry.items) of (map terminal pieces.now)) e) }
+/// (λ r. reading.table_elements (context_of names.now) (label name.entry) (map text_of exports.entry.items) of (terminals_of pieces.entry) ≡ Ok (field_of r.0 ∷ [], terminals_of r.1))
+/// (λ e. Faults (reading.table_elements (context_of names.now) (label name.entry) (map text_of exports.entry.items) of (terminals_of pieces.entry)) e) }
 /// ```
 fn table_elements<'p, 'a>(
     alloc: Global,
@@ -259,8 +260,8 @@ fn table_elements<'p, 'a>(
     name: Name<'a>,
     exports: Vec<&'a [u8]>,
     of: ReferenceType,
-    pieces: &'p [Piece<'a>],
-) -> Result<(Field<'a>, &'p [Piece<'a>]), Refusal<'p, 'a>> {
+    pieces: Pieces<'p, 'a>,
+) -> Result<(Field<'a>, Pieces<'p, 'a>), Refusal<'p, 'a>> {
     let (elements, rest) = either(alloc, names, pieces)?;
     let rest = twice_closed(rest)?;
     Ok(table_with(name, exports, of, pieces, elements, rest)?)
@@ -272,17 +273,17 @@ fn table_elements<'p, 'a>(
 ///
 /// ```text
 /// ensures { MatchResult result
-/// (λ r. reading.table_with (label name.entry) (map text_of exports.entry.items) of (map terminal all.now) (expressions_of elements) (map terminal rest.now) ≡ Ok (field_of r.0 ∷ [], map terminal r.1.now))
-/// (λ f. reading.table_with (label name.entry) (map text_of exports.entry.items) of (map terminal all.now) (expressions_of elements) (map terminal rest.now) ≡ Err (fault_of f)) }
+/// (λ r. reading.table_with (label name.entry) (map text_of exports.entry.items) of (terminals_of all.entry) (expressions_of elements) (terminals_of rest.entry) ≡ Ok (field_of r.0 ∷ [], terminals_of r.1))
+/// (λ f. reading.table_with (label name.entry) (map text_of exports.entry.items) of (terminals_of all.entry) (expressions_of elements) (terminals_of rest.entry) ≡ Err (fault_of f)) }
 /// ```
 fn table_with<'p, 'a>(
     name: Name<'a>,
     exports: Vec<&'a [u8]>,
     of: ReferenceType,
-    all: &'p [Piece<'a>],
+    all: Pieces<'p, 'a>,
     elements: Elements,
-    rest: &'p [Piece<'a>],
-) -> Result<(Field<'a>, &'p [Piece<'a>]), Fault<'p, 'a>> {
+    rest: Pieces<'p, 'a>,
+) -> Result<(Field<'a>, Pieces<'p, 'a>), Fault<'p, 'a>> {
     if elements.len() >= 0x1_0000_0000 {
         return Err(Fault {
             kind: FaultKind::OutOfRange,
@@ -313,16 +314,16 @@ fn table_with<'p, 'a>(
 ///
 /// ```text
 /// ensures { MatchResult result
-/// (λ r. reading.elements_at (context_of names.now) (map terminal pieces.now) ≡ Ok ((r.0.0, expressions_of r.0.1), map terminal r.1.now))
-/// (λ e. Faults (reading.elements_at (context_of names.now) (map terminal pieces.now)) e) }
+/// (λ r. reading.elements_at (context_of names.now) (terminals_of pieces.entry) ≡ Ok ((r.0.0, expressions_of r.0.1), terminals_of r.1))
+/// (λ e. Faults (reading.elements_at (context_of names.now) (terminals_of pieces.entry)) e) }
 /// ```
 fn elements<'p, 'a>(
     alloc: Global,
     names: &Names<'a>,
-    pieces: &'p [Piece<'a>],
-) -> Result<((ReferenceType, Elements), &'p [Piece<'a>]), Refusal<'p, 'a>> {
-    match pieces {
-        [Piece::Word(word), rest @ ..] => elements_after(alloc, names, *word, pieces, rest),
+    pieces: Pieces<'p, 'a>,
+) -> Result<((ReferenceType, Elements), Pieces<'p, 'a>), Refusal<'p, 'a>> {
+    match pieces.first() {
+        Some((Piece::Word(word), rest)) => elements_after(alloc, names, word, pieces, rest),
         _ => Err(Refusal::Text(Fault {
             kind: FaultKind::Unexpected,
             left: pieces,
@@ -336,16 +337,16 @@ fn elements<'p, 'a>(
 ///
 /// ```text
 /// ensures { MatchResult result
-/// (λ r. reading.elements_by (context_of names.now) word.now (reference_type word.now) (map terminal all.now) (map terminal pieces.now) ≡ Ok ((r.0.0, expressions_of r.0.1), map terminal r.1.now))
-/// (λ e. Faults (reading.elements_by (context_of names.now) word.now (reference_type word.now) (map terminal all.now) (map terminal pieces.now)) e) }
+/// (λ r. reading.elements_by (context_of names.now) word.now (reference_type word.now) (terminals_of all.entry) (terminals_of pieces.entry) ≡ Ok ((r.0.0, expressions_of r.0.1), terminals_of r.1))
+/// (λ e. Faults (reading.elements_by (context_of names.now) word.now (reference_type word.now) (terminals_of all.entry) (terminals_of pieces.entry)) e) }
 /// ```
 fn elements_after<'p, 'a>(
     alloc: Global,
     names: &Names<'a>,
     word: &str,
-    all: &'p [Piece<'a>],
-    pieces: &'p [Piece<'a>],
-) -> Result<((ReferenceType, Elements), &'p [Piece<'a>]), Refusal<'p, 'a>> {
+    all: Pieces<'p, 'a>,
+    pieces: Pieces<'p, 'a>,
+) -> Result<((ReferenceType, Elements), Pieces<'p, 'a>), Refusal<'p, 'a>> {
     match reading::reference_type(word) {
         Some(of) => {
             let (expressions, rest) = items(alloc, names, pieces)?;
@@ -371,16 +372,16 @@ fn elements_after<'p, 'a>(
 ///
 /// ```text
 /// ensures { MatchResult result
-/// (λ r. reading.elem_list (context_of names.now) (label name.entry) (mode_of mode) (map terminal pieces.now) ≡ Ok (field_of r.0 ∷ [], map terminal r.1.now))
-/// (λ e. Faults (reading.elem_list (context_of names.now) (label name.entry) (mode_of mode) (map terminal pieces.now)) e) }
+/// (λ r. reading.elem_list (context_of names.now) (label name.entry) (mode_of mode) (terminals_of pieces.entry) ≡ Ok (field_of r.0 ∷ [], terminals_of r.1))
+/// (λ e. Faults (reading.elem_list (context_of names.now) (label name.entry) (mode_of mode) (terminals_of pieces.entry)) e) }
 /// ```
 fn elem_list<'p, 'a>(
     alloc: Global,
     names: &Names<'a>,
     name: Name<'a>,
     mode: ElemMode,
-    pieces: &'p [Piece<'a>],
-) -> Result<(Field<'a>, &'p [Piece<'a>]), Refusal<'p, 'a>> {
+    pieces: Pieces<'p, 'a>,
+) -> Result<(Field<'a>, Pieces<'p, 'a>), Refusal<'p, 'a>> {
     let ((of, elements), rest) = elements(alloc, names, pieces)?;
     let rest = closed(rest)?;
     Ok((
@@ -400,16 +401,16 @@ fn elem_list<'p, 'a>(
 ///
 /// ```text
 /// ensures { MatchResult result
-/// (λ r. reading.functions_list (context_of names.now) (label name.entry) (mode_of mode) (map terminal pieces.now) ≡ Ok (field_of r.0 ∷ [], map terminal r.1.now))
-/// (λ e. Faults (reading.functions_list (context_of names.now) (label name.entry) (mode_of mode) (map terminal pieces.now)) e) }
+/// (λ r. reading.functions_list (context_of names.now) (label name.entry) (mode_of mode) (terminals_of pieces.entry) ≡ Ok (field_of r.0 ∷ [], terminals_of r.1))
+/// (λ e. Faults (reading.functions_list (context_of names.now) (label name.entry) (mode_of mode) (terminals_of pieces.entry)) e) }
 /// ```
 fn functions_list<'p, 'a>(
     alloc: Global,
     names: &Names<'a>,
     name: Name<'a>,
     mode: ElemMode,
-    pieces: &'p [Piece<'a>],
-) -> Result<(Field<'a>, &'p [Piece<'a>]), Refusal<'p, 'a>> {
+    pieces: Pieces<'p, 'a>,
+) -> Result<(Field<'a>, Pieces<'p, 'a>), Refusal<'p, 'a>> {
     let (functions, rest) = functions(alloc, names, pieces)?;
     let rest = closed(rest)?;
     Ok((
@@ -429,18 +430,18 @@ fn functions_list<'p, 'a>(
 ///
 /// ```text
 /// ensures { MatchResult result
-/// (λ r. reading.first_table (context_of names.now) (label name.entry) (mode_of mode) (map terminal pieces.now) ≡ Ok (field_of r.0 ∷ [], map terminal r.1.now))
-/// (λ e. Faults (reading.first_table (context_of names.now) (label name.entry) (mode_of mode) (map terminal pieces.now)) e) }
+/// (λ r. reading.first_table (context_of names.now) (label name.entry) (mode_of mode) (terminals_of pieces.entry) ≡ Ok (field_of r.0 ∷ [], terminals_of r.1))
+/// (λ e. Faults (reading.first_table (context_of names.now) (label name.entry) (mode_of mode) (terminals_of pieces.entry)) e) }
 /// ```
 fn first_table<'p, 'a>(
     alloc: Global,
     names: &Names<'a>,
     name: Name<'a>,
     mode: ElemMode,
-    pieces: &'p [Piece<'a>],
-) -> Result<(Field<'a>, &'p [Piece<'a>]), Refusal<'p, 'a>> {
-    match pieces {
-        [Piece::Word(_), ..] => elem_list(alloc, names, name, mode, pieces),
+    pieces: Pieces<'p, 'a>,
+) -> Result<(Field<'a>, Pieces<'p, 'a>), Refusal<'p, 'a>> {
+    match pieces.first() {
+        Some((Piece::Word(_), _)) => elem_list(alloc, names, name, mode, pieces),
         _ => functions_list(alloc, names, name, mode, pieces),
     }
 }
@@ -451,15 +452,15 @@ fn first_table<'p, 'a>(
 ///
 /// ```text
 /// ensures { MatchResult result
-/// (λ r. reading.said_table (context_of names.now) (label name.entry) (map terminal pieces.now) ≡ Ok (field_of r.0 ∷ [], map terminal r.1.now))
-/// (λ e. Faults (reading.said_table (context_of names.now) (label name.entry) (map terminal pieces.now)) e) }
+/// (λ r. reading.said_table (context_of names.now) (label name.entry) (terminals_of pieces.entry) ≡ Ok (field_of r.0 ∷ [], terminals_of r.1))
+/// (λ e. Faults (reading.said_table (context_of names.now) (label name.entry) (terminals_of pieces.entry)) e) }
 /// ```
 fn said_table<'p, 'a>(
     alloc: Global,
     names: &Names<'a>,
     name: Name<'a>,
-    pieces: &'p [Piece<'a>],
-) -> Result<(Field<'a>, &'p [Piece<'a>]), Refusal<'p, 'a>> {
+    pieces: Pieces<'p, 'a>,
+) -> Result<(Field<'a>, Pieces<'p, 'a>), Refusal<'p, 'a>> {
     let (index, rest) = used("table", &names.tables, pieces)?;
     let (offset, rest) = expression(alloc, names, "offset", rest)?;
     let mode = ElemMode::Active(Target { index, offset });
@@ -472,15 +473,15 @@ fn said_table<'p, 'a>(
 ///
 /// ```text
 /// ensures { MatchResult result
-/// (λ r. reading.active_elem (context_of names.now) (label name.entry) (reading.after (codes "table") (map terminal pieces.now)) (map terminal pieces.now) ≡ Ok (field_of r.0 ∷ [], map terminal r.1.now))
-/// (λ e. Faults (reading.active_elem (context_of names.now) (label name.entry) (reading.after (codes "table") (map terminal pieces.now)) (map terminal pieces.now)) e) }
+/// (λ r. reading.active_elem (context_of names.now) (label name.entry) (reading.after (codes "table") (terminals_of pieces.entry)) (terminals_of pieces.entry) ≡ Ok (field_of r.0 ∷ [], terminals_of r.1))
+/// (λ e. Faults (reading.active_elem (context_of names.now) (label name.entry) (reading.after (codes "table") (terminals_of pieces.entry)) (terminals_of pieces.entry)) e) }
 /// ```
 fn active_elem<'p, 'a>(
     alloc: Global,
     names: &Names<'a>,
     name: Name<'a>,
-    pieces: &'p [Piece<'a>],
-) -> Result<(Field<'a>, &'p [Piece<'a>]), Refusal<'p, 'a>> {
+    pieces: Pieces<'p, 'a>,
+) -> Result<(Field<'a>, Pieces<'p, 'a>), Refusal<'p, 'a>> {
     match after("table", pieces) {
         Some(_) => said_table(alloc, names, name, pieces),
         None => {
@@ -503,14 +504,14 @@ fn active_elem<'p, 'a>(
 ///
 /// ```text
 /// ensures { MatchResult result
-/// (λ r. reading.elem_at (context_of names.now) (label_of (map terminal pieces.now)) ≡ Ok (field_of r.0 ∷ [], map terminal r.1.now))
-/// (λ e. Faults (reading.elem_at (context_of names.now) (label_of (map terminal pieces.now))) e) }
+/// (λ r. reading.elem_at (context_of names.now) (label_of (terminals_of pieces.entry)) ≡ Ok (field_of r.0 ∷ [], terminals_of r.1))
+/// (λ e. Faults (reading.elem_at (context_of names.now) (label_of (terminals_of pieces.entry))) e) }
 /// ```
 pub(crate) fn elem_at<'p, 'a>(
     alloc: Global,
     names: &Names<'a>,
-    pieces: &'p [Piece<'a>],
-) -> Result<(Field<'a>, &'p [Piece<'a>]), Refusal<'p, 'a>> {
+    pieces: Pieces<'p, 'a>,
+) -> Result<(Field<'a>, Pieces<'p, 'a>), Refusal<'p, 'a>> {
     let (name, rest) = reading::label(pieces);
     elem_after(alloc, names, name, rest)
 }
@@ -521,18 +522,18 @@ pub(crate) fn elem_at<'p, 'a>(
 ///
 /// ```text
 /// ensures { MatchResult result
-/// (λ r. reading.elem_after (context_of names.now) (label name.entry) (map terminal pieces.now) ≡ Ok (field_of r.0 ∷ [], map terminal r.1.now))
-/// (λ e. Faults (reading.elem_after (context_of names.now) (label name.entry) (map terminal pieces.now)) e) }
+/// (λ r. reading.elem_after (context_of names.now) (label name.entry) (terminals_of pieces.entry) ≡ Ok (field_of r.0 ∷ [], terminals_of r.1))
+/// (λ e. Faults (reading.elem_after (context_of names.now) (label name.entry) (terminals_of pieces.entry)) e) }
 /// ```
 fn elem_after<'p, 'a>(
     alloc: Global,
     names: &Names<'a>,
     name: Name<'a>,
-    pieces: &'p [Piece<'a>],
-) -> Result<(Field<'a>, &'p [Piece<'a>]), Refusal<'p, 'a>> {
-    match pieces {
-        [Piece::Open, ..] => active_elem(alloc, names, name, pieces),
-        [Piece::Word(word), rest @ ..] => elem_word(alloc, names, name, *word, pieces, rest),
+    pieces: Pieces<'p, 'a>,
+) -> Result<(Field<'a>, Pieces<'p, 'a>), Refusal<'p, 'a>> {
+    match pieces.first() {
+        Some((Piece::Open, _)) => active_elem(alloc, names, name, pieces),
+        Some((Piece::Word(word), rest)) => elem_word(alloc, names, name, word, pieces, rest),
         _ => Err(Refusal::Text(Fault {
             kind: FaultKind::Unexpected,
             left: pieces,
@@ -547,17 +548,17 @@ fn elem_after<'p, 'a>(
 ///
 /// ```text
 /// ensures { MatchResult result
-/// (λ r. reading.elem_word (context_of names.now) (label name.entry) word.now (map terminal all.now) (map terminal pieces.now) ≡ Ok (field_of r.0 ∷ [], map terminal r.1.now))
-/// (λ e. Faults (reading.elem_word (context_of names.now) (label name.entry) word.now (map terminal all.now) (map terminal pieces.now)) e) }
+/// (λ r. reading.elem_word (context_of names.now) (label name.entry) word.now (terminals_of all.entry) (terminals_of pieces.entry) ≡ Ok (field_of r.0 ∷ [], terminals_of r.1))
+/// (λ e. Faults (reading.elem_word (context_of names.now) (label name.entry) word.now (terminals_of all.entry) (terminals_of pieces.entry)) e) }
 /// ```
 fn elem_word<'p, 'a>(
     alloc: Global,
     names: &Names<'a>,
     name: Name<'a>,
     word: &str,
-    all: &'p [Piece<'a>],
-    pieces: &'p [Piece<'a>],
-) -> Result<(Field<'a>, &'p [Piece<'a>]), Refusal<'p, 'a>> {
+    all: Pieces<'p, 'a>,
+    pieces: Pieces<'p, 'a>,
+) -> Result<(Field<'a>, Pieces<'p, 'a>), Refusal<'p, 'a>> {
     if word == "declare" {
         return elem_list(alloc, names, name, ElemMode::Declarative, pieces);
     }

@@ -8,6 +8,7 @@ use wat_lex::shim::alloc::{AllocError, Global};
 use core::str;
 use crate::instructions::pieces::{Fault, FaultKind, Name, Piece, Refusal, ValueType};
 use crate::instructions::reading::value_type;
+use crate::instructions::source::Pieces;
 
 /// The names under which an item is exported.
 ///
@@ -15,13 +16,13 @@ use crate::instructions::reading::value_type;
 ///
 /// ```text
 /// ensures { MatchResult result
-/// (λ r. reading.all reading.export_item (map terminal pieces.now) ≡ Ok (map text_of r.0.items, map terminal r.1.now))
-/// (λ e. Faults (reading.all reading.export_item (map terminal pieces.now)) e) }
+/// (λ r. reading.all reading.export_item (terminals_of pieces.entry) ≡ Ok (map text_of r.0.items, terminals_of r.1))
+/// (λ e. Faults (reading.all reading.export_item (terminals_of pieces.entry)) e) }
 /// ```
 pub(crate) fn exports<'p, 'a>(
     alloc: Global,
-    pieces: &'p [Piece<'a>],
-) -> Result<(Vec<&'a [u8]>, &'p [Piece<'a>]), Refusal<'p, 'a>> {
+    pieces: Pieces<'p, 'a>,
+) -> Result<(Vec<&'a [u8]>, Pieces<'p, 'a>), Refusal<'p, 'a>> {
     let mut found = Vec::new(alloc);
     let mut left = Left { pieces };
     'exports: loop {
@@ -41,15 +42,15 @@ pub(crate) fn exports<'p, 'a>(
 ///
 /// ```text
 /// ensures { MatchResult result
-/// (λ r. reading.all (reading.group_item word.now may_have_name) (map terminal pieces.now) ≡ Ok (map variable_of r.0.items, map terminal r.1.now))
-/// (λ e. Faults (reading.all (reading.group_item word.now may_have_name) (map terminal pieces.now)) e) }
+/// (λ r. reading.all (reading.group_item word.now may_have_name) (terminals_of pieces.entry) ≡ Ok (map variable_of r.0.items, terminals_of r.1))
+/// (λ e. Faults (reading.all (reading.group_item word.now may_have_name) (terminals_of pieces.entry)) e) }
 /// ```
 pub(crate) fn variables<'p, 'a>(
     alloc: Global,
     word: &str,
     may_have_name: bool,
-    pieces: &'p [Piece<'a>],
-) -> Result<(Vec<Variable<'a>>, &'p [Piece<'a>]), Refusal<'p, 'a>> {
+    pieces: Pieces<'p, 'a>,
+) -> Result<(Vec<Variable<'a>>, Pieces<'p, 'a>), Refusal<'p, 'a>> {
     let mut found = Vec::new(alloc);
     let mut left = Left { pieces };
     'groups: loop {
@@ -69,13 +70,13 @@ pub(crate) fn variables<'p, 'a>(
 ///
 /// ```text
 /// ensures { MatchResult result
-/// (λ r. reading.all reading.value_item (map terminal pieces.now) ≡ Ok (r.0.items, map terminal r.1.now))
-/// (λ e. Faults (reading.all reading.value_item (map terminal pieces.now)) e) }
+/// (λ r. reading.all reading.value_item (terminals_of pieces.entry) ≡ Ok (r.0.items, terminals_of r.1))
+/// (λ e. Faults (reading.all reading.value_item (terminals_of pieces.entry)) e) }
 /// ```
 fn values<'p, 'a>(
     alloc: Global,
-    pieces: &'p [Piece<'a>],
-) -> Result<(Vec<ValueType>, &'p [Piece<'a>]), Refusal<'p, 'a>> {
+    pieces: Pieces<'p, 'a>,
+) -> Result<(Vec<ValueType>, Pieces<'p, 'a>), Refusal<'p, 'a>> {
     let mut found = Vec::new(alloc);
     let mut left = Left { pieces };
     'values: loop {
@@ -94,11 +95,11 @@ fn values<'p, 'a>(
 /// # Proved
 ///
 /// ```text
-/// ensures { MatchOption result (reading.after word.now (map terminal pieces.now) ≡ None) (λ r. reading.after word.now (map terminal pieces.now) ≡ Some (map terminal r.now)) }
+/// ensures { MatchOption result (reading.after word.now (terminals_of pieces.entry) ≡ None) (λ r. reading.after word.now (terminals_of pieces.entry) ≡ Some (terminals_of r)) }
 /// ```
-pub(crate) fn after<'p, 'a>(word: &str, pieces: &'p [Piece<'a>]) -> Option<&'p [Piece<'a>]> {
-    match pieces {
-        [Piece::Open, rest @ ..] => after_word(word, rest),
+pub(crate) fn after<'p, 'a>(word: &str, pieces: Pieces<'p, 'a>) -> Option<Pieces<'p, 'a>> {
+    match pieces.first() {
+        Some((Piece::Open, rest)) => after_word(word, rest),
         _ => None,
     }
 }
@@ -108,12 +109,12 @@ pub(crate) fn after<'p, 'a>(word: &str, pieces: &'p [Piece<'a>]) -> Option<&'p [
 /// # Proved
 ///
 /// ```text
-/// ensures { MatchOption result (reading.after_word word.now (map terminal pieces.now) ≡ None) (λ r. reading.after_word word.now (map terminal pieces.now) ≡ Some (map terminal r.now)) }
+/// ensures { MatchOption result (reading.after_word word.now (terminals_of pieces.entry) ≡ None) (λ r. reading.after_word word.now (terminals_of pieces.entry) ≡ Some (terminals_of r)) }
 /// ```
-fn after_word<'p, 'a>(word: &str, pieces: &'p [Piece<'a>]) -> Option<&'p [Piece<'a>]> {
-    match pieces {
-        [Piece::Word(of), rest @ ..] => {
-            if *of == word {
+fn after_word<'p, 'a>(word: &str, pieces: Pieces<'p, 'a>) -> Option<Pieces<'p, 'a>> {
+    match pieces.first() {
+        Some((Piece::Word(of), rest)) => {
+            if of == word {
                 Some(rest)
             } else {
                 None
@@ -129,12 +130,12 @@ fn after_word<'p, 'a>(word: &str, pieces: &'p [Piece<'a>]) -> Option<&'p [Piece<
 ///
 /// ```text
 /// ensures { MatchResult result
-/// (λ r. reading.closed (map terminal pieces.now) ≡ Ok (map terminal r.now))
-/// (λ f. reading.closed (map terminal pieces.now) ≡ Err (fault_of f)) }
+/// (λ r. reading.closed (terminals_of pieces.entry) ≡ Ok (terminals_of r))
+/// (λ f. reading.closed (terminals_of pieces.entry) ≡ Err (fault_of f)) }
 /// ```
-pub(crate) fn closed<'p, 'a>(pieces: &'p [Piece<'a>]) -> Result<&'p [Piece<'a>], Fault<'p, 'a>> {
-    match pieces {
-        [Piece::Close, rest @ ..] => Ok(rest),
+pub(crate) fn closed<'p, 'a>(pieces: Pieces<'p, 'a>) -> Result<Pieces<'p, 'a>, Fault<'p, 'a>> {
+    match pieces.first() {
+        Some((Piece::Close, rest)) => Ok(rest),
         _ => Err(Fault {
             kind: FaultKind::Unexpected,
             left: pieces,
@@ -162,16 +163,16 @@ fn is_utf8(bytes: &[u8]) -> bool {
 ///
 /// ```text
 /// ensures { MatchResult result
-/// (λ r. reading.utf8_text (map terminal pieces.now) ≡ Ok (r.0.now, map terminal r.1.now))
-/// (λ f. reading.utf8_text (map terminal pieces.now) ≡ Err (fault_of f)) }
+/// (λ r. reading.utf8_text (terminals_of pieces.entry) ≡ Ok (r.0.now, terminals_of r.1))
+/// (λ f. reading.utf8_text (terminals_of pieces.entry) ≡ Err (fault_of f)) }
 /// ```
 pub(crate) fn utf8_text<'p, 'a>(
-    pieces: &'p [Piece<'a>],
-) -> Result<(&'a [u8], &'p [Piece<'a>]), Fault<'p, 'a>> {
-    match pieces {
-        [Piece::Text(text), rest @ ..] => {
+    pieces: Pieces<'p, 'a>,
+) -> Result<(&'a [u8], Pieces<'p, 'a>), Fault<'p, 'a>> {
+    match pieces.first() {
+        Some((Piece::Text(text), rest)) => {
             if is_utf8(text) {
-                Ok((*text, rest))
+                Ok((text, rest))
             } else {
                 Err(Fault {
                     kind: FaultKind::NotUtf8,
@@ -192,10 +193,10 @@ pub(crate) fn utf8_text<'p, 'a>(
 ///
 /// ```text
 /// ensures { MatchResult result
-/// (λ r. reading.export (map terminal pieces.now) ≡ Ok (r.0.now ∷ [], map terminal r.1.now))
-/// (λ f. reading.export (map terminal pieces.now) ≡ Err (fault_of f)) }
+/// (λ r. reading.export (terminals_of pieces.entry) ≡ Ok (r.0.now ∷ [], terminals_of r.1))
+/// (λ f. reading.export (terminals_of pieces.entry) ≡ Err (fault_of f)) }
 /// ```
-fn export<'p, 'a>(pieces: &'p [Piece<'a>]) -> Result<(&'a [u8], &'p [Piece<'a>]), Fault<'p, 'a>> {
+fn export<'p, 'a>(pieces: Pieces<'p, 'a>) -> Result<(&'a [u8], Pieces<'p, 'a>), Fault<'p, 'a>> {
     let (name, rest) = utf8_text(pieces)?;
     let rest = closed(rest)?;
     Ok((name, rest))
@@ -208,9 +209,9 @@ fn export<'p, 'a>(pieces: &'p [Piece<'a>]) -> Result<(&'a [u8], &'p [Piece<'a>])
 /// ```text
 /// ensures { MatchResult result
 /// (λ o. MatchOption o
-/// (NoItem (reading.export_item (map terminal left.entry.pieces.now)) (map text_of found.old.items) (map text_of found.new.items))
-/// (λ l. IsItem (reading.export_item (map terminal left.entry.pieces.now)) (map text_of found.old.items) (map text_of found.new.items) (map terminal l.pieces.now)))
-/// (λ e. ItemFaults (reading.export_item (map terminal left.entry.pieces.now)) e) }
+/// (NoItem (reading.export_item (terminals_of left.entry.pieces)) (map text_of found.old.items) (map text_of found.new.items))
+/// (λ l. IsItem (reading.export_item (terminals_of left.entry.pieces)) (map text_of found.old.items) (map text_of found.new.items) (terminals_of l.pieces)))
+/// (λ e. ItemFaults (reading.export_item (terminals_of left.entry.pieces)) e) }
 /// ```
 fn next_export<'p, 'a>(
     found: &mut Vec<&'a [u8]>,
@@ -233,9 +234,9 @@ fn next_export<'p, 'a>(
 /// ```text
 /// ensures { MatchResult result
 /// (λ o. MatchOption o
-/// (NoItem (reading.group_item word.now may_have_name (map terminal left.entry.pieces.now)) (map variable_of found.old.items) (map variable_of found.new.items))
-/// (λ l. IsItem (reading.group_item word.now may_have_name (map terminal left.entry.pieces.now)) (map variable_of found.old.items) (map variable_of found.new.items) (map terminal l.pieces.now)))
-/// (λ e. ItemFaults (reading.group_item word.now may_have_name (map terminal left.entry.pieces.now)) e) }
+/// (NoItem (reading.group_item word.now may_have_name (terminals_of left.entry.pieces)) (map variable_of found.old.items) (map variable_of found.new.items))
+/// (λ l. IsItem (reading.group_item word.now may_have_name (terminals_of left.entry.pieces)) (map variable_of found.old.items) (map variable_of found.new.items) (terminals_of l.pieces)))
+/// (λ e. ItemFaults (reading.group_item word.now may_have_name (terminals_of left.entry.pieces)) e) }
 /// ```
 fn next_group<'p, 'a>(
     alloc: Global,
@@ -281,16 +282,16 @@ fn put_variables<'a>(
 /// ```text
 /// ensures { MatchResult result
 /// (λ o. MatchOption o
-/// (NoItem (reading.value_item (map terminal left.entry.pieces.now)) (found.old.items) (found.new.items))
-/// (λ l. IsItem (reading.value_item (map terminal left.entry.pieces.now)) (found.old.items) (found.new.items) (map terminal l.pieces.now)))
-/// (λ e. ItemFaults (reading.value_item (map terminal left.entry.pieces.now)) e) }
+/// (NoItem (reading.value_item (terminals_of left.entry.pieces)) (found.old.items) (found.new.items))
+/// (λ l. IsItem (reading.value_item (terminals_of left.entry.pieces)) (found.old.items) (found.new.items) (terminals_of l.pieces)))
+/// (λ e. ItemFaults (reading.value_item (terminals_of left.entry.pieces)) e) }
 /// ```
 fn next_value<'p, 'a>(
     found: &mut Vec<ValueType>,
     left: Left<'p, 'a>,
 ) -> Result<Option<Left<'p, 'a>>, Refusal<'p, 'a>> {
-    match left.pieces {
-        [Piece::Word(word), pieces @ ..] => match value_type(word) {
+    match left.pieces.first() {
+        Some((Piece::Word(word), pieces)) => match value_type(word) {
             Some(of) => {
                 found.push(of)?;
                 Ok(Some(Left { pieces }))
@@ -310,18 +311,18 @@ fn next_value<'p, 'a>(
 ///
 /// ```text
 /// ensures { MatchResult result
-/// (λ r. reading.group may_have_name (map terminal pieces.now) ≡ Ok (map variable_of r.0.items, map terminal r.1.now))
-/// (λ e. Faults (reading.group may_have_name (map terminal pieces.now)) e) }
+/// (λ r. reading.group may_have_name (terminals_of pieces.entry) ≡ Ok (map variable_of r.0.items, terminals_of r.1))
+/// (λ e. Faults (reading.group may_have_name (terminals_of pieces.entry)) e) }
 /// ```
 fn group<'p, 'a>(
     alloc: Global,
     may_have_name: bool,
-    pieces: &'p [Piece<'a>],
-) -> Result<(Vec<Variable<'a>>, &'p [Piece<'a>]), Refusal<'p, 'a>> {
-    match pieces {
-        [Piece::Id(name), rest @ ..] => {
+    pieces: Pieces<'p, 'a>,
+) -> Result<(Vec<Variable<'a>>, Pieces<'p, 'a>), Refusal<'p, 'a>> {
+    match pieces.first() {
+        Some((Piece::Id(name), rest)) => {
             if may_have_name {
-                named_one(alloc, *name, rest)
+                named_one(alloc, name, rest)
             } else {
                 Err(Refusal::Text(Fault {
                     kind: FaultKind::Unexpected,
@@ -339,16 +340,16 @@ fn group<'p, 'a>(
 ///
 /// ```text
 /// ensures { MatchResult result
-/// (λ r. reading.named_one name.now (map terminal pieces.now) ≡ Ok (map variable_of r.0.items, map terminal r.1.now))
-/// (λ e. Faults (reading.named_one name.now (map terminal pieces.now)) e) }
+/// (λ r. reading.named_one name.now (terminals_of pieces.entry) ≡ Ok (map variable_of r.0.items, terminals_of r.1))
+/// (λ e. Faults (reading.named_one name.now (terminals_of pieces.entry)) e) }
 /// ```
 fn named_one<'p, 'a>(
     alloc: Global,
     name: &'a str,
-    pieces: &'p [Piece<'a>],
-) -> Result<(Vec<Variable<'a>>, &'p [Piece<'a>]), Refusal<'p, 'a>> {
-    match pieces {
-        [Piece::Word(word), rest @ ..] => match value_type(word) {
+    pieces: Pieces<'p, 'a>,
+) -> Result<(Vec<Variable<'a>>, Pieces<'p, 'a>), Refusal<'p, 'a>> {
+    match pieces.first() {
+        Some((Piece::Word(word), rest)) => match value_type(word) {
             Some(of) => named_type(alloc, name, of, rest),
             None => Err(Refusal::Text(Fault {
                 kind: FaultKind::UnknownWord,
@@ -368,15 +369,15 @@ fn named_one<'p, 'a>(
 ///
 /// ```text
 /// ensures { MatchResult result
-/// (λ r. reading.named_type name.now (Some of) (map terminal pieces.now) (map terminal pieces.now) ≡ Ok (map variable_of r.0.items, map terminal r.1.now))
-/// (λ e. Faults (reading.named_type name.now (Some of) (map terminal pieces.now) (map terminal pieces.now)) e) }
+/// (λ r. reading.named_type name.now (Some of) (terminals_of pieces.entry) (terminals_of pieces.entry) ≡ Ok (map variable_of r.0.items, terminals_of r.1))
+/// (λ e. Faults (reading.named_type name.now (Some of) (terminals_of pieces.entry) (terminals_of pieces.entry)) e) }
 /// ```
 fn named_type<'p, 'a>(
     alloc: Global,
     name: &'a str,
     of: ValueType,
-    pieces: &'p [Piece<'a>],
-) -> Result<(Vec<Variable<'a>>, &'p [Piece<'a>]), Refusal<'p, 'a>> {
+    pieces: Pieces<'p, 'a>,
+) -> Result<(Vec<Variable<'a>>, Pieces<'p, 'a>), Refusal<'p, 'a>> {
     let rest = closed(pieces)?;
     let name = Name::Given(name);
     let mut variables = Vec::new(alloc);
@@ -390,13 +391,13 @@ fn named_type<'p, 'a>(
 ///
 /// ```text
 /// ensures { MatchResult result
-/// (λ r. reading.listed (map terminal pieces.now) ≡ Ok (map variable_of r.0.items, map terminal r.1.now))
-/// (λ e. Faults (reading.listed (map terminal pieces.now)) e) }
+/// (λ r. reading.listed (terminals_of pieces.entry) ≡ Ok (map variable_of r.0.items, terminals_of r.1))
+/// (λ e. Faults (reading.listed (terminals_of pieces.entry)) e) }
 /// ```
 fn listed<'p, 'a>(
     alloc: Global,
-    pieces: &'p [Piece<'a>],
-) -> Result<(Vec<Variable<'a>>, &'p [Piece<'a>]), Refusal<'p, 'a>> {
+    pieces: Pieces<'p, 'a>,
+) -> Result<(Vec<Variable<'a>>, Pieces<'p, 'a>), Refusal<'p, 'a>> {
     let (types, rest) = values(alloc, pieces)?;
     let rest = closed(rest)?;
     let variables = unnamed(alloc, &types)?;

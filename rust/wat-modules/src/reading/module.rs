@@ -16,12 +16,13 @@ use crate::instructions::machine;
 use crate::instructions::names::IndexedNames;
 use crate::instructions::pieces::{Fault, FaultKind, Instruction, Name, Piece, Refusal};
 use crate::instructions::reading::{self, Scope};
+use crate::instructions::source::Pieces;
 use crate::instructions::types::FunctionType;
 
 /// What is left to read.
 #[derive(Clone, Copy)]
 pub(crate) struct Left<'p, 'a> {
-    pub(crate) pieces: &'p [Piece<'a>],
+    pub(crate) pieces: Pieces<'p, 'a>,
 }
 
 /// The fields of a module.
@@ -32,14 +33,14 @@ pub(crate) struct Left<'p, 'a> {
 /// # Proved
 ///
 /// ```text
-/// ensures read { IfOk result (λ fields. Module (map terminal pieces.now) (fields_of fields.items)) }
-/// ensures spelled { (fs : List grammar.Field) → Module (map terminal pieces.now) fs →
+/// ensures read { IfOk result (λ fields. Module (terminals_of pieces.entry) (fields_of fields.items)) }
+/// ensures spelled { (fs : List grammar.Field) → Module (terminals_of pieces.entry) fs →
 ///     MatchResult result (λ fields. fields_of fields.items ≡ fs) IsMemory }
-/// ensures refused { MatchResult result (λ _. Unit {0}) (λ e. Faults (reading.whole (map terminal pieces.now)) e) }
+/// ensures refused { MatchResult result (λ _. Unit {0}) (λ e. Faults (reading.whole (terminals_of pieces.entry)) e) }
 /// ```
 pub fn module<'p, 'a>(
     alloc: Global,
-    pieces: &'p [Piece<'a>],
+    pieces: Pieces<'p, 'a>,
 ) -> Result<Vec<Field<'a>>, Refusal<'p, 'a>> {
     crate::reading::laws::reading_is_grammar();
     whole(alloc, pieces)
@@ -51,13 +52,10 @@ pub fn module<'p, 'a>(
 ///
 /// ```text
 /// ensures { MatchResult result
-/// (λ fs. reading.whole (map terminal pieces.now) ≡ Ok (fields_of fs.items))
-/// (λ e. Faults (reading.whole (map terminal pieces.now)) e) }
+/// (λ fs. reading.whole (terminals_of pieces.entry) ≡ Ok (fields_of fs.items))
+/// (λ e. Faults (reading.whole (terminals_of pieces.entry)) e) }
 /// ```
-fn whole<'p, 'a>(
-    alloc: Global,
-    pieces: &'p [Piece<'a>],
-) -> Result<Vec<Field<'a>>, Refusal<'p, 'a>> {
+fn whole<'p, 'a>(alloc: Global, pieces: Pieces<'p, 'a>) -> Result<Vec<Field<'a>>, Refusal<'p, 'a>> {
     match after("module", pieces) {
         Some(rest) => {
             let (_, rest) = reading::label(rest);
@@ -73,13 +71,13 @@ fn whole<'p, 'a>(
 ///
 /// ```text
 /// ensures { MatchResult result
-/// (λ fs. reading.fields_at enclosed (map terminal pieces.now) ≡ Ok (fields_of fs.items))
-/// (λ e. Faults (reading.fields_at enclosed (map terminal pieces.now)) e) }
+/// (λ fs. reading.fields_at enclosed (terminals_of pieces.entry) ≡ Ok (fields_of fs.items))
+/// (λ e. Faults (reading.fields_at enclosed (terminals_of pieces.entry)) e) }
 /// ```
 fn module_fields<'p, 'a>(
     alloc: Global,
     enclosed: bool,
-    pieces: &'p [Piece<'a>],
+    pieces: Pieces<'p, 'a>,
 ) -> Result<Vec<Field<'a>>, Refusal<'p, 'a>> {
     let Some(names) = names_of(alloc, pieces)? else {
         return Err(Refusal::Text(Fault {
@@ -100,15 +98,15 @@ fn module_fields<'p, 'a>(
 ///
 /// ```text
 /// ensures { (ss : List (List Terminal)) → types_of names.entry ≡ reading.defined_types ss → context_of names.entry ≡ reading.context_by ss (reading.defined_types ss) → MatchResult result
-/// (λ fs. reading.fields_again enclosed ss (map terminal pieces.now) (fault_of fault.entry) (reading.all_by ss (unknown (reading.defined_types ss)) (map terminal pieces.now)) ≡ Ok (fields_of fs.items))
-/// (λ e. Faults (reading.fields_again enclosed ss (map terminal pieces.now) (fault_of fault.entry) (reading.all_by ss (unknown (reading.defined_types ss)) (map terminal pieces.now))) e) }
+/// (λ fs. reading.fields_again enclosed ss (terminals_of pieces.entry) (fault_of fault.entry) (reading.all_by ss (unknown (reading.defined_types ss)) (terminals_of pieces.entry)) ≡ Ok (fields_of fs.items))
+/// (λ e. Faults (reading.fields_again enclosed ss (terminals_of pieces.entry) (fault_of fault.entry) (reading.all_by ss (unknown (reading.defined_types ss)) (terminals_of pieces.entry))) e) }
 /// ```
 fn fields_again<'p, 'a>(
     alloc: Global,
     enclosed: bool,
     names: Names<'a>,
     fault: Fault<'p, 'a>,
-    pieces: &'p [Piece<'a>],
+    pieces: Pieces<'p, 'a>,
 ) -> Result<Vec<Field<'a>>, Refusal<'p, 'a>> {
     let names = without_types(alloc, names);
     match types_without(alloc, &names, pieces) {
@@ -127,13 +125,13 @@ fn fields_again<'p, 'a>(
 ///
 /// ```text
 /// ensures { MatchResult result
-/// (λ types. (fs : List grammar.Field) × (us : List Terminal) × (reading.all (reading.field_item (types_of names.now) (context_of names.now)) (map terminal pieces.now) ≡ Ok (fs, us)) × (map type_of types.items ≡ implicit.types_of fs))
-/// (λ e. Faults (reading.all (reading.field_item (types_of names.now) (context_of names.now)) (map terminal pieces.now)) e) }
+/// (λ types. (fs : List grammar.Field) × (us : List Terminal) × (reading.all (reading.field_item (types_of names.now) (context_of names.now)) (terminals_of pieces.entry) ≡ Ok (fs, us)) × (map type_of types.items ≡ implicit.types_of fs))
+/// (λ e. Faults (reading.all (reading.field_item (types_of names.now) (context_of names.now)) (terminals_of pieces.entry)) e) }
 /// ```
 fn types_without<'p, 'a>(
     alloc: Global,
     names: &Names<'a>,
-    pieces: &'p [Piece<'a>],
+    pieces: Pieces<'p, 'a>,
 ) -> Result<Vec<FunctionType>, Refusal<'p, 'a>> {
     let (fields, _) = fields(alloc, names, pieces)?;
     let types = implicit_types::types_of(alloc, &fields)?;
@@ -160,14 +158,14 @@ fn first_fault<'p, 'a>(fault: Fault<'p, 'a>, other: Fault<'p, 'a>) -> Fault<'p, 
 ///
 /// ```text
 /// ensures { MatchResult result
-/// (λ fs. reading.ordered (map terminal pieces.now) (reading.ended_by enclosed (reading.all (reading.field_item (types_of names.now) (context_of names.now)) (map terminal pieces.now))) ≡ Ok (fields_of fs.items))
-/// (λ e. Faults (reading.ordered (map terminal pieces.now) (reading.ended_by enclosed (reading.all (reading.field_item (types_of names.now) (context_of names.now)) (map terminal pieces.now)))) e) }
+/// (λ fs. reading.ordered (terminals_of pieces.entry) (reading.ended_by enclosed (reading.all (reading.field_item (types_of names.now) (context_of names.now)) (terminals_of pieces.entry))) ≡ Ok (fields_of fs.items))
+/// (λ e. Faults (reading.ordered (terminals_of pieces.entry) (reading.ended_by enclosed (reading.all (reading.field_item (types_of names.now) (context_of names.now)) (terminals_of pieces.entry)))) e) }
 /// ```
 fn fields_by<'p, 'a>(
     alloc: Global,
     enclosed: bool,
     names: &Names<'a>,
-    pieces: &'p [Piece<'a>],
+    pieces: Pieces<'p, 'a>,
 ) -> Result<Vec<Field<'a>>, Refusal<'p, 'a>> {
     let (fields, rest) = fields(alloc, names, pieces)?;
     ended_by(enclosed, rest)?;
@@ -192,10 +190,10 @@ fn fields_by<'p, 'a>(
 ///
 /// ```text
 /// ensures { MatchResult result
-/// (λ _. (fs : List grammar.Field) → reading.ended_by enclosed (Ok (fs, map terminal pieces.now)) ≡ Ok fs)
-/// (λ f. (fs : List grammar.Field) → reading.ended_by enclosed (Ok (fs, map terminal pieces.now)) ≡ Err (fault_of f)) }
+/// (λ _. (fs : List grammar.Field) → reading.ended_by enclosed (Ok (fs, terminals_of pieces.entry)) ≡ Ok fs)
+/// (λ f. (fs : List grammar.Field) → reading.ended_by enclosed (Ok (fs, terminals_of pieces.entry)) ≡ Err (fault_of f)) }
 /// ```
-fn ended_by<'p, 'a>(enclosed: bool, pieces: &'p [Piece<'a>]) -> Result<(), Fault<'p, 'a>> {
+fn ended_by<'p, 'a>(enclosed: bool, pieces: Pieces<'p, 'a>) -> Result<(), Fault<'p, 'a>> {
     if enclosed {
         ended(pieces)
     } else {
@@ -209,16 +207,12 @@ fn ended_by<'p, 'a>(enclosed: bool, pieces: &'p [Piece<'a>]) -> Result<(), Fault
 ///
 /// ```text
 /// ensures { MatchResult result
-/// (λ _. (fs : List grammar.Field) → reading.ended (Ok (fs, map terminal pieces.now)) ≡ Ok fs)
-/// (λ f. (fs : List grammar.Field) → reading.ended (Ok (fs, map terminal pieces.now)) ≡ Err (fault_of f)) }
+/// (λ _. (fs : List grammar.Field) → reading.ended (Ok (fs, terminals_of pieces.entry)) ≡ Ok fs)
+/// (λ f. (fs : List grammar.Field) → reading.ended (Ok (fs, terminals_of pieces.entry)) ≡ Err (fault_of f)) }
 /// ```
-fn ended<'p, 'a>(pieces: &'p [Piece<'a>]) -> Result<(), Fault<'p, 'a>> {
-    match pieces {
-        [Piece::Close] => Ok(()),
-        [Piece::Close, left @ ..] => Err(Fault {
-            kind: FaultKind::Unexpected,
-            left: left,
-        }),
+fn ended<'p, 'a>(pieces: Pieces<'p, 'a>) -> Result<(), Fault<'p, 'a>> {
+    match pieces.first() {
+        Some((Piece::Close, rest)) => at_end(rest),
         _ => Err(Fault {
             kind: FaultKind::Unexpected,
             left: pieces,
@@ -232,13 +226,13 @@ fn ended<'p, 'a>(pieces: &'p [Piece<'a>]) -> Result<(), Fault<'p, 'a>> {
 ///
 /// ```text
 /// ensures { MatchResult result
-/// (λ _. (fs : List grammar.Field) → reading.at_end (Ok (fs, map terminal pieces.now)) ≡ Ok fs)
-/// (λ f. (fs : List grammar.Field) → reading.at_end (Ok (fs, map terminal pieces.now)) ≡ Err (fault_of f)) }
+/// (λ _. (fs : List grammar.Field) → reading.at_end (Ok (fs, terminals_of pieces.entry)) ≡ Ok fs)
+/// (λ f. (fs : List grammar.Field) → reading.at_end (Ok (fs, terminals_of pieces.entry)) ≡ Err (fault_of f)) }
 /// ```
-fn at_end<'p, 'a>(pieces: &'p [Piece<'a>]) -> Result<(), Fault<'p, 'a>> {
-    match pieces {
-        [] => Ok(()),
-        [_, ..] => Err(Fault {
+fn at_end<'p, 'a>(pieces: Pieces<'p, 'a>) -> Result<(), Fault<'p, 'a>> {
+    match pieces.first() {
+        None => Ok(()),
+        Some(_) => Err(Fault {
             kind: FaultKind::Unexpected,
             left: pieces,
         }),
@@ -319,14 +313,14 @@ fn starts(fields: &[Field<'_>]) -> usize {
 ///
 /// ```text
 /// ensures { MatchResult result
-/// (λ r. reading.all (reading.field_item (types_of names.now) (context_of names.now)) (map terminal pieces.now) ≡ Ok (fields_of r.0.items, map terminal r.1.now))
-/// (λ e. Faults (reading.all (reading.field_item (types_of names.now) (context_of names.now)) (map terminal pieces.now)) e) }
+/// (λ r. reading.all (reading.field_item (types_of names.now) (context_of names.now)) (terminals_of pieces.entry) ≡ Ok (fields_of r.0.items, terminals_of r.1))
+/// (λ e. Faults (reading.all (reading.field_item (types_of names.now) (context_of names.now)) (terminals_of pieces.entry)) e) }
 /// ```
 fn fields<'p, 'a>(
     alloc: Global,
     names: &Names<'a>,
-    pieces: &'p [Piece<'a>],
-) -> Result<(Vec<Field<'a>>, &'p [Piece<'a>]), Refusal<'p, 'a>> {
+    pieces: Pieces<'p, 'a>,
+) -> Result<(Vec<Field<'a>>, Pieces<'p, 'a>), Refusal<'p, 'a>> {
     crate::instructions::laws::machine_is_grammar();
     crate::instructions::laws::folded_is_grammar();
     crate::instructions::laws::instructions_are_balanced();
@@ -350,9 +344,9 @@ fn fields<'p, 'a>(
 /// ```text
 /// ensures { MatchResult result
 /// (λ o. MatchOption o
-/// (NoItem (reading.field_item (types_of names.now) (context_of names.now) (map terminal left.entry.pieces.now)) (map field_of found.old.items) (map field_of found.new.items))
-/// (λ l. IsItem (reading.field_item (types_of names.now) (context_of names.now) (map terminal left.entry.pieces.now)) (map field_of found.old.items) (map field_of found.new.items) (map terminal l.pieces.now)))
-/// (λ e. ItemFaults (reading.field_item (types_of names.now) (context_of names.now) (map terminal left.entry.pieces.now)) e) }
+/// (NoItem (reading.field_item (types_of names.now) (context_of names.now) (terminals_of left.entry.pieces)) (map field_of found.old.items) (map field_of found.new.items))
+/// (λ l. IsItem (reading.field_item (types_of names.now) (context_of names.now) (terminals_of left.entry.pieces)) (map field_of found.old.items) (map field_of found.new.items) (terminals_of l.pieces)))
+/// (λ e. ItemFaults (reading.field_item (types_of names.now) (context_of names.now) (terminals_of left.entry.pieces)) e) }
 /// ```
 fn next_field<'p, 'a>(
     alloc: Global,
@@ -360,8 +354,8 @@ fn next_field<'p, 'a>(
     found: &mut Vec<Field<'a>>,
     left: Left<'p, 'a>,
 ) -> Result<Option<Left<'p, 'a>>, Refusal<'p, 'a>> {
-    match left.pieces {
-        [Piece::Open, rest @ ..] => match field_at(alloc, names, rest) {
+    match left.pieces.first() {
+        Some((Piece::Open, rest)) => match field_at(alloc, names, rest) {
             Ok((field, pieces)) => {
                 found.push(field)?;
                 Ok(Some(Left { pieces }))
@@ -378,16 +372,16 @@ fn next_field<'p, 'a>(
 ///
 /// ```text
 /// ensures { MatchResult result
-/// (λ r. reading.field (types_of names.now) (context_of names.now) (map terminal pieces.now) ≡ Ok (field_of r.0 ∷ [], map terminal r.1.now))
-/// (λ e. Faults (reading.field (types_of names.now) (context_of names.now) (map terminal pieces.now)) e) }
+/// (λ r. reading.field (types_of names.now) (context_of names.now) (terminals_of pieces.entry) ≡ Ok (field_of r.0 ∷ [], terminals_of r.1))
+/// (λ e. Faults (reading.field (types_of names.now) (context_of names.now) (terminals_of pieces.entry)) e) }
 /// ```
 fn field_at<'p, 'a>(
     alloc: Global,
     names: &Names<'a>,
-    pieces: &'p [Piece<'a>],
-) -> Result<(Field<'a>, &'p [Piece<'a>]), Refusal<'p, 'a>> {
-    match pieces {
-        [Piece::Word(word), rest @ ..] => field_after(alloc, names, *word, pieces, rest),
+    pieces: Pieces<'p, 'a>,
+) -> Result<(Field<'a>, Pieces<'p, 'a>), Refusal<'p, 'a>> {
+    match pieces.first() {
+        Some((Piece::Word(word), rest)) => field_after(alloc, names, word, pieces, rest),
         _ => Err(Refusal::Text(Fault {
             kind: FaultKind::Unexpected,
             left: pieces,
@@ -401,16 +395,16 @@ fn field_at<'p, 'a>(
 ///
 /// ```text
 /// ensures { MatchResult result
-/// (λ r. reading.field_by (types_of names.now) (context_of names.now) (grammar.space_of word.now) word.now (map terminal all.now) (map terminal pieces.now) ≡ Ok (field_of r.0 ∷ [], map terminal r.1.now))
-/// (λ e. Faults (reading.field_by (types_of names.now) (context_of names.now) (grammar.space_of word.now) word.now (map terminal all.now) (map terminal pieces.now)) e) }
+/// (λ r. reading.field_by (types_of names.now) (context_of names.now) (grammar.space_of word.now) word.now (terminals_of all.entry) (terminals_of pieces.entry) ≡ Ok (field_of r.0 ∷ [], terminals_of r.1))
+/// (λ e. Faults (reading.field_by (types_of names.now) (context_of names.now) (grammar.space_of word.now) word.now (terminals_of all.entry) (terminals_of pieces.entry)) e) }
 /// ```
 fn field_after<'p, 'a>(
     alloc: Global,
     names: &Names<'a>,
     word: &str,
-    all: &'p [Piece<'a>],
-    pieces: &'p [Piece<'a>],
-) -> Result<(Field<'a>, &'p [Piece<'a>]), Refusal<'p, 'a>> {
+    all: Pieces<'p, 'a>,
+    pieces: Pieces<'p, 'a>,
+) -> Result<(Field<'a>, Pieces<'p, 'a>), Refusal<'p, 'a>> {
     match space_of(word) {
         Some(space) => item(alloc, names, space, pieces),
         None => other(alloc, names, word, all, pieces),
@@ -423,15 +417,15 @@ fn field_after<'p, 'a>(
 ///
 /// ```text
 /// ensures { MatchResult result
-/// (λ r. reading.item_at (types_of names.now) (context_of names.now) space (label_of (map terminal pieces.now)) ≡ Ok (field_of r.0 ∷ [], map terminal r.1.now))
-/// (λ e. Faults (reading.item_at (types_of names.now) (context_of names.now) space (label_of (map terminal pieces.now))) e) }
+/// (λ r. reading.item_at (types_of names.now) (context_of names.now) space (label_of (terminals_of pieces.entry)) ≡ Ok (field_of r.0 ∷ [], terminals_of r.1))
+/// (λ e. Faults (reading.item_at (types_of names.now) (context_of names.now) space (label_of (terminals_of pieces.entry))) e) }
 /// ```
 fn item<'p, 'a>(
     alloc: Global,
     names: &Names<'a>,
     space: IndexSpace,
-    pieces: &'p [Piece<'a>],
-) -> Result<(Field<'a>, &'p [Piece<'a>]), Refusal<'p, 'a>> {
+    pieces: Pieces<'p, 'a>,
+) -> Result<(Field<'a>, Pieces<'p, 'a>), Refusal<'p, 'a>> {
     let (name, rest) = reading::label(pieces);
     let (exports, rest) = exports(alloc, rest)?;
     match after("import", rest) {
@@ -446,8 +440,8 @@ fn item<'p, 'a>(
 ///
 /// ```text
 /// ensures { MatchResult result
-/// (λ r. reading.defined (types_of names.now) (context_of names.now) space (label name.entry) (map text_of exports.entry.items) (map terminal pieces.now) ≡ Ok (field_of r.0 ∷ [], map terminal r.1.now))
-/// (λ e. Faults (reading.defined (types_of names.now) (context_of names.now) space (label name.entry) (map text_of exports.entry.items) (map terminal pieces.now)) e) }
+/// (λ r. reading.defined (types_of names.now) (context_of names.now) space (label name.entry) (map text_of exports.entry.items) (terminals_of pieces.entry) ≡ Ok (field_of r.0 ∷ [], terminals_of r.1))
+/// (λ e. Faults (reading.defined (types_of names.now) (context_of names.now) space (label name.entry) (map text_of exports.entry.items) (terminals_of pieces.entry)) e) }
 /// ```
 fn defined<'p, 'a>(
     alloc: Global,
@@ -455,8 +449,8 @@ fn defined<'p, 'a>(
     space: IndexSpace,
     name: Name<'a>,
     exports: Vec<&'a [u8]>,
-    pieces: &'p [Piece<'a>],
-) -> Result<(Field<'a>, &'p [Piece<'a>]), Refusal<'p, 'a>> {
+    pieces: Pieces<'p, 'a>,
+) -> Result<(Field<'a>, Pieces<'p, 'a>), Refusal<'p, 'a>> {
     match space {
         IndexSpace::Func => func(alloc, names, name, exports, pieces),
         IndexSpace::Table => table_at(alloc, names, name, exports, pieces),
@@ -471,16 +465,16 @@ fn defined<'p, 'a>(
 ///
 /// ```text
 /// ensures { MatchResult result
-/// (λ r. reading.func_at (types_of names.now) (context_of names.now) (label name.entry) (map text_of exports.entry.items) (map terminal pieces.now) ≡ Ok (field_of r.0 ∷ [], map terminal r.1.now))
-/// (λ e. Faults (reading.func_at (types_of names.now) (context_of names.now) (label name.entry) (map text_of exports.entry.items) (map terminal pieces.now)) e) }
+/// (λ r. reading.func_at (types_of names.now) (context_of names.now) (label name.entry) (map text_of exports.entry.items) (terminals_of pieces.entry) ≡ Ok (field_of r.0 ∷ [], terminals_of r.1))
+/// (λ e. Faults (reading.func_at (types_of names.now) (context_of names.now) (label name.entry) (map text_of exports.entry.items) (terminals_of pieces.entry)) e) }
 /// ```
 fn func<'p, 'a>(
     alloc: Global,
     names: &Names<'a>,
     name: Name<'a>,
     exports: Vec<&'a [u8]>,
-    pieces: &'p [Piece<'a>],
-) -> Result<(Field<'a>, &'p [Piece<'a>]), Refusal<'p, 'a>> {
+    pieces: Pieces<'p, 'a>,
+) -> Result<(Field<'a>, Pieces<'p, 'a>), Refusal<'p, 'a>> {
     let (uses, rest) = type_use(alloc, names, pieces)?;
     let (locals, rest) = variables(alloc, "local", true, rest)?;
     let (body, rest) = instructions(alloc, names, &uses.params, &locals, rest)?;
@@ -504,16 +498,16 @@ fn func<'p, 'a>(
 ///
 /// ```text
 /// ensures { MatchResult result
-/// (λ r. reading.global_at (context_of names.now) (label name.entry) (map text_of exports.entry.items) (map terminal pieces.now) ≡ Ok (field_of r.0 ∷ [], map terminal r.1.now))
-/// (λ e. Faults (reading.global_at (context_of names.now) (label name.entry) (map text_of exports.entry.items) (map terminal pieces.now)) e) }
+/// (λ r. reading.global_at (context_of names.now) (label name.entry) (map text_of exports.entry.items) (terminals_of pieces.entry) ≡ Ok (field_of r.0 ∷ [], terminals_of r.1))
+/// (λ e. Faults (reading.global_at (context_of names.now) (label name.entry) (map text_of exports.entry.items) (terminals_of pieces.entry)) e) }
 /// ```
 fn global<'p, 'a>(
     alloc: Global,
     names: &Names<'a>,
     name: Name<'a>,
     exports: Vec<&'a [u8]>,
-    pieces: &'p [Piece<'a>],
-) -> Result<(Field<'a>, &'p [Piece<'a>]), Refusal<'p, 'a>> {
+    pieces: Pieces<'p, 'a>,
+) -> Result<(Field<'a>, Pieces<'p, 'a>), Refusal<'p, 'a>> {
     let (of, rest) = global_type(pieces)?;
     let locals = IndexedNames::none(alloc);
     let scope = scope(names, &locals);
@@ -535,12 +529,12 @@ fn global<'p, 'a>(
 ///
 /// ```text
 /// ensures { MatchResult result
-/// (λ r. reading.import_names (map terminal pieces.now) ≡ Ok ((r.0.0.now, r.0.1.now), map terminal r.1.now))
-/// (λ f. reading.import_names (map terminal pieces.now) ≡ Err (fault_of f)) }
+/// (λ r. reading.import_names (terminals_of pieces.entry) ≡ Ok ((r.0.0.now, r.0.1.now), terminals_of r.1))
+/// (λ f. reading.import_names (terminals_of pieces.entry) ≡ Err (fault_of f)) }
 /// ```
 fn import_names<'p, 'a>(
-    pieces: &'p [Piece<'a>],
-) -> Result<((&'a [u8], &'a [u8]), &'p [Piece<'a>]), Fault<'p, 'a>> {
+    pieces: Pieces<'p, 'a>,
+) -> Result<((&'a [u8], &'a [u8]), Pieces<'p, 'a>), Fault<'p, 'a>> {
     let (from, rest) = utf8_text(pieces)?;
     let (item, rest) = utf8_text(rest)?;
     Ok(((from, item), rest))
@@ -552,15 +546,15 @@ fn import_names<'p, 'a>(
 ///
 /// ```text
 /// ensures { MatchResult result
-/// (λ r. reading.extern_at (types_of names.now) space (map terminal pieces.now) ≡ Ok (extern_of r.0, map terminal r.1.now))
-/// (λ e. Faults (reading.extern_at (types_of names.now) space (map terminal pieces.now)) e) }
+/// (λ r. reading.extern_at (types_of names.now) space (terminals_of pieces.entry) ≡ Ok (extern_of r.0, terminals_of r.1))
+/// (λ e. Faults (reading.extern_at (types_of names.now) space (terminals_of pieces.entry)) e) }
 /// ```
 fn extern_type<'p, 'a>(
     alloc: Global,
     names: &Names<'a>,
     space: IndexSpace,
-    pieces: &'p [Piece<'a>],
-) -> Result<(ExternType, &'p [Piece<'a>]), Refusal<'p, 'a>> {
+    pieces: Pieces<'p, 'a>,
+) -> Result<(ExternType, Pieces<'p, 'a>), Refusal<'p, 'a>> {
     match space {
         IndexSpace::Func => {
             let (uses, rest) = type_use(alloc, names, pieces)?;
@@ -587,15 +581,15 @@ fn extern_type<'p, 'a>(
 ///
 /// ```text
 /// ensures { MatchResult result
-/// (λ r. reading.func_type (use_of uses.entry) (map terminal all.now) (map terminal rest.now) ≡ Ok (extern_of r.0, map terminal r.1.now))
-/// (λ e. Faults (reading.func_type (use_of uses.entry) (map terminal all.now) (map terminal rest.now)) e) }
+/// (λ r. reading.func_type (use_of uses.entry) (terminals_of all.entry) (terminals_of rest.entry) ≡ Ok (extern_of r.0, terminals_of r.1))
+/// (λ e. Faults (reading.func_type (use_of uses.entry) (terminals_of all.entry) (terminals_of rest.entry)) e) }
 /// ```
 fn func_type<'p, 'a>(
     alloc: Global,
     uses: NamedUse<'a>,
-    all: &'p [Piece<'a>],
-    rest: &'p [Piece<'a>],
-) -> Result<(ExternType, &'p [Piece<'a>]), Refusal<'p, 'a>> {
+    all: Pieces<'p, 'a>,
+    rest: Pieces<'p, 'a>,
+) -> Result<(ExternType, Pieces<'p, 'a>), Refusal<'p, 'a>> {
     if variable_names(alloc, &uses.params, &[])?.is_none() {
         return Err(Refusal::Text(Fault {
             kind: FaultKind::Duplicate,
@@ -612,8 +606,8 @@ fn func_type<'p, 'a>(
 ///
 /// ```text
 /// ensures { MatchResult result
-/// (λ r. reading.inline_import (types_of names.now) space (label name.entry) (map text_of exports.entry.items) (map terminal pieces.now) ≡ Ok (field_of r.0 ∷ [], map terminal r.1.now))
-/// (λ e. Faults (reading.inline_import (types_of names.now) space (label name.entry) (map text_of exports.entry.items) (map terminal pieces.now)) e) }
+/// (λ r. reading.inline_import (types_of names.now) space (label name.entry) (map text_of exports.entry.items) (terminals_of pieces.entry) ≡ Ok (field_of r.0 ∷ [], terminals_of r.1))
+/// (λ e. Faults (reading.inline_import (types_of names.now) space (label name.entry) (map text_of exports.entry.items) (terminals_of pieces.entry)) e) }
 /// ```
 fn inline_import<'p, 'a>(
     alloc: Global,
@@ -621,8 +615,8 @@ fn inline_import<'p, 'a>(
     space: IndexSpace,
     name: Name<'a>,
     exports: Vec<&'a [u8]>,
-    pieces: &'p [Piece<'a>],
-) -> Result<(Field<'a>, &'p [Piece<'a>]), Refusal<'p, 'a>> {
+    pieces: Pieces<'p, 'a>,
+) -> Result<(Field<'a>, Pieces<'p, 'a>), Refusal<'p, 'a>> {
     let ((from, item), rest) = import_names(pieces)?;
     let rest = closed(rest)?;
     let (what, rest) = extern_type(alloc, names, space, rest)?;
@@ -646,16 +640,16 @@ fn inline_import<'p, 'a>(
 ///
 /// ```text
 /// ensures { MatchResult result
-/// (λ r. reading.other_at (types_of names.now) (context_of names.now) word.now (map terminal all.now) (map terminal pieces.now) ≡ Ok (field_of r.0 ∷ [], map terminal r.1.now))
-/// (λ e. Faults (reading.other_at (types_of names.now) (context_of names.now) word.now (map terminal all.now) (map terminal pieces.now)) e) }
+/// (λ r. reading.other_at (types_of names.now) (context_of names.now) word.now (terminals_of all.entry) (terminals_of pieces.entry) ≡ Ok (field_of r.0 ∷ [], terminals_of r.1))
+/// (λ e. Faults (reading.other_at (types_of names.now) (context_of names.now) word.now (terminals_of all.entry) (terminals_of pieces.entry)) e) }
 /// ```
 fn other<'p, 'a>(
     alloc: Global,
     names: &Names<'a>,
     word: &str,
-    all: &'p [Piece<'a>],
-    pieces: &'p [Piece<'a>],
-) -> Result<(Field<'a>, &'p [Piece<'a>]), Refusal<'p, 'a>> {
+    all: Pieces<'p, 'a>,
+    pieces: Pieces<'p, 'a>,
+) -> Result<(Field<'a>, Pieces<'p, 'a>), Refusal<'p, 'a>> {
     if word == "type" {
         return type_field(alloc, pieces);
     }
@@ -677,13 +671,13 @@ fn other<'p, 'a>(
 ///
 /// ```text
 /// ensures { MatchResult result
-/// (λ r. reading.type_field (map terminal pieces.now) ≡ Ok (field_of r.0 ∷ [], map terminal r.1.now))
-/// (λ e. Faults (reading.type_field (map terminal pieces.now)) e) }
+/// (λ r. reading.type_field (terminals_of pieces.entry) ≡ Ok (field_of r.0 ∷ [], terminals_of r.1))
+/// (λ e. Faults (reading.type_field (terminals_of pieces.entry)) e) }
 /// ```
 fn type_field<'p, 'a>(
     alloc: Global,
-    pieces: &'p [Piece<'a>],
-) -> Result<(Field<'a>, &'p [Piece<'a>]), Refusal<'p, 'a>> {
+    pieces: Pieces<'p, 'a>,
+) -> Result<(Field<'a>, Pieces<'p, 'a>), Refusal<'p, 'a>> {
     let (definition, rest) = type_at(alloc, pieces)?;
     Ok((Field::Type(definition), rest))
 }
@@ -694,14 +688,14 @@ fn type_field<'p, 'a>(
 ///
 /// ```text
 /// ensures { MatchResult result
-/// (λ r. reading.import_at (types_of names.now) (map terminal pieces.now) ≡ Ok (field_of r.0 ∷ [], map terminal r.1.now))
-/// (λ e. Faults (reading.import_at (types_of names.now) (map terminal pieces.now)) e) }
+/// (λ r. reading.import_at (types_of names.now) (terminals_of pieces.entry) ≡ Ok (field_of r.0 ∷ [], terminals_of r.1))
+/// (λ e. Faults (reading.import_at (types_of names.now) (terminals_of pieces.entry)) e) }
 /// ```
 fn import_at<'p, 'a>(
     alloc: Global,
     names: &Names<'a>,
-    pieces: &'p [Piece<'a>],
-) -> Result<(Field<'a>, &'p [Piece<'a>]), Refusal<'p, 'a>> {
+    pieces: Pieces<'p, 'a>,
+) -> Result<(Field<'a>, Pieces<'p, 'a>), Refusal<'p, 'a>> {
     let ((from, item), rest) = import_names(pieces)?;
     import_open(alloc, names, from, item, rest)
 }
@@ -712,18 +706,18 @@ fn import_at<'p, 'a>(
 ///
 /// ```text
 /// ensures { MatchResult result
-/// (λ r. reading.import_open (types_of names.now) (from.now, item.now) (map terminal pieces.now) ≡ Ok (field_of r.0 ∷ [], map terminal r.1.now))
-/// (λ e. Faults (reading.import_open (types_of names.now) (from.now, item.now) (map terminal pieces.now)) e) }
+/// (λ r. reading.import_open (types_of names.now) (from.now, item.now) (terminals_of pieces.entry) ≡ Ok (field_of r.0 ∷ [], terminals_of r.1))
+/// (λ e. Faults (reading.import_open (types_of names.now) (from.now, item.now) (terminals_of pieces.entry)) e) }
 /// ```
 fn import_open<'p, 'a>(
     alloc: Global,
     names: &Names<'a>,
     from: &'a [u8],
     item: &'a [u8],
-    pieces: &'p [Piece<'a>],
-) -> Result<(Field<'a>, &'p [Piece<'a>]), Refusal<'p, 'a>> {
-    match pieces {
-        [Piece::Open, rest @ ..] => import_word(alloc, names, from, item, rest),
+    pieces: Pieces<'p, 'a>,
+) -> Result<(Field<'a>, Pieces<'p, 'a>), Refusal<'p, 'a>> {
+    match pieces.first() {
+        Some((Piece::Open, rest)) => import_word(alloc, names, from, item, rest),
         _ => Err(Refusal::Text(Fault {
             kind: FaultKind::Unexpected,
             left: pieces,
@@ -737,18 +731,18 @@ fn import_open<'p, 'a>(
 ///
 /// ```text
 /// ensures { MatchResult result
-/// (λ r. reading.import_word (types_of names.now) (from.now, item.now) (map terminal pieces.now) ≡ Ok (field_of r.0 ∷ [], map terminal r.1.now))
-/// (λ e. Faults (reading.import_word (types_of names.now) (from.now, item.now) (map terminal pieces.now)) e) }
+/// (λ r. reading.import_word (types_of names.now) (from.now, item.now) (terminals_of pieces.entry) ≡ Ok (field_of r.0 ∷ [], terminals_of r.1))
+/// (λ e. Faults (reading.import_word (types_of names.now) (from.now, item.now) (terminals_of pieces.entry)) e) }
 /// ```
 fn import_word<'p, 'a>(
     alloc: Global,
     names: &Names<'a>,
     from: &'a [u8],
     item: &'a [u8],
-    pieces: &'p [Piece<'a>],
-) -> Result<(Field<'a>, &'p [Piece<'a>]), Refusal<'p, 'a>> {
-    match pieces {
-        [Piece::Word(word), rest @ ..] => match space_of(word) {
+    pieces: Pieces<'p, 'a>,
+) -> Result<(Field<'a>, Pieces<'p, 'a>), Refusal<'p, 'a>> {
+    match pieces.first() {
+        Some((Piece::Word(word), rest)) => match space_of(word) {
             Some(space) => import_item(alloc, names, from, item, space, rest),
             None => Err(Refusal::Text(Fault {
                 kind: FaultKind::UnknownWord,
@@ -768,8 +762,8 @@ fn import_word<'p, 'a>(
 ///
 /// ```text
 /// ensures { MatchResult result
-/// (λ r. reading.extern_after (types_of names.now) (from.now, item.now) space (label_of (map terminal pieces.now)) ≡ Ok (field_of r.0 ∷ [], map terminal r.1.now))
-/// (λ e. Faults (reading.extern_after (types_of names.now) (from.now, item.now) space (label_of (map terminal pieces.now))) e) }
+/// (λ r. reading.extern_after (types_of names.now) (from.now, item.now) space (label_of (terminals_of pieces.entry)) ≡ Ok (field_of r.0 ∷ [], terminals_of r.1))
+/// (λ e. Faults (reading.extern_after (types_of names.now) (from.now, item.now) space (label_of (terminals_of pieces.entry))) e) }
 /// ```
 fn import_item<'p, 'a>(
     alloc: Global,
@@ -777,8 +771,8 @@ fn import_item<'p, 'a>(
     from: &'a [u8],
     item: &'a [u8],
     space: IndexSpace,
-    pieces: &'p [Piece<'a>],
-) -> Result<(Field<'a>, &'p [Piece<'a>]), Refusal<'p, 'a>> {
+    pieces: Pieces<'p, 'a>,
+) -> Result<(Field<'a>, Pieces<'p, 'a>), Refusal<'p, 'a>> {
     let (name, rest) = reading::label(pieces);
     let (what, rest) = extern_type(alloc, names, space, rest)?;
     let rest = twice_closed(rest)?;
@@ -801,13 +795,13 @@ fn import_item<'p, 'a>(
 ///
 /// ```text
 /// ensures { MatchResult result
-/// (λ r. reading.export_at (context_of names.now) (map terminal pieces.now) ≡ Ok (field_of r.0 ∷ [], map terminal r.1.now))
-/// (λ f. reading.export_at (context_of names.now) (map terminal pieces.now) ≡ Err (fault_of f)) }
+/// (λ r. reading.export_at (context_of names.now) (terminals_of pieces.entry) ≡ Ok (field_of r.0 ∷ [], terminals_of r.1))
+/// (λ f. reading.export_at (context_of names.now) (terminals_of pieces.entry) ≡ Err (fault_of f)) }
 /// ```
 fn export_at<'p, 'a>(
     names: &Names<'a>,
-    pieces: &'p [Piece<'a>],
-) -> Result<(Field<'a>, &'p [Piece<'a>]), Fault<'p, 'a>> {
+    pieces: Pieces<'p, 'a>,
+) -> Result<(Field<'a>, Pieces<'p, 'a>), Fault<'p, 'a>> {
     let (name, rest) = utf8_text(pieces)?;
     external(names, name, rest)
 }
@@ -818,16 +812,16 @@ fn export_at<'p, 'a>(
 ///
 /// ```text
 /// ensures { MatchResult result
-/// (λ r. reading.external_at (context_of names.now) name.now (map terminal pieces.now) ≡ Ok (field_of r.0 ∷ [], map terminal r.1.now))
-/// (λ f. reading.external_at (context_of names.now) name.now (map terminal pieces.now) ≡ Err (fault_of f)) }
+/// (λ r. reading.external_at (context_of names.now) name.now (terminals_of pieces.entry) ≡ Ok (field_of r.0 ∷ [], terminals_of r.1))
+/// (λ f. reading.external_at (context_of names.now) name.now (terminals_of pieces.entry) ≡ Err (fault_of f)) }
 /// ```
 fn external<'p, 'a>(
     names: &Names<'a>,
     name: &'a [u8],
-    pieces: &'p [Piece<'a>],
-) -> Result<(Field<'a>, &'p [Piece<'a>]), Fault<'p, 'a>> {
-    match pieces {
-        [Piece::Open, rest @ ..] => external_word(names, name, rest),
+    pieces: Pieces<'p, 'a>,
+) -> Result<(Field<'a>, Pieces<'p, 'a>), Fault<'p, 'a>> {
+    match pieces.first() {
+        Some((Piece::Open, rest)) => external_word(names, name, rest),
         _ => Err(Fault {
             kind: FaultKind::Unexpected,
             left: pieces,
@@ -841,16 +835,16 @@ fn external<'p, 'a>(
 ///
 /// ```text
 /// ensures { MatchResult result
-/// (λ r. reading.external_word (context_of names.now) name.now (map terminal pieces.now) ≡ Ok (field_of r.0 ∷ [], map terminal r.1.now))
-/// (λ f. reading.external_word (context_of names.now) name.now (map terminal pieces.now) ≡ Err (fault_of f)) }
+/// (λ r. reading.external_word (context_of names.now) name.now (terminals_of pieces.entry) ≡ Ok (field_of r.0 ∷ [], terminals_of r.1))
+/// (λ f. reading.external_word (context_of names.now) name.now (terminals_of pieces.entry) ≡ Err (fault_of f)) }
 /// ```
 fn external_word<'p, 'a>(
     names: &Names<'a>,
     name: &'a [u8],
-    pieces: &'p [Piece<'a>],
-) -> Result<(Field<'a>, &'p [Piece<'a>]), Fault<'p, 'a>> {
-    match pieces {
-        [Piece::Word(word), rest @ ..] => match space_of(word) {
+    pieces: Pieces<'p, 'a>,
+) -> Result<(Field<'a>, Pieces<'p, 'a>), Fault<'p, 'a>> {
+    match pieces.first() {
+        Some((Piece::Word(word), rest)) => match space_of(word) {
             Some(space) => external_index(names, name, space, rest),
             None => Err(Fault {
                 kind: FaultKind::UnknownWord,
@@ -870,15 +864,15 @@ fn external_word<'p, 'a>(
 ///
 /// ```text
 /// ensures { MatchResult result
-/// (λ r. reading.external_by (context_of names.now) name.now (Some space) (map terminal pieces.now) (map terminal pieces.now) ≡ Ok (field_of r.0 ∷ [], map terminal r.1.now))
-/// (λ f. reading.external_by (context_of names.now) name.now (Some space) (map terminal pieces.now) (map terminal pieces.now) ≡ Err (fault_of f)) }
+/// (λ r. reading.external_by (context_of names.now) name.now (Some space) (terminals_of pieces.entry) (terminals_of pieces.entry) ≡ Ok (field_of r.0 ∷ [], terminals_of r.1))
+/// (λ f. reading.external_by (context_of names.now) name.now (Some space) (terminals_of pieces.entry) (terminals_of pieces.entry) ≡ Err (fault_of f)) }
 /// ```
 fn external_index<'p, 'a>(
     names: &Names<'a>,
     name: &'a [u8],
     space: IndexSpace,
-    pieces: &'p [Piece<'a>],
-) -> Result<(Field<'a>, &'p [Piece<'a>]), Fault<'p, 'a>> {
+    pieces: Pieces<'p, 'a>,
+) -> Result<(Field<'a>, Pieces<'p, 'a>), Fault<'p, 'a>> {
     let (index, rest) = reading::index(names_in(names, space), pieces)?;
     let rest = twice_closed(rest)?;
     Ok((Field::Export(Export { name, space, index }), rest))
@@ -890,13 +884,13 @@ fn external_index<'p, 'a>(
 ///
 /// ```text
 /// ensures { MatchResult result
-/// (λ r. reading.start_at (context_of names.now) (map terminal pieces.now) ≡ Ok (field_of r.0 ∷ [], map terminal r.1.now))
-/// (λ f. reading.start_at (context_of names.now) (map terminal pieces.now) ≡ Err (fault_of f)) }
+/// (λ r. reading.start_at (context_of names.now) (terminals_of pieces.entry) ≡ Ok (field_of r.0 ∷ [], terminals_of r.1))
+/// (λ f. reading.start_at (context_of names.now) (terminals_of pieces.entry) ≡ Err (fault_of f)) }
 /// ```
 fn start_at<'p, 'a>(
     names: &Names<'a>,
-    pieces: &'p [Piece<'a>],
-) -> Result<(Field<'a>, &'p [Piece<'a>]), Fault<'p, 'a>> {
+    pieces: Pieces<'p, 'a>,
+) -> Result<(Field<'a>, Pieces<'p, 'a>), Fault<'p, 'a>> {
     let (index, rest) = reading::index(&names.funcs, pieces)?;
     let rest = closed(rest)?;
     Ok((Field::Start(index), rest))
@@ -930,16 +924,16 @@ pub(crate) fn scope<'s, 'n>(names: &'s Names<'n>, locals: &'s IndexedNames<'n>) 
 ///
 /// ```text
 /// ensures { MatchResult result
-/// (λ r. reading.instructions (context_of names.now) (map variable_of params.now) (map variable_of locals.now) (map terminal pieces.now) ≡ Ok (r.0.items, map terminal r.1.now))
-/// (λ e. Faults (reading.instructions (context_of names.now) (map variable_of params.now) (map variable_of locals.now) (map terminal pieces.now)) e) }
+/// (λ r. reading.instructions (context_of names.now) (map variable_of params.now) (map variable_of locals.now) (terminals_of pieces.entry) ≡ Ok (r.0.items, terminals_of r.1))
+/// (λ e. Faults (reading.instructions (context_of names.now) (map variable_of params.now) (map variable_of locals.now) (terminals_of pieces.entry)) e) }
 /// ```
 fn instructions<'p, 'a>(
     alloc: Global,
     names: &Names<'a>,
     params: &[Variable<'a>],
     locals: &[Variable<'a>],
-    pieces: &'p [Piece<'a>],
-) -> Result<(Vec<Instruction>, &'p [Piece<'a>]), Refusal<'p, 'a>> {
+    pieces: Pieces<'p, 'a>,
+) -> Result<(Vec<Instruction>, Pieces<'p, 'a>), Refusal<'p, 'a>> {
     let Some(locals) = variable_names(alloc, params, locals)? else {
         return Err(Refusal::Text(Fault {
             kind: FaultKind::Duplicate,

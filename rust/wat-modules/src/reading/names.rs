@@ -12,6 +12,7 @@ use crate::fields::fields::{Definition, IndexSpace};
 use crate::instructions::names::IndexedNames;
 use crate::instructions::pieces::{Name, Piece, Refusal};
 use crate::instructions::reading::label;
+use crate::instructions::source::Pieces;
 use crate::instructions::types::FunctionType;
 
 /// Where a token is: before a `(` of a field, and in a field, in so many groups more.
@@ -48,13 +49,13 @@ pub(crate) struct Names<'a> {
 /// # Proved
 ///
 /// ```text
-/// ensures context { IfOk result (λ found. IfSome found (λ names. context_of names ≡ reading.context_by (reading.starts reading.Before [] (map terminal pieces.now)) (reading.defined_types (reading.starts reading.Before [] (map terminal pieces.now))))) }
-/// ensures types { IfOk result (λ found. IfSome found (λ names. types_of names ≡ reading.defined_types (reading.starts reading.Before [] (map terminal pieces.now)))) }
-/// ensures distinct { IfOk result (λ found. is_some found ≡ all_distinct (reading.defined_types (reading.starts reading.Before [] (map terminal pieces.now))) (reading.context_by (reading.starts reading.Before [] (map terminal pieces.now)) (reading.defined_types (reading.starts reading.Before [] (map terminal pieces.now))))) }
+/// ensures context { IfOk result (λ found. IfSome found (λ names. context_of names ≡ reading.context_by (reading.starts reading.Before [] (terminals_of pieces.entry)) (reading.defined_types (reading.starts reading.Before [] (terminals_of pieces.entry))))) }
+/// ensures types { IfOk result (λ found. IfSome found (λ names. types_of names ≡ reading.defined_types (reading.starts reading.Before [] (terminals_of pieces.entry)))) }
+/// ensures distinct { IfOk result (λ found. is_some found ≡ all_distinct (reading.defined_types (reading.starts reading.Before [] (terminals_of pieces.entry))) (reading.context_by (reading.starts reading.Before [] (terminals_of pieces.entry)) (reading.defined_types (reading.starts reading.Before [] (terminals_of pieces.entry))))) }
 /// ```
 pub(crate) fn names_of<'p, 'a>(
     alloc: Global,
-    pieces: &'p [Piece<'a>],
+    pieces: Pieces<'p, 'a>,
 ) -> Result<Option<Names<'a>>, AllocError> {
     let starts = starts(alloc, pieces)?;
     let bindings = bindings(alloc, &starts)?;
@@ -185,18 +186,19 @@ pub(crate) fn names_in<'s, 'a>(names: &'s Names<'a>, space: IndexSpace) -> &'s I
 /// # Proved
 ///
 /// ```text
-/// ensures { IfOk result (λ starts. map left_of starts.items ≡ reading.starts reading.Before [] (map terminal pieces.now)) }
+/// ensures { IfOk result (λ starts. map left_of starts.items ≡ reading.starts reading.Before [] (terminals_of pieces.entry)) }
 /// ```
-fn starts<'p, 'a>(alloc: Global, pieces: &'p [Piece<'a>]) -> Result<Vec<Left<'p, 'a>>, AllocError> {
+fn starts<'p, 'a>(alloc: Global, pieces: Pieces<'p, 'a>) -> Result<Vec<Left<'p, 'a>>, AllocError> {
     let mut starts = Vec::new(alloc);
     let mut depth = Depth::Before;
-    for (i, piece) in pieces.iter().enumerate() {
+    let _count = pieces.len();
+    let mut left = Left { pieces };
+    while let Some((piece, rest)) = left.pieces.first() {
+        left = Left { pieces: rest };
         match depth {
-            Depth::Before => match *piece {
+            Depth::Before => match piece {
                 Piece::Open => {
-                    starts.push(Left {
-                        pieces: &pieces[i + 1..],
-                    })?;
+                    starts.push(left)?;
                     depth = Depth::Inside(0);
                 }
                 Piece::Close
@@ -204,17 +206,17 @@ fn starts<'p, 'a>(alloc: Global, pieces: &'p [Piece<'a>]) -> Result<Vec<Left<'p,
                 | Piece::Id(_)
                 | Piece::Integer(_, _)
                 | Piece::Text(_)
-                | Piece::Float(_, _)
+                | Piece::Float(_)
                 | Piece::Other => return Ok(starts),
             },
-            Depth::Inside(open) => match *piece {
+            Depth::Inside(open) => match piece {
                 Piece::Open => depth = Depth::Inside(open + 1),
                 Piece::Close => depth = closed(open),
                 Piece::Word(_)
                 | Piece::Id(_)
                 | Piece::Integer(_, _)
                 | Piece::Text(_)
-                | Piece::Float(_, _)
+                | Piece::Float(_)
                 | Piece::Other => {}
             },
         }
@@ -247,12 +249,12 @@ fn bindings<'p, 'a>(
 /// # Proved
 ///
 /// ```text
-/// ensures { MatchOption result (reading.binding_at (map terminal pieces.now) ≡ []) (λ b. reading.binding_at (map terminal pieces.now) ≡ binding_of b ∷ []) }
+/// ensures { MatchOption result (reading.binding_at (terminals_of pieces.entry) ≡ []) (λ b. reading.binding_at (terminals_of pieces.entry) ≡ binding_of b ∷ []) }
 /// ```
-fn binding_at<'a>(pieces: &[Piece<'a>]) -> Option<Binding<'a>> {
-    match pieces {
-        [Piece::Word(word), rest @ ..] => {
-            if *word == "import" {
+fn binding_at<'a>(pieces: Pieces<'_, 'a>) -> Option<Binding<'a>> {
+    match pieces.first() {
+        Some((Piece::Word(word), rest)) => {
+            if word == "import" {
                 import_binding(rest)
             } else {
                 binding_named(space_of(word), rest)
@@ -267,9 +269,9 @@ fn binding_at<'a>(pieces: &[Piece<'a>]) -> Option<Binding<'a>> {
 /// # Proved
 ///
 /// ```text
-/// ensures { MatchOption result (reading.binding_by space (label_of (map terminal pieces.now)).0 ≡ []) (λ b. reading.binding_by space (label_of (map terminal pieces.now)).0 ≡ binding_of b ∷ []) }
+/// ensures { MatchOption result (reading.binding_by space (label_of (terminals_of pieces.entry)).0 ≡ []) (λ b. reading.binding_by space (label_of (terminals_of pieces.entry)).0 ≡ binding_of b ∷ []) }
 /// ```
-fn binding_named<'a>(space: Option<IndexSpace>, pieces: &[Piece<'a>]) -> Option<Binding<'a>> {
+fn binding_named<'a>(space: Option<IndexSpace>, pieces: Pieces<'_, 'a>) -> Option<Binding<'a>> {
     match space {
         Some(space) => {
             let (name, _) = label(pieces);
@@ -284,11 +286,11 @@ fn binding_named<'a>(space: Option<IndexSpace>, pieces: &[Piece<'a>]) -> Option<
 /// # Proved
 ///
 /// ```text
-/// ensures { MatchOption result (reading.import_binding (map terminal pieces.now) ≡ []) (λ b. reading.import_binding (map terminal pieces.now) ≡ binding_of b ∷ []) }
+/// ensures { MatchOption result (reading.import_binding (terminals_of pieces.entry) ≡ []) (λ b. reading.import_binding (terminals_of pieces.entry) ≡ binding_of b ∷ []) }
 /// ```
-fn import_binding<'a>(pieces: &[Piece<'a>]) -> Option<Binding<'a>> {
-    match pieces {
-        [Piece::Text(_), rest @ ..] => text_binding(rest),
+fn import_binding<'a>(pieces: Pieces<'_, 'a>) -> Option<Binding<'a>> {
+    match pieces.first() {
+        Some((Piece::Text(_), rest)) => text_binding(rest),
         _ => None,
     }
 }
@@ -298,11 +300,11 @@ fn import_binding<'a>(pieces: &[Piece<'a>]) -> Option<Binding<'a>> {
 /// # Proved
 ///
 /// ```text
-/// ensures { MatchOption result (reading.text_binding (map terminal pieces.now) ≡ []) (λ b. reading.text_binding (map terminal pieces.now) ≡ binding_of b ∷ []) }
+/// ensures { MatchOption result (reading.text_binding (terminals_of pieces.entry) ≡ []) (λ b. reading.text_binding (terminals_of pieces.entry) ≡ binding_of b ∷ []) }
 /// ```
-fn text_binding<'a>(pieces: &[Piece<'a>]) -> Option<Binding<'a>> {
-    match pieces {
-        [Piece::Text(_), rest @ ..] => open_binding(rest),
+fn text_binding<'a>(pieces: Pieces<'_, 'a>) -> Option<Binding<'a>> {
+    match pieces.first() {
+        Some((Piece::Text(_), rest)) => open_binding(rest),
         _ => None,
     }
 }
@@ -312,11 +314,11 @@ fn text_binding<'a>(pieces: &[Piece<'a>]) -> Option<Binding<'a>> {
 /// # Proved
 ///
 /// ```text
-/// ensures { MatchOption result (reading.open_binding (map terminal pieces.now) ≡ []) (λ b. reading.open_binding (map terminal pieces.now) ≡ binding_of b ∷ []) }
+/// ensures { MatchOption result (reading.open_binding (terminals_of pieces.entry) ≡ []) (λ b. reading.open_binding (terminals_of pieces.entry) ≡ binding_of b ∷ []) }
 /// ```
-fn open_binding<'a>(pieces: &[Piece<'a>]) -> Option<Binding<'a>> {
-    match pieces {
-        [Piece::Open, rest @ ..] => word_binding(rest),
+fn open_binding<'a>(pieces: Pieces<'_, 'a>) -> Option<Binding<'a>> {
+    match pieces.first() {
+        Some((Piece::Open, rest)) => word_binding(rest),
         _ => None,
     }
 }
@@ -326,11 +328,11 @@ fn open_binding<'a>(pieces: &[Piece<'a>]) -> Option<Binding<'a>> {
 /// # Proved
 ///
 /// ```text
-/// ensures { MatchOption result (reading.word_binding (map terminal pieces.now) ≡ []) (λ b. reading.word_binding (map terminal pieces.now) ≡ binding_of b ∷ []) }
+/// ensures { MatchOption result (reading.word_binding (terminals_of pieces.entry) ≡ []) (λ b. reading.word_binding (terminals_of pieces.entry) ≡ binding_of b ∷ []) }
 /// ```
-fn word_binding<'a>(pieces: &[Piece<'a>]) -> Option<Binding<'a>> {
-    match pieces {
-        [Piece::Word(word), rest @ ..] => binding_named(space_of(word), rest),
+fn word_binding<'a>(pieces: Pieces<'_, 'a>) -> Option<Binding<'a>> {
+    match pieces.first() {
+        Some((Piece::Word(word), rest)) => binding_named(space_of(word), rest),
         _ => None,
     }
 }
@@ -357,19 +359,19 @@ fn data_names<'p, 'a>(alloc: Global, starts: &[Left<'p, 'a>]) -> Result<Vec<Name
 /// # Proved
 ///
 /// ```text
-/// ensures { IfOk result (λ o. MatchOption o (reading.data_name_at (map terminal pieces.now) ≡ []) (λ n. reading.data_name_at (map terminal pieces.now) ≡ label n ∷ [])) }
+/// ensures { IfOk result (λ o. MatchOption o (reading.data_name_at (terminals_of pieces.entry) ≡ []) (λ n. reading.data_name_at (terminals_of pieces.entry) ≡ label n ∷ [])) }
 /// ```
 fn data_name_at<'p, 'a>(
     alloc: Global,
-    pieces: &'p [Piece<'a>],
+    pieces: Pieces<'p, 'a>,
 ) -> Result<Option<Name<'a>>, AllocError> {
-    match pieces {
-        [Piece::Word(word), rest @ ..] => {
+    match pieces.first() {
+        Some((Piece::Word(word), rest)) => {
             let (name, rest) = label(rest);
-            if *word == "data" {
+            if word == "data" {
                 return Ok(Some(name));
             }
-            if *word == "memory" {
+            if word == "memory" {
                 return inline_data(alloc, rest);
             }
             Ok(None)
@@ -383,11 +385,11 @@ fn data_name_at<'p, 'a>(
 /// # Proved
 ///
 /// ```text
-/// ensures { IfOk result (λ o. MatchOption o (reading.inline_data (reading.all reading.export_item (map terminal pieces.now)) ≡ []) (λ n. reading.inline_data (reading.all reading.export_item (map terminal pieces.now)) ≡ label n ∷ [])) }
+/// ensures { IfOk result (λ o. MatchOption o (reading.inline_data (reading.all reading.export_item (terminals_of pieces.entry)) ≡ []) (λ n. reading.inline_data (reading.all reading.export_item (terminals_of pieces.entry)) ≡ label n ∷ [])) }
 /// ```
 fn inline_data<'p, 'a>(
     alloc: Global,
-    pieces: &'p [Piece<'a>],
+    pieces: Pieces<'p, 'a>,
 ) -> Result<Option<Name<'a>>, AllocError> {
     match exports(alloc, pieces) {
         Ok((_, rest)) => match after("data", rest) {
@@ -421,19 +423,19 @@ fn elem_names<'p, 'a>(alloc: Global, starts: &[Left<'p, 'a>]) -> Result<Vec<Name
 /// # Proved
 ///
 /// ```text
-/// ensures { IfOk result (λ o. MatchOption o (reading.elem_name_at (map terminal pieces.now) ≡ []) (λ n. reading.elem_name_at (map terminal pieces.now) ≡ label n ∷ [])) }
+/// ensures { IfOk result (λ o. MatchOption o (reading.elem_name_at (terminals_of pieces.entry) ≡ []) (λ n. reading.elem_name_at (terminals_of pieces.entry) ≡ label n ∷ [])) }
 /// ```
 fn elem_name_at<'p, 'a>(
     alloc: Global,
-    pieces: &'p [Piece<'a>],
+    pieces: Pieces<'p, 'a>,
 ) -> Result<Option<Name<'a>>, AllocError> {
-    match pieces {
-        [Piece::Word(word), rest @ ..] => {
+    match pieces.first() {
+        Some((Piece::Word(word), rest)) => {
             let (name, rest) = label(rest);
-            if *word == "elem" {
+            if word == "elem" {
                 return Ok(Some(name));
             }
-            if *word == "table" {
+            if word == "table" {
                 return inline_elem(alloc, rest);
             }
             Ok(None)
@@ -447,11 +449,11 @@ fn elem_name_at<'p, 'a>(
 /// # Proved
 ///
 /// ```text
-/// ensures { IfOk result (λ o. MatchOption o (reading.inline_elem (reading.all reading.export_item (map terminal pieces.now)) ≡ []) (λ n. reading.inline_elem (reading.all reading.export_item (map terminal pieces.now)) ≡ label n ∷ [])) }
+/// ensures { IfOk result (λ o. MatchOption o (reading.inline_elem (reading.all reading.export_item (terminals_of pieces.entry)) ≡ []) (λ n. reading.inline_elem (reading.all reading.export_item (terminals_of pieces.entry)) ≡ label n ∷ [])) }
 /// ```
 fn inline_elem<'p, 'a>(
     alloc: Global,
-    pieces: &'p [Piece<'a>],
+    pieces: Pieces<'p, 'a>,
 ) -> Result<Option<Name<'a>>, AllocError> {
     match exports(alloc, pieces) {
         Ok((_, rest)) => Ok(elem_after_type(rest)),
@@ -465,11 +467,11 @@ fn inline_elem<'p, 'a>(
 /// # Proved
 ///
 /// ```text
-/// ensures { MatchOption result (reading.elem_after_type (map terminal pieces.now) ≡ []) (λ n. reading.elem_after_type (map terminal pieces.now) ≡ label n ∷ []) }
+/// ensures { MatchOption result (reading.elem_after_type (terminals_of pieces.entry) ≡ []) (λ n. reading.elem_after_type (terminals_of pieces.entry) ≡ label n ∷ []) }
 /// ```
-fn elem_after_type<'a>(pieces: &[Piece<'a>]) -> Option<Name<'a>> {
-    match pieces {
-        [Piece::Word(_), rest @ ..] => match after("elem", rest) {
+fn elem_after_type<'a>(pieces: Pieces<'_, 'a>) -> Option<Name<'a>> {
+    match pieces.first() {
+        Some((Piece::Word(_), rest)) => match after("elem", rest) {
             Some(_) => Some(Name::Absent),
             None => None,
         },
@@ -505,15 +507,15 @@ fn definitions<'p, 'a>(
 /// # Proved
 ///
 /// ```text
-/// ensures { IfOk result (λ o. MatchOption o (reading.definition_at (map terminal pieces.now) ≡ []) (λ d. reading.definition_at (map terminal pieces.now) ≡ definition_of d ∷ [])) }
+/// ensures { IfOk result (λ o. MatchOption o (reading.definition_at (terminals_of pieces.entry) ≡ []) (λ d. reading.definition_at (terminals_of pieces.entry) ≡ definition_of d ∷ [])) }
 /// ```
 fn definition_at<'p, 'a>(
     alloc: Global,
-    pieces: &'p [Piece<'a>],
+    pieces: Pieces<'p, 'a>,
 ) -> Result<Option<Definition<'a>>, AllocError> {
-    match pieces {
-        [Piece::Word(word), rest @ ..] => {
-            if *word == "type" {
+    match pieces.first() {
+        Some((Piece::Word(word), rest)) => {
+            if word == "type" {
                 definition_after(alloc, rest)
             } else {
                 Ok(None)
@@ -528,11 +530,11 @@ fn definition_at<'p, 'a>(
 /// # Proved
 ///
 /// ```text
-/// ensures { IfOk result (λ o. MatchOption o (reading.definition_by (reading.type_at (map terminal pieces.now)) ≡ []) (λ d. reading.definition_by (reading.type_at (map terminal pieces.now)) ≡ definition_of d ∷ [])) }
+/// ensures { IfOk result (λ o. MatchOption o (reading.definition_by (reading.type_at (terminals_of pieces.entry)) ≡ []) (λ d. reading.definition_by (reading.type_at (terminals_of pieces.entry)) ≡ definition_of d ∷ [])) }
 /// ```
 fn definition_after<'p, 'a>(
     alloc: Global,
-    pieces: &'p [Piece<'a>],
+    pieces: Pieces<'p, 'a>,
 ) -> Result<Option<Definition<'a>>, AllocError> {
     match type_at(alloc, pieces) {
         Ok((definition, _)) => Ok(Some(definition)),

@@ -12,6 +12,7 @@ use crate::fields::fields::{Data, Field, Limits, Memory, Target};
 use crate::fields::strings::len_of;
 use crate::instructions::names::IndexedNames;
 use crate::instructions::pieces::{Fault, FaultKind, Instruction, Name, Piece, Refusal};
+use crate::instructions::source::Pieces;
 use crate::instructions::{machine, reading};
 
 /// The bytes of a page of a memory.
@@ -23,13 +24,13 @@ const PAGE: usize = 0x1_0000;
 ///
 /// ```text
 /// ensures { MatchResult result
-/// (λ r. reading.all reading.string_item (map terminal pieces.now) ≡ Ok (together r.0.items, map terminal r.1.now))
-/// (λ e. Faults (reading.all reading.string_item (map terminal pieces.now)) e) }
+/// (λ r. reading.all reading.string_item (terminals_of pieces.entry) ≡ Ok (together r.0.items, terminals_of r.1))
+/// (λ e. Faults (reading.all reading.string_item (terminals_of pieces.entry)) e) }
 /// ```
 fn strings<'p, 'a>(
     alloc: Global,
-    pieces: &'p [Piece<'a>],
-) -> Result<(Vec<&'a [u8]>, &'p [Piece<'a>]), Refusal<'p, 'a>> {
+    pieces: Pieces<'p, 'a>,
+) -> Result<(Vec<&'a [u8]>, Pieces<'p, 'a>), Refusal<'p, 'a>> {
     let mut found = Vec::new(alloc);
     let mut left = Left { pieces };
     'strings: loop {
@@ -50,17 +51,17 @@ fn strings<'p, 'a>(
 /// ```text
 /// ensures { MatchResult result
 /// (λ o. MatchOption o
-/// (NoItem (reading.string_item (map terminal left.entry.pieces.now)) (together found.old.items) (together found.new.items))
-/// (λ l. IsItem (reading.string_item (map terminal left.entry.pieces.now)) (together found.old.items) (together found.new.items) (map terminal l.pieces.now)))
-/// (λ e. ItemFaults (reading.string_item (map terminal left.entry.pieces.now)) e) }
+/// (NoItem (reading.string_item (terminals_of left.entry.pieces)) (together found.old.items) (together found.new.items))
+/// (λ l. IsItem (reading.string_item (terminals_of left.entry.pieces)) (together found.old.items) (together found.new.items) (terminals_of l.pieces)))
+/// (λ e. ItemFaults (reading.string_item (terminals_of left.entry.pieces)) e) }
 /// ```
 fn next_string<'p, 'a>(
     found: &mut Vec<&'a [u8]>,
     left: Left<'p, 'a>,
 ) -> Result<Option<Left<'p, 'a>>, Refusal<'p, 'a>> {
-    match left.pieces {
-        [Piece::Text(text), pieces @ ..] => {
-            found.push(*text)?;
+    match left.pieces.first() {
+        Some((Piece::Text(text), pieces)) => {
+            found.push(text)?;
             Ok(Some(Left { pieces }))
         }
         _ => Ok(None),
@@ -73,15 +74,15 @@ fn next_string<'p, 'a>(
 ///
 /// ```text
 /// ensures { MatchResult result
-/// (λ r. reading.memory_at (label name.entry) (map text_of exports.entry.items) (map terminal pieces.now) ≡ Ok (field_of r.0 ∷ [], map terminal r.1.now))
-/// (λ e. Faults (reading.memory_at (label name.entry) (map text_of exports.entry.items) (map terminal pieces.now)) e) }
+/// (λ r. reading.memory_at (label name.entry) (map text_of exports.entry.items) (terminals_of pieces.entry) ≡ Ok (field_of r.0 ∷ [], terminals_of r.1))
+/// (λ e. Faults (reading.memory_at (label name.entry) (map text_of exports.entry.items) (terminals_of pieces.entry)) e) }
 /// ```
 pub(crate) fn memory_at<'p, 'a>(
     alloc: Global,
     name: Name<'a>,
     exports: Vec<&'a [u8]>,
-    pieces: &'p [Piece<'a>],
-) -> Result<(Field<'a>, &'p [Piece<'a>]), Refusal<'p, 'a>> {
+    pieces: Pieces<'p, 'a>,
+) -> Result<(Field<'a>, Pieces<'p, 'a>), Refusal<'p, 'a>> {
     match after("data", pieces) {
         Some(rest) => memory_data(alloc, name, exports, rest),
         None => Ok(memory_type(name, exports, pieces)?),
@@ -94,14 +95,14 @@ pub(crate) fn memory_at<'p, 'a>(
 ///
 /// ```text
 /// ensures { MatchResult result
-/// (λ r. reading.memory_type (label name.entry) (map text_of exports.entry.items) (map terminal pieces.now) ≡ Ok (field_of r.0 ∷ [], map terminal r.1.now))
-/// (λ f. reading.memory_type (label name.entry) (map text_of exports.entry.items) (map terminal pieces.now) ≡ Err (fault_of f)) }
+/// (λ r. reading.memory_type (label name.entry) (map text_of exports.entry.items) (terminals_of pieces.entry) ≡ Ok (field_of r.0 ∷ [], terminals_of r.1))
+/// (λ f. reading.memory_type (label name.entry) (map text_of exports.entry.items) (terminals_of pieces.entry) ≡ Err (fault_of f)) }
 /// ```
 fn memory_type<'p, 'a>(
     name: Name<'a>,
     exports: Vec<&'a [u8]>,
-    pieces: &'p [Piece<'a>],
-) -> Result<(Field<'a>, &'p [Piece<'a>]), Fault<'p, 'a>> {
+    pieces: Pieces<'p, 'a>,
+) -> Result<(Field<'a>, Pieces<'p, 'a>), Fault<'p, 'a>> {
     let (limits, rest) = limits(pieces)?;
     let rest = closed(rest)?;
     Ok((
@@ -121,15 +122,15 @@ fn memory_type<'p, 'a>(
 ///
 /// ```text
 /// ensures { MatchResult result
-/// (λ r. reading.memory_data (label name.entry) (map text_of exports.entry.items) (map terminal pieces.now) ≡ Ok (field_of r.0 ∷ [], map terminal r.1.now))
-/// (λ e. Faults (reading.memory_data (label name.entry) (map text_of exports.entry.items) (map terminal pieces.now)) e) }
+/// (λ r. reading.memory_data (label name.entry) (map text_of exports.entry.items) (terminals_of pieces.entry) ≡ Ok (field_of r.0 ∷ [], terminals_of r.1))
+/// (λ e. Faults (reading.memory_data (label name.entry) (map text_of exports.entry.items) (terminals_of pieces.entry)) e) }
 /// ```
 fn memory_data<'p, 'a>(
     alloc: Global,
     name: Name<'a>,
     exports: Vec<&'a [u8]>,
-    pieces: &'p [Piece<'a>],
-) -> Result<(Field<'a>, &'p [Piece<'a>]), Refusal<'p, 'a>> {
+    pieces: Pieces<'p, 'a>,
+) -> Result<(Field<'a>, Pieces<'p, 'a>), Refusal<'p, 'a>> {
     let (strings, rest) = strings(alloc, pieces)?;
     let rest = twice_closed(rest)?;
     memory_of(name, exports, pieces, strings, rest)
@@ -141,16 +142,16 @@ fn memory_data<'p, 'a>(
 ///
 /// ```text
 /// ensures { MatchResult result
-/// (λ r. reading.memory_of (label name.entry) (map text_of exports.entry.items) (map terminal all.now) (together strings.entry.items) (map terminal rest.now) ≡ Ok (field_of r.0 ∷ [], map terminal r.1.now))
-/// (λ e. Faults (reading.memory_of (label name.entry) (map text_of exports.entry.items) (map terminal all.now) (together strings.entry.items) (map terminal rest.now)) e) }
+/// (λ r. reading.memory_of (label name.entry) (map text_of exports.entry.items) (terminals_of all.entry) (together strings.entry.items) (terminals_of rest.entry) ≡ Ok (field_of r.0 ∷ [], terminals_of r.1))
+/// (λ e. Faults (reading.memory_of (label name.entry) (map text_of exports.entry.items) (terminals_of all.entry) (together strings.entry.items) (terminals_of rest.entry)) e) }
 /// ```
 fn memory_of<'p, 'a>(
     name: Name<'a>,
     exports: Vec<&'a [u8]>,
-    all: &'p [Piece<'a>],
+    all: Pieces<'p, 'a>,
     strings: Vec<&'a [u8]>,
-    rest: &'p [Piece<'a>],
-) -> Result<(Field<'a>, &'p [Piece<'a>]), Refusal<'p, 'a>> {
+    rest: Pieces<'p, 'a>,
+) -> Result<(Field<'a>, Pieces<'p, 'a>), Refusal<'p, 'a>> {
     let pages = pages_of(&strings)?;
     if pages >= 0x1_0000_0000 {
         return Err(Refusal::Text(Fault {
@@ -190,14 +191,14 @@ fn pages_of(strings: &[&[u8]]) -> Result<usize, AllocError> {
 ///
 /// ```text
 /// ensures { MatchResult result
-/// (λ r. reading.used_at word.now names.now (map terminal pieces.now) ≡ Ok (r.0, map terminal r.1.now))
-/// (λ f. reading.used_at word.now names.now (map terminal pieces.now) ≡ Err (fault_of f)) }
+/// (λ r. reading.used_at word.now names.now (terminals_of pieces.entry) ≡ Ok (r.0, terminals_of r.1))
+/// (λ f. reading.used_at word.now names.now (terminals_of pieces.entry) ≡ Err (fault_of f)) }
 /// ```
 pub(crate) fn used<'p, 'a>(
     word: &str,
     names: &IndexedNames<'_>,
-    pieces: &'p [Piece<'a>],
-) -> Result<(usize, &'p [Piece<'a>]), Fault<'p, 'a>> {
+    pieces: Pieces<'p, 'a>,
+) -> Result<(usize, Pieces<'p, 'a>), Fault<'p, 'a>> {
     match after(word, pieces) {
         Some(rest) => {
             let (index, rest) = reading::index(names, rest)?;
@@ -214,15 +215,15 @@ pub(crate) fn used<'p, 'a>(
 ///
 /// ```text
 /// ensures { MatchResult result
-/// (λ r. reading.expression_at word.now (context_of names.now) (map terminal pieces.now) ≡ Ok (r.0.items, map terminal r.1.now))
-/// (λ e. Faults (reading.expression_at word.now (context_of names.now) (map terminal pieces.now)) e) }
+/// (λ r. reading.expression_at word.now (context_of names.now) (terminals_of pieces.entry) ≡ Ok (r.0.items, terminals_of r.1))
+/// (λ e. Faults (reading.expression_at word.now (context_of names.now) (terminals_of pieces.entry)) e) }
 /// ```
 pub(crate) fn expression<'p, 'a>(
     alloc: Global,
     names: &Names<'a>,
     word: &str,
-    pieces: &'p [Piece<'a>],
-) -> Result<(Vec<Instruction>, &'p [Piece<'a>]), Refusal<'p, 'a>> {
+    pieces: Pieces<'p, 'a>,
+) -> Result<(Vec<Instruction>, Pieces<'p, 'a>), Refusal<'p, 'a>> {
     match after(word, pieces) {
         Some(rest) => {
             let locals = IndexedNames::none(alloc);
@@ -239,16 +240,16 @@ pub(crate) fn expression<'p, 'a>(
 ///
 /// ```text
 /// ensures { MatchResult result
-/// (λ r. reading.one_at (context_of names.now) (map terminal pieces.now) ≡ Ok (r.0.items, map terminal r.1.now))
-/// (λ e. Faults (reading.one_at (context_of names.now) (map terminal pieces.now)) e) }
+/// (λ r. reading.one_at (context_of names.now) (terminals_of pieces.entry) ≡ Ok (r.0.items, terminals_of r.1))
+/// (λ e. Faults (reading.one_at (context_of names.now) (terminals_of pieces.entry)) e) }
 /// ```
 fn one_instruction<'p, 'a>(
     alloc: Global,
     names: &Names<'a>,
-    pieces: &'p [Piece<'a>],
-) -> Result<(Vec<Instruction>, &'p [Piece<'a>]), Refusal<'p, 'a>> {
-    match pieces {
-        [Piece::Open, rest @ ..] => {
+    pieces: Pieces<'p, 'a>,
+) -> Result<(Vec<Instruction>, Pieces<'p, 'a>), Refusal<'p, 'a>> {
+    match pieces.first() {
+        Some((Piece::Open, rest)) => {
             let locals = IndexedNames::none(alloc);
             let scope = scope(names, &locals);
             machine::one_folded(alloc, &scope, rest)
@@ -266,16 +267,16 @@ fn one_instruction<'p, 'a>(
 ///
 /// ```text
 /// ensures { MatchResult result
-/// (λ r. reading.segment_at (context_of names.now) word.now (map terminal all.now) (map terminal pieces.now) ≡ Ok (field_of r.0 ∷ [], map terminal r.1.now))
-/// (λ e. Faults (reading.segment_at (context_of names.now) word.now (map terminal all.now) (map terminal pieces.now)) e) }
+/// (λ r. reading.segment_at (context_of names.now) word.now (terminals_of all.entry) (terminals_of pieces.entry) ≡ Ok (field_of r.0 ∷ [], terminals_of r.1))
+/// (λ e. Faults (reading.segment_at (context_of names.now) word.now (terminals_of all.entry) (terminals_of pieces.entry)) e) }
 /// ```
 pub(crate) fn segment<'p, 'a>(
     alloc: Global,
     names: &Names<'a>,
     word: &str,
-    all: &'p [Piece<'a>],
-    pieces: &'p [Piece<'a>],
-) -> Result<(Field<'a>, &'p [Piece<'a>]), Refusal<'p, 'a>> {
+    all: Pieces<'p, 'a>,
+    pieces: Pieces<'p, 'a>,
+) -> Result<(Field<'a>, Pieces<'p, 'a>), Refusal<'p, 'a>> {
     if word == "data" {
         return data_at(alloc, names, pieces);
     }
@@ -294,14 +295,14 @@ pub(crate) fn segment<'p, 'a>(
 ///
 /// ```text
 /// ensures { MatchResult result
-/// (λ r. reading.data_at (context_of names.now) (label_of (map terminal pieces.now)) ≡ Ok (field_of r.0 ∷ [], map terminal r.1.now))
-/// (λ e. Faults (reading.data_at (context_of names.now) (label_of (map terminal pieces.now))) e) }
+/// (λ r. reading.data_at (context_of names.now) (label_of (terminals_of pieces.entry)) ≡ Ok (field_of r.0 ∷ [], terminals_of r.1))
+/// (λ e. Faults (reading.data_at (context_of names.now) (label_of (terminals_of pieces.entry))) e) }
 /// ```
 fn data_at<'p, 'a>(
     alloc: Global,
     names: &Names<'a>,
-    pieces: &'p [Piece<'a>],
-) -> Result<(Field<'a>, &'p [Piece<'a>]), Refusal<'p, 'a>> {
+    pieces: Pieces<'p, 'a>,
+) -> Result<(Field<'a>, Pieces<'p, 'a>), Refusal<'p, 'a>> {
     let (name, rest) = reading::label(pieces);
     data_after(alloc, names, name, rest)
 }
@@ -312,17 +313,17 @@ fn data_at<'p, 'a>(
 ///
 /// ```text
 /// ensures { MatchResult result
-/// (λ r. reading.data_after (context_of names.now) (label name.entry) (map terminal pieces.now) ≡ Ok (field_of r.0 ∷ [], map terminal r.1.now))
-/// (λ e. Faults (reading.data_after (context_of names.now) (label name.entry) (map terminal pieces.now)) e) }
+/// (λ r. reading.data_after (context_of names.now) (label name.entry) (terminals_of pieces.entry) ≡ Ok (field_of r.0 ∷ [], terminals_of r.1))
+/// (λ e. Faults (reading.data_after (context_of names.now) (label name.entry) (terminals_of pieces.entry)) e) }
 /// ```
 fn data_after<'p, 'a>(
     alloc: Global,
     names: &Names<'a>,
     name: Name<'a>,
-    pieces: &'p [Piece<'a>],
-) -> Result<(Field<'a>, &'p [Piece<'a>]), Refusal<'p, 'a>> {
-    match pieces {
-        [Piece::Open, ..] => active_data(alloc, names, name, pieces),
+    pieces: Pieces<'p, 'a>,
+) -> Result<(Field<'a>, Pieces<'p, 'a>), Refusal<'p, 'a>> {
+    match pieces.first() {
+        Some((Piece::Open, _)) => active_data(alloc, names, name, pieces),
         _ => data_strings(alloc, name, None, pieces),
     }
 }
@@ -333,15 +334,15 @@ fn data_after<'p, 'a>(
 ///
 /// ```text
 /// ensures { MatchResult result
-/// (λ r. reading.active_data (context_of names.now) (label name.entry) (map terminal pieces.now) ≡ Ok (field_of r.0 ∷ [], map terminal r.1.now))
-/// (λ e. Faults (reading.active_data (context_of names.now) (label name.entry) (map terminal pieces.now)) e) }
+/// (λ r. reading.active_data (context_of names.now) (label name.entry) (terminals_of pieces.entry) ≡ Ok (field_of r.0 ∷ [], terminals_of r.1))
+/// (λ e. Faults (reading.active_data (context_of names.now) (label name.entry) (terminals_of pieces.entry)) e) }
 /// ```
 fn active_data<'p, 'a>(
     alloc: Global,
     names: &Names<'a>,
     name: Name<'a>,
-    pieces: &'p [Piece<'a>],
-) -> Result<(Field<'a>, &'p [Piece<'a>]), Refusal<'p, 'a>> {
+    pieces: Pieces<'p, 'a>,
+) -> Result<(Field<'a>, Pieces<'p, 'a>), Refusal<'p, 'a>> {
     let (index, rest) = used("memory", &names.memories, pieces)?;
     let (offset, rest) = expression(alloc, names, "offset", rest)?;
     data_strings(alloc, name, Some(Target { index, offset }), rest)
@@ -353,15 +354,15 @@ fn active_data<'p, 'a>(
 ///
 /// ```text
 /// ensures { MatchResult result
-/// (λ r. reading.data_strings (label name.entry) (target_of target) (map terminal pieces.now) ≡ Ok (field_of r.0 ∷ [], map terminal r.1.now))
-/// (λ e. Faults (reading.data_strings (label name.entry) (target_of target) (map terminal pieces.now)) e) }
+/// (λ r. reading.data_strings (label name.entry) (target_of target) (terminals_of pieces.entry) ≡ Ok (field_of r.0 ∷ [], terminals_of r.1))
+/// (λ e. Faults (reading.data_strings (label name.entry) (target_of target) (terminals_of pieces.entry)) e) }
 /// ```
 fn data_strings<'p, 'a>(
     alloc: Global,
     name: Name<'a>,
     target: Option<Target>,
-    pieces: &'p [Piece<'a>],
-) -> Result<(Field<'a>, &'p [Piece<'a>]), Refusal<'p, 'a>> {
+    pieces: Pieces<'p, 'a>,
+) -> Result<(Field<'a>, Pieces<'p, 'a>), Refusal<'p, 'a>> {
     let (strings, rest) = strings(alloc, pieces)?;
     let rest = closed(rest)?;
     Ok((

@@ -6,6 +6,7 @@ use crate::reading::header::closed;
 use crate::fields::fields::{GlobalType, IndexSpace, Limits, TableType};
 use crate::instructions::pieces::{Fault, FaultKind, Piece, ReferenceType, Sign, ValueType};
 use crate::instructions::reading::{self, value_type};
+use crate::instructions::source::Pieces;
 
 /// The index space of a word.
 ///
@@ -34,15 +35,15 @@ pub(crate) fn space_of(word: &str) -> Option<IndexSpace> {
 ///
 /// ```text
 /// ensures { MatchResult result
-/// (λ r. small sign n (map terminal all.now) (map terminal rest.now) ≡ Ok (r.0, map terminal r.1.now))
-/// (λ f. small sign n (map terminal all.now) (map terminal rest.now) ≡ Err (fault_of f)) }
+/// (λ r. small sign n (terminals_of all.entry) (terminals_of rest.entry) ≡ Ok (r.0, terminals_of r.1))
+/// (λ f. small sign n (terminals_of all.entry) (terminals_of rest.entry) ≡ Err (fault_of f)) }
 /// ```
 fn small<'p, 'a>(
     sign: Sign,
     n: u64,
-    all: &'p [Piece<'a>],
-    rest: &'p [Piece<'a>],
-) -> Result<(u32, &'p [Piece<'a>]), Fault<'p, 'a>> {
+    all: Pieces<'p, 'a>,
+    rest: Pieces<'p, 'a>,
+) -> Result<(u32, Pieces<'p, 'a>), Fault<'p, 'a>> {
     match sign {
         Sign::Absent => {
             if n < 0x1_0000_0000 {
@@ -67,15 +68,15 @@ fn small<'p, 'a>(
 ///
 /// ```text
 /// ensures { MatchResult result
-/// (λ r. reading.limits_at (map terminal pieces.now) ≡ Ok (r.0, map terminal r.1.now))
-/// (λ f. reading.limits_at (map terminal pieces.now) ≡ Err (fault_of f)) }
+/// (λ r. reading.limits_at (terminals_of pieces.entry) ≡ Ok (r.0, terminals_of r.1))
+/// (λ f. reading.limits_at (terminals_of pieces.entry) ≡ Err (fault_of f)) }
 /// ```
 pub(crate) fn limits<'p, 'a>(
-    pieces: &'p [Piece<'a>],
-) -> Result<(Limits, &'p [Piece<'a>]), Fault<'p, 'a>> {
-    match pieces {
-        [Piece::Integer(sign, n), rest @ ..] => {
-            let (min, rest) = small(*sign, *n, pieces, rest)?;
+    pieces: Pieces<'p, 'a>,
+) -> Result<(Limits, Pieces<'p, 'a>), Fault<'p, 'a>> {
+    match pieces.first() {
+        Some((Piece::Integer(sign, n), rest)) => {
+            let (min, rest) = small(sign, n, pieces, rest)?;
             maximum(min, rest)
         }
         _ => Err(Fault {
@@ -91,16 +92,16 @@ pub(crate) fn limits<'p, 'a>(
 ///
 /// ```text
 /// ensures { MatchResult result
-/// (λ r. reading.max_at min (map terminal pieces.now) ≡ Ok (r.0, map terminal r.1.now))
-/// (λ f. reading.max_at min (map terminal pieces.now) ≡ Err (fault_of f)) }
+/// (λ r. reading.max_at min (terminals_of pieces.entry) ≡ Ok (r.0, terminals_of r.1))
+/// (λ f. reading.max_at min (terminals_of pieces.entry) ≡ Err (fault_of f)) }
 /// ```
 fn maximum<'p, 'a>(
     min: u32,
-    pieces: &'p [Piece<'a>],
-) -> Result<(Limits, &'p [Piece<'a>]), Fault<'p, 'a>> {
-    match pieces {
-        [Piece::Integer(sign, n), rest @ ..] => {
-            let (max, rest) = small(*sign, *n, pieces, rest)?;
+    pieces: Pieces<'p, 'a>,
+) -> Result<(Limits, Pieces<'p, 'a>), Fault<'p, 'a>> {
+    match pieces.first() {
+        Some((Piece::Integer(sign, n), rest)) => {
+            let (max, rest) = small(sign, n, pieces, rest)?;
             let max = Some(max);
             Ok((Limits { min, max }, rest))
         }
@@ -114,12 +115,12 @@ fn maximum<'p, 'a>(
 ///
 /// ```text
 /// ensures { MatchResult result
-/// (λ r. reading.table_type_at (map terminal pieces.now) ≡ Ok (r.0, map terminal r.1.now))
-/// (λ f. reading.table_type_at (map terminal pieces.now) ≡ Err (fault_of f)) }
+/// (λ r. reading.table_type_at (terminals_of pieces.entry) ≡ Ok (r.0, terminals_of r.1))
+/// (λ f. reading.table_type_at (terminals_of pieces.entry) ≡ Err (fault_of f)) }
 /// ```
 pub(crate) fn table_type<'p, 'a>(
-    pieces: &'p [Piece<'a>],
-) -> Result<(TableType, &'p [Piece<'a>]), Fault<'p, 'a>> {
+    pieces: Pieces<'p, 'a>,
+) -> Result<(TableType, Pieces<'p, 'a>), Fault<'p, 'a>> {
     let (limits, rest) = limits(pieces)?;
     let (element, rest) = reference_type(rest)?;
     Ok((TableType { limits, element }, rest))
@@ -131,14 +132,14 @@ pub(crate) fn table_type<'p, 'a>(
 ///
 /// ```text
 /// ensures { MatchResult result
-/// (λ r. reading.reference_at (map terminal pieces.now) ≡ Ok (r.0, map terminal r.1.now))
-/// (λ f. reading.reference_at (map terminal pieces.now) ≡ Err (fault_of f)) }
+/// (λ r. reading.reference_at (terminals_of pieces.entry) ≡ Ok (r.0, terminals_of r.1))
+/// (λ f. reading.reference_at (terminals_of pieces.entry) ≡ Err (fault_of f)) }
 /// ```
 fn reference_type<'p, 'a>(
-    pieces: &'p [Piece<'a>],
-) -> Result<(ReferenceType, &'p [Piece<'a>]), Fault<'p, 'a>> {
-    match pieces {
-        [Piece::Word(word), rest @ ..] => match reading::reference_type(word) {
+    pieces: Pieces<'p, 'a>,
+) -> Result<(ReferenceType, Pieces<'p, 'a>), Fault<'p, 'a>> {
+    match pieces.first() {
+        Some((Piece::Word(word), rest)) => match reading::reference_type(word) {
             Some(of) => Ok((of, rest)),
             None => Err(Fault {
                 kind: FaultKind::UnknownWord,
@@ -158,14 +159,14 @@ fn reference_type<'p, 'a>(
 ///
 /// ```text
 /// ensures { MatchResult result
-/// (λ r. reading.global_type_at (map terminal pieces.now) ≡ Ok (r.0, map terminal r.1.now))
-/// (λ f. reading.global_type_at (map terminal pieces.now) ≡ Err (fault_of f)) }
+/// (λ r. reading.global_type_at (terminals_of pieces.entry) ≡ Ok (r.0, terminals_of r.1))
+/// (λ f. reading.global_type_at (terminals_of pieces.entry) ≡ Err (fault_of f)) }
 /// ```
 pub(crate) fn global_type<'p, 'a>(
-    pieces: &'p [Piece<'a>],
-) -> Result<(GlobalType, &'p [Piece<'a>]), Fault<'p, 'a>> {
-    match pieces {
-        [Piece::Word(word), rest @ ..] => match value_type(word) {
+    pieces: Pieces<'p, 'a>,
+) -> Result<(GlobalType, Pieces<'p, 'a>), Fault<'p, 'a>> {
+    match pieces.first() {
+        Some((Piece::Word(word), rest)) => match value_type(word) {
             Some(value) => {
                 let is_mutable = false;
                 Ok((GlobalType { is_mutable, value }, rest))
@@ -175,7 +176,7 @@ pub(crate) fn global_type<'p, 'a>(
                 left: pieces,
             }),
         },
-        [Piece::Open, rest @ ..] => mutable(rest),
+        Some((Piece::Open, rest)) => mutable(rest),
         _ => Err(Fault {
             kind: FaultKind::Unexpected,
             left: pieces,
@@ -189,15 +190,13 @@ pub(crate) fn global_type<'p, 'a>(
 ///
 /// ```text
 /// ensures { MatchResult result
-/// (λ r. reading.mutable_at (map terminal pieces.now) ≡ Ok (r.0, map terminal r.1.now))
-/// (λ f. reading.mutable_at (map terminal pieces.now) ≡ Err (fault_of f)) }
+/// (λ r. reading.mutable_at (terminals_of pieces.entry) ≡ Ok (r.0, terminals_of r.1))
+/// (λ f. reading.mutable_at (terminals_of pieces.entry) ≡ Err (fault_of f)) }
 /// ```
-fn mutable<'p, 'a>(
-    pieces: &'p [Piece<'a>],
-) -> Result<(GlobalType, &'p [Piece<'a>]), Fault<'p, 'a>> {
-    match pieces {
-        [Piece::Word(word), rest @ ..] => {
-            if *word == "mut" {
+fn mutable<'p, 'a>(pieces: Pieces<'p, 'a>) -> Result<(GlobalType, Pieces<'p, 'a>), Fault<'p, 'a>> {
+    match pieces.first() {
+        Some((Piece::Word(word), rest)) => {
+            if word == "mut" {
                 mutable_type(rest)
             } else {
                 Err(Fault {
@@ -219,14 +218,14 @@ fn mutable<'p, 'a>(
 ///
 /// ```text
 /// ensures { MatchResult result
-/// (λ r. reading.mutable_type (map terminal pieces.now) ≡ Ok (r.0, map terminal r.1.now))
-/// (λ f. reading.mutable_type (map terminal pieces.now) ≡ Err (fault_of f)) }
+/// (λ r. reading.mutable_type (terminals_of pieces.entry) ≡ Ok (r.0, terminals_of r.1))
+/// (λ f. reading.mutable_type (terminals_of pieces.entry) ≡ Err (fault_of f)) }
 /// ```
 fn mutable_type<'p, 'a>(
-    pieces: &'p [Piece<'a>],
-) -> Result<(GlobalType, &'p [Piece<'a>]), Fault<'p, 'a>> {
-    match pieces {
-        [Piece::Word(word), rest @ ..] => match value_type(word) {
+    pieces: Pieces<'p, 'a>,
+) -> Result<(GlobalType, Pieces<'p, 'a>), Fault<'p, 'a>> {
+    match pieces.first() {
+        Some((Piece::Word(word), rest)) => match value_type(word) {
             Some(of) => closing_mutable(of, rest),
             None => Err(Fault {
                 kind: FaultKind::UnknownWord,
@@ -246,13 +245,13 @@ fn mutable_type<'p, 'a>(
 ///
 /// ```text
 /// ensures { MatchResult result
-/// (λ r. reading.mutable_by (Some of) (map terminal pieces.now) (map terminal pieces.now) ≡ Ok (r.0, map terminal r.1.now))
-/// (λ f. reading.mutable_by (Some of) (map terminal pieces.now) (map terminal pieces.now) ≡ Err (fault_of f)) }
+/// (λ r. reading.mutable_by (Some of) (terminals_of pieces.entry) (terminals_of pieces.entry) ≡ Ok (r.0, terminals_of r.1))
+/// (λ f. reading.mutable_by (Some of) (terminals_of pieces.entry) (terminals_of pieces.entry) ≡ Err (fault_of f)) }
 /// ```
 fn closing_mutable<'p, 'a>(
     of: ValueType,
-    pieces: &'p [Piece<'a>],
-) -> Result<(GlobalType, &'p [Piece<'a>]), Fault<'p, 'a>> {
+    pieces: Pieces<'p, 'a>,
+) -> Result<(GlobalType, Pieces<'p, 'a>), Fault<'p, 'a>> {
     let rest = closed(pieces)?;
     let is_mutable = true;
     Ok((
@@ -270,14 +269,14 @@ fn closing_mutable<'p, 'a>(
 ///
 /// ```text
 /// ensures { MatchResult result
-/// (λ r. reading.twice_closed (map terminal pieces.now) ≡ Ok (map terminal r.now))
-/// (λ f. reading.twice_closed (map terminal pieces.now) ≡ Err (fault_of f)) }
+/// (λ r. reading.twice_closed (terminals_of pieces.entry) ≡ Ok (terminals_of r))
+/// (λ f. reading.twice_closed (terminals_of pieces.entry) ≡ Err (fault_of f)) }
 /// ```
 pub(crate) fn twice_closed<'p, 'a>(
-    pieces: &'p [Piece<'a>],
-) -> Result<&'p [Piece<'a>], Fault<'p, 'a>> {
-    match pieces {
-        [Piece::Close, rest @ ..] => closed(rest),
+    pieces: Pieces<'p, 'a>,
+) -> Result<Pieces<'p, 'a>, Fault<'p, 'a>> {
+    match pieces.first() {
+        Some((Piece::Close, rest)) => closed(rest),
         _ => Err(Fault {
             kind: FaultKind::Unexpected,
             left: pieces,

@@ -8,8 +8,9 @@ use crate::reading::types::twice_closed;
 use crate::reading::variables::{NamedUse, Variable, function_type};
 use wat_lex::shim::alloc::{AllocError, Global};
 use crate::fields::fields::Definition;
-use crate::instructions::pieces::{Fault, FaultKind, Name, Piece, Refusal};
+use crate::instructions::pieces::{Fault, FaultKind, Name, Refusal};
 use crate::instructions::reading;
+use crate::instructions::source::Pieces;
 use crate::instructions::types::{FunctionType, same_type};
 
 /// A type use.
@@ -18,14 +19,14 @@ use crate::instructions::types::{FunctionType, same_type};
 ///
 /// ```text
 /// ensures { MatchResult result
-/// (λ r. reading.use_at (types_of names.now) (map terminal pieces.now) ≡ Ok (use_of r.0, map terminal r.1.now))
-/// (λ e. Faults (reading.use_at (types_of names.now) (map terminal pieces.now)) e) }
+/// (λ r. reading.use_at (types_of names.now) (terminals_of pieces.entry) ≡ Ok (use_of r.0, terminals_of r.1))
+/// (λ e. Faults (reading.use_at (types_of names.now) (terminals_of pieces.entry)) e) }
 /// ```
 pub(crate) fn type_use<'p, 'a>(
     alloc: Global,
     names: &Names<'a>,
-    pieces: &'p [Piece<'a>],
-) -> Result<(NamedUse<'a>, &'p [Piece<'a>]), Refusal<'p, 'a>> {
+    pieces: Pieces<'p, 'a>,
+) -> Result<(NamedUse<'a>, Pieces<'p, 'a>), Refusal<'p, 'a>> {
     match after("type", pieces) {
         Some(rest) => indexed_use(alloc, names, rest),
         None => listed_use(alloc, pieces),
@@ -38,13 +39,13 @@ pub(crate) fn type_use<'p, 'a>(
 ///
 /// ```text
 /// ensures { MatchResult result
-/// (λ r. reading.listed_use (map terminal pieces.now) ≡ Ok (use_of r.0, map terminal r.1.now))
-/// (λ e. Faults (reading.listed_use (map terminal pieces.now)) e) }
+/// (λ r. reading.listed_use (terminals_of pieces.entry) ≡ Ok (use_of r.0, terminals_of r.1))
+/// (λ e. Faults (reading.listed_use (terminals_of pieces.entry)) e) }
 /// ```
 fn listed_use<'p, 'a>(
     alloc: Global,
-    pieces: &'p [Piece<'a>],
-) -> Result<(NamedUse<'a>, &'p [Piece<'a>]), Refusal<'p, 'a>> {
+    pieces: Pieces<'p, 'a>,
+) -> Result<(NamedUse<'a>, Pieces<'p, 'a>), Refusal<'p, 'a>> {
     let (params, rest) = variables(alloc, "param", true, pieces)?;
     let (results, rest) = variables(alloc, "result", false, rest)?;
     let index = None;
@@ -64,14 +65,14 @@ fn listed_use<'p, 'a>(
 ///
 /// ```text
 /// ensures { MatchResult result
-/// (λ r. reading.indexed_use (types_of names.now) (map terminal pieces.now) ≡ Ok (use_of r.0, map terminal r.1.now))
-/// (λ e. Faults (reading.indexed_use (types_of names.now) (map terminal pieces.now)) e) }
+/// (λ r. reading.indexed_use (types_of names.now) (terminals_of pieces.entry) ≡ Ok (use_of r.0, terminals_of r.1))
+/// (λ e. Faults (reading.indexed_use (types_of names.now) (terminals_of pieces.entry)) e) }
 /// ```
 fn indexed_use<'p, 'a>(
     alloc: Global,
     names: &Names<'a>,
-    pieces: &'p [Piece<'a>],
-) -> Result<(NamedUse<'a>, &'p [Piece<'a>]), Refusal<'p, 'a>> {
+    pieces: Pieces<'p, 'a>,
+) -> Result<(NamedUse<'a>, Pieces<'p, 'a>), Refusal<'p, 'a>> {
     let (index, rest) = reading::index(&names.type_names, pieces)?;
     let rest = closed(rest)?;
     if names.are_types_known {
@@ -87,16 +88,16 @@ fn indexed_use<'p, 'a>(
 ///
 /// ```text
 /// ensures { MatchResult result
-/// (λ r. reading.lists_after index (slice_get (types_of names.now).types index) (map terminal all.now) (map terminal pieces.now) ≡ Ok (use_of r.0, map terminal r.1.now))
-/// (λ e. Faults (reading.lists_after index (slice_get (types_of names.now).types index) (map terminal all.now) (map terminal pieces.now)) e) }
+/// (λ r. reading.lists_after index (slice_get (types_of names.now).types index) (terminals_of all.entry) (terminals_of pieces.entry) ≡ Ok (use_of r.0, terminals_of r.1))
+/// (λ e. Faults (reading.lists_after index (slice_get (types_of names.now).types index) (terminals_of all.entry) (terminals_of pieces.entry)) e) }
 /// ```
 fn known_use<'p, 'a>(
     alloc: Global,
     names: &Names<'a>,
     index: usize,
-    all: &'p [Piece<'a>],
-    pieces: &'p [Piece<'a>],
-) -> Result<(NamedUse<'a>, &'p [Piece<'a>]), Refusal<'p, 'a>> {
+    all: Pieces<'p, 'a>,
+    pieces: Pieces<'p, 'a>,
+) -> Result<(NamedUse<'a>, Pieces<'p, 'a>), Refusal<'p, 'a>> {
     match type_at_index(&names.types, index) {
         Some(of) => lists(alloc, index, of, all, pieces),
         None => Err(Refusal::Text(Fault {
@@ -112,14 +113,14 @@ fn known_use<'p, 'a>(
 ///
 /// ```text
 /// ensures { MatchResult result
-/// (λ r. reading.assumed_use index (map terminal pieces.now) ≡ Ok (use_of r.0, map terminal r.1.now))
-/// (λ e. Faults (reading.assumed_use index (map terminal pieces.now)) e) }
+/// (λ r. reading.assumed_use index (terminals_of pieces.entry) ≡ Ok (use_of r.0, terminals_of r.1))
+/// (λ e. Faults (reading.assumed_use index (terminals_of pieces.entry)) e) }
 /// ```
 fn assumed_use<'p, 'a>(
     alloc: Global,
     index: usize,
-    pieces: &'p [Piece<'a>],
-) -> Result<(NamedUse<'a>, &'p [Piece<'a>]), Refusal<'p, 'a>> {
+    pieces: Pieces<'p, 'a>,
+) -> Result<(NamedUse<'a>, Pieces<'p, 'a>), Refusal<'p, 'a>> {
     let (params, rest) = variables(alloc, "param", true, pieces)?;
     let (results, rest) = variables(alloc, "result", false, rest)?;
     let index = Some(index);
@@ -150,16 +151,16 @@ fn type_at_index(types: &[FunctionType], index: usize) -> Option<&FunctionType> 
 ///
 /// ```text
 /// ensures { MatchResult result
-/// (λ r. reading.lists_after index (Some (type_of of.now)) (map terminal all.now) (map terminal pieces.now) ≡ Ok (use_of r.0, map terminal r.1.now))
-/// (λ e. Faults (reading.lists_after index (Some (type_of of.now)) (map terminal all.now) (map terminal pieces.now)) e) }
+/// (λ r. reading.lists_after index (Some (type_of of.now)) (terminals_of all.entry) (terminals_of pieces.entry) ≡ Ok (use_of r.0, terminals_of r.1))
+/// (λ e. Faults (reading.lists_after index (Some (type_of of.now)) (terminals_of all.entry) (terminals_of pieces.entry)) e) }
 /// ```
 fn lists<'p, 'a>(
     alloc: Global,
     index: usize,
     of: &FunctionType,
-    all: &'p [Piece<'a>],
-    pieces: &'p [Piece<'a>],
-) -> Result<(NamedUse<'a>, &'p [Piece<'a>]), Refusal<'p, 'a>> {
+    all: Pieces<'p, 'a>,
+    pieces: Pieces<'p, 'a>,
+) -> Result<(NamedUse<'a>, Pieces<'p, 'a>), Refusal<'p, 'a>> {
     let (params, rest) = variables(alloc, "param", true, pieces)?;
     let (results, rest) = variables(alloc, "result", false, rest)?;
     if list_nothing(&params, &results) {
@@ -229,13 +230,13 @@ fn index_use<'a>(
 ///
 /// ```text
 /// ensures { MatchResult result
-/// (λ r. reading.type_at (map terminal pieces.now) ≡ Ok (definition_of r.0, map terminal r.1.now))
-/// (λ e. Faults (reading.type_at (map terminal pieces.now)) e) }
+/// (λ r. reading.type_at (terminals_of pieces.entry) ≡ Ok (definition_of r.0, terminals_of r.1))
+/// (λ e. Faults (reading.type_at (terminals_of pieces.entry)) e) }
 /// ```
 pub(crate) fn type_at<'p, 'a>(
     alloc: Global,
-    pieces: &'p [Piece<'a>],
-) -> Result<(Definition<'a>, &'p [Piece<'a>]), Refusal<'p, 'a>> {
+    pieces: Pieces<'p, 'a>,
+) -> Result<(Definition<'a>, Pieces<'p, 'a>), Refusal<'p, 'a>> {
     let (name, pieces) = reading::label(pieces);
     match after("func", pieces) {
         Some(rest) => type_lists(alloc, name, rest),
@@ -252,14 +253,14 @@ pub(crate) fn type_at<'p, 'a>(
 ///
 /// ```text
 /// ensures { MatchResult result
-/// (λ r. reading.type_lists (label name.entry) (map terminal pieces.now) ≡ Ok (definition_of r.0, map terminal r.1.now))
-/// (λ e. Faults (reading.type_lists (label name.entry) (map terminal pieces.now)) e) }
+/// (λ r. reading.type_lists (label name.entry) (terminals_of pieces.entry) ≡ Ok (definition_of r.0, terminals_of r.1))
+/// (λ e. Faults (reading.type_lists (label name.entry) (terminals_of pieces.entry)) e) }
 /// ```
 fn type_lists<'p, 'a>(
     alloc: Global,
     name: Name<'a>,
-    pieces: &'p [Piece<'a>],
-) -> Result<(Definition<'a>, &'p [Piece<'a>]), Refusal<'p, 'a>> {
+    pieces: Pieces<'p, 'a>,
+) -> Result<(Definition<'a>, Pieces<'p, 'a>), Refusal<'p, 'a>> {
     let (params, rest) = variables(alloc, "param", true, pieces)?;
     let (results, rest) = variables(alloc, "result", false, rest)?;
     let rest = twice_closed(rest)?;

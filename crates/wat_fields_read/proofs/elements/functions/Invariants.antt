@@ -1,6 +1,6 @@
 use Rattle.std.proofs.Common.{List, map, length}
+use Rattle.wat_instructions.specs.Pieces.{terminals_of}
 use Rattle.wat_instructions.specs.declared.pieces.Instruction.{Instruction}
-use Rattle.wat_instructions.specs.Terminals.{terminal}
 use Rattle.wat_fields_read.specs.Reading.{Read, function_item}
 use Rattle.wat_fields_read.proofs.Manies.{Leads}
 use Rattle.wat_fields.specs.Fields.{ref_func}
@@ -8,7 +8,7 @@ use Rattle.wat_fields_read.specs.Views.{context_of}
 use Rattle.wat_fields_read.proofs.elements.functions.Given as goal
 
 abbrev pub invariant-functions : goal.invariant-functions
-invariant-functions l = (q : Read (List (List Instruction))) → Leads (function_item (context_of l.names)) (map ref_func l.found.items) (map terminal l.left.pieces.now) q → Leads (function_item (context_of l.names)) (map ref_func l.initial.found.items) (map terminal l.initial.left.pieces.now) q
+invariant-functions l = (q : Read (List (List Instruction))) → Leads (function_item (context_of l.names)) (map ref_func l.found.items) (terminals_of l.left.pieces) q → Leads (function_item (context_of l.names)) (map ref_func l.initial.found.items) (terminals_of l.initial.left.pieces) q
 
 abbrev pub decreases-functions : goal.decreases-functions
-decreases-functions l = length l.left.pieces.now
+decreases-functions l = length (terminals_of l.left.pieces)

@@ -1,26 +1,26 @@
-use Rattle.std.proofs.Common.{map, Ok, ap}
+use Rattle.std.proofs.Common.{Ok, ap}
+use Rattle.wat_instructions.specs.Pieces.{terminals_of}
 use Rattle.wat_fields_read.proofs.SegmentKinds.{strings_read}
-use Rattle.wat_instructions.specs.Terminals.{terminal}
 use Rattle.wat_fields.specs.Fields as fields
 use Rattle.wat_fields_read.specs.Reading as reading
 use Rattle.wat_fields.specs.Views.{together}
-use Rattle.wat_fields_read.proofs.Manies.{leads_on, leads_out, leads_from, faulted, smaller, smaller_terminals}
+use Rattle.wat_fields_read.proofs.Manies.{leads_on, leads_out, leads_from, faulted, smaller}
 use Rattle.wat_fields_read.proofs.segments.strings.Goals as goal
 
 pub strings-smaller : goal.strings-smaller
-strings-smaller c = let item = rw (c.in-Ok-Some.field-0-is) at c.in-Ok-Some.ensures in smaller (reading.string_item) fields.StringIs strings_read c.strings.left.pieces.now c.in-Ok-Some.next.pieces.now item.values item.is
+strings-smaller c = let item = rw (c.in-Ok-Some.field-0-is) at c.in-Ok-Some.ensures in smaller (reading.string_item) fields.StringIs strings_read (terminals_of c.strings.left.pieces) (terminals_of c.in-Ok-Some.next.pieces) item.values item.is
 
 pub strings-preserved : goal.strings-preserved
 strings-preserved c =
     let item = rw (c.in-Ok-Some.field-0-is) at c.in-Ok-Some.ensures in
-    λ q h. c.strings.invariant q (leads_on (reading.string_item) (together c.strings.found.items) (together c.next_string.new.found.items) item.values (map terminal c.strings.left.pieces.now) (map terminal c.in-Ok-Some.next.pieces.now) q item.is item.follow (smaller_terminals (reading.string_item) fields.StringIs strings_read (map terminal c.strings.left.pieces.now) (map terminal c.in-Ok-Some.next.pieces.now) item.values item.is) h)
+    λ q h. c.strings.invariant q (leads_on (reading.string_item) (together c.strings.found.items) (together c.next_string.new.found.items) item.values (terminals_of c.strings.left.pieces) (terminals_of c.in-Ok-Some.next.pieces) q item.is item.follow (smaller (reading.string_item) fields.StringIs strings_read (terminals_of c.strings.left.pieces) (terminals_of c.in-Ok-Some.next.pieces) item.values item.is) h)
 
 pub returns-in-Ok-None : goal.returns-in-Ok-None
 returns-in-Ok-None c =
     let none = rw (c.in-Ok-None.field-0-is) at c.in-Ok-None.ensures in
-    leads_from (reading.string_item) (together c.new-found.result.items) (map terminal c.args.pieces.now) _ (ap together c.new-found.ensures.items)
-    (c.strings.invariant (Ok (together c.next_string.new.found.items, map terminal c.strings.left.pieces.now)) (leads_out (reading.string_item) (together c.strings.found.items) (together c.next_string.new.found.items) (map terminal c.strings.left.pieces.now) none.0 none.1))
+    leads_from (reading.string_item) (together c.new-found.result.items) (terminals_of c.args.pieces) _ (ap together c.new-found.ensures.items)
+    (c.strings.invariant (Ok (together c.next_string.new.found.items, terminals_of c.strings.left.pieces)) (leads_out (reading.string_item) (together c.strings.found.items) (together c.next_string.new.found.items) (terminals_of c.strings.left.pieces) none.0 none.1))
 
 pub returns-in-Err : goal.returns-in-Err
 returns-in-Err c =
-    faulted (reading.string_item) (together c.new-found.result.items) (together c.strings.found.items) (map terminal c.args.pieces.now) (map terminal c.strings.left.pieces.now) c.in-Err.refusal (ap together c.new-found.ensures.items) c.strings.invariant c.in-Err.ensures
+    faulted (reading.string_item) (together c.new-found.result.items) (together c.strings.found.items) (terminals_of c.args.pieces) (terminals_of c.strings.left.pieces) c.in-Err.refusal (ap together c.new-found.ensures.items) c.strings.invariant c.in-Err.ensures

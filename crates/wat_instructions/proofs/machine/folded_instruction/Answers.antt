@@ -1,13 +1,13 @@
-use Rattle.std.proofs.Common.{◌∙◌, ap, sym, map}
+use Rattle.std.proofs.Common.{◌∙◌, ap, sym}
+use Rattle.wat_instructions.specs.Pieces.{terminals_of}
 use Rattle.wat_instructions.specs.Parts.{stack, scope_of}
 use Rattle.wat_instructions.specs.Grammar.{plain}
 use Rattle.wat_instructions.specs.Machine.{labels_in}
-use Rattle.wat_instructions.specs.Terminals.{terminal}
 use Rattle.wat_instructions.proofs.Opens.{at_operands_output}
 use Rattle.wat_instructions.proofs.Stacks.{stack_push}
 use Rattle.wat_instructions.proofs.machine.folded_instruction.Goals as goal
 
 pub returns-in_ok-push-in-None : goal.returns-in_ok-push-in-None
 returns-in_ok-push-in-None c =
-    at_operands_output (scope_of c.args.scope.now) (map terminal c.args.pieces.now) (map terminal c.args.rest.now) (map terminal c.in_ok-instruction-in-None.rest.now) c.args.word.now c.in_ok-instruction-in-None.instruction (stack c.args.frames.now.items) (stack c.push.new.self.items) c.args.out.now.items (sym c.in-None.ensures)
-    (ap (λ f. plain (scope_of c.args.scope.now) (labels_in (stack f)) (map terminal c.args.pieces.now)) (sym c.deref.ensures.value) ∙ c.in_ok-instruction-in-None.ensures) (ap stack c.in_ok-push-in-None.ensures.items ∙ stack_push c.args.frames.now.items _)
+    at_operands_output (scope_of c.args.scope.now) (terminals_of c.args.pieces) (terminals_of c.args.rest) (terminals_of c.in_ok-instruction-in-None.rest) c.args.word.now c.in_ok-instruction-in-None.instruction (stack c.args.frames.now.items) (stack c.push.new.self.items) c.args.out.now.items (sym c.in-None.ensures)
+    (ap (λ f. plain (scope_of c.args.scope.now) (labels_in (stack f)) (terminals_of c.args.pieces)) (sym c.deref.ensures.value) ∙ c.in_ok-instruction-in-None.ensures) (ap stack c.in_ok-push-in-None.ensures.items ∙ stack_push c.args.frames.now.items _)

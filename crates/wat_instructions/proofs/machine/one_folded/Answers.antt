@@ -1,6 +1,5 @@
-use Rattle.std.proofs.Common.{map}
+use Rattle.wat_instructions.specs.Pieces.{terminals_of}
 use Rattle.wat_instructions.specs.Parts.{stack, scope_of}
-use Rattle.wat_instructions.specs.Terminals.{terminal}
 use Rattle.wat_instructions.proofs.Folding.{begun_folded, begun_folded_into, none_open}
 use Rattle.wat_instructions.proofs.machine.one_folded.Goals as goal
 
@@ -9,8 +8,8 @@ first_step-requires c = none_open c.new-frames.result.items c.new-frames.ensures
 
 pub returns-in-Ok-steps : goal.returns-in-Ok-steps
 returns-in-Ok-steps c =
-    begun_folded (scope_of c.args.scope.now) (stack c.first_step.new.frames.items) (map terminal c.args.pieces.now) (map terminal c.in-Ok.rest.now) (map terminal c.in-Ok-steps.rest.now) c.in_ok-out.out.items c.first_step.new.out.items c.steps.new.out.items c.in_ok-out.ensures.items c.in-Ok.ensures c.in-Ok-steps.ensures
+    begun_folded (scope_of c.args.scope.now) (stack c.first_step.new.frames.items) (terminals_of c.args.pieces) (terminals_of c.in-Ok.rest) (terminals_of c.in-Ok-steps.rest) c.in_ok-out.out.items c.first_step.new.out.items c.steps.new.out.items c.in_ok-out.ensures.items c.in-Ok.ensures c.in-Ok-steps.ensures
 
 pub returns-in-Ok : goal.returns-in-Ok
 returns-in-Ok c =
-    begun_folded_into (scope_of c.args.scope.now) (stack c.first_step.new.frames.items) (map terminal c.args.pieces.now) (map terminal c.in-Ok.rest.now) c.in_ok-out.out.items c.first_step.new.out.items c.in-Err-steps.refusal c.in-Ok.ensures c.in-Err-steps.ensures
+    begun_folded_into (scope_of c.args.scope.now) (stack c.first_step.new.frames.items) (terminals_of c.args.pieces) (terminals_of c.in-Ok.rest) c.in_ok-out.out.items c.first_step.new.out.items c.in-Err-steps.refusal c.in-Ok.ensures c.in-Err-steps.ensures

@@ -1,8 +1,8 @@
-use Rattle.std.proofs.Common.{◌∙◌, ap, sym, map}
+use Rattle.std.proofs.Common.{◌∙◌, ap, sym}
+use Rattle.wat_instructions.specs.Pieces.{terminals_of}
 use Rattle.wat_instructions.specs.Parts.{stack, scope_of, part}
-use Rattle.wat_instructions.specs.Terminals.{terminal}
 use Rattle.wat_instructions.proofs.Stacks.{stack_push, empty_is}
-use Rattle.wat_instructions.proofs.Steps.{onto, into, onto_into, over, takes_piece}
+use Rattle.wat_instructions.proofs.Steps.{onto, into, onto_into, over, takes_one}
 use Rattle.wat_instructions.proofs.machine.steps.Goals as goal
 
 pub open-preserved : goal.open-preserved
@@ -10,17 +10,17 @@ open-preserved c =
     let context = scope_of c.args.scope.now in
     let e = ap stack c.in-Some.ensures.items ∙ stack_push c.pop.new.self.items c.in-Some.frame in
     record {
-      runs = λ end after h. c.open.invariant.runs end after (onto context (part c.in-Some.frame) (stack c.open.frames.items) (stack c.pop.new.self.items) (stack c.step_on.new.frames.items) (map terminal c.open.left.pieces.now) (map terminal c.in-Ok.next.pieces.now) end c.open.out.items c.step_on.new.out.items after e c.in-Ok.ensures h);
-      fails = λ r h. c.open.invariant.fails r (onto_into context (part c.in-Some.frame) (stack c.open.frames.items) (stack c.pop.new.self.items) (stack c.step_on.new.frames.items) (map terminal c.open.left.pieces.now) (map terminal c.in-Ok.next.pieces.now) c.open.out.items c.step_on.new.out.items r e c.in-Ok.ensures h);
+      runs = λ end after h. c.open.invariant.runs end after (onto context (part c.in-Some.frame) (stack c.open.frames.items) (stack c.pop.new.self.items) (stack c.step_on.new.frames.items) (terminals_of c.open.left.pieces) (terminals_of c.in-Ok.next.pieces) end c.open.out.items c.step_on.new.out.items after e c.in-Ok.ensures h);
+      fails = λ r h. c.open.invariant.fails r (onto_into context (part c.in-Some.frame) (stack c.open.frames.items) (stack c.pop.new.self.items) (stack c.step_on.new.frames.items) (terminals_of c.open.left.pieces) (terminals_of c.in-Ok.next.pieces) c.open.out.items c.step_on.new.out.items r e c.in-Ok.ensures h);
     }
 
 pub open-smaller : goal.open-smaller
-open-smaller c = takes_piece (scope_of c.args.scope.now) (part c.in-Some.frame) (stack c.pop.new.self.items) (stack c.step_on.new.frames.items) c.open.out.items c.step_on.new.out.items c.open.left.pieces.now c.in-Ok.next.pieces.now c.in-Ok.ensures
+open-smaller c = takes_one (scope_of c.args.scope.now) (part c.in-Some.frame) (stack c.pop.new.self.items) (stack c.step_on.new.frames.items) c.open.out.items c.step_on.new.out.items (terminals_of c.open.left.pieces) (terminals_of c.in-Ok.next.pieces) c.in-Ok.ensures
 
 pub returns-in-Err : goal.returns-in-Err
 returns-in-Err c =
-    c.open.invariant.fails c.in-Err.refusal (into (scope_of c.args.scope.now) (part c.in-Some.frame) (stack c.open.frames.items) (stack c.pop.new.self.items) (map terminal c.open.left.pieces.now) c.in-Err.refusal (ap stack c.in-Some.ensures.items ∙ stack_push c.pop.new.self.items c.in-Some.frame) c.in-Err.ensures)
+    c.open.invariant.fails c.in-Err.refusal (into (scope_of c.args.scope.now) (part c.in-Some.frame) (stack c.open.frames.items) (stack c.pop.new.self.items) (terminals_of c.open.left.pieces) c.in-Err.refusal (ap stack c.in-Some.ensures.items ∙ stack_push c.pop.new.self.items c.in-Some.frame) c.in-Err.ensures)
 
 pub returns-in-None : goal.returns-in-None
 returns-in-None c =
-    c.open.invariant.runs (map terminal c.open.left.pieces.now) c.open.out.items (over (scope_of c.args.scope.now) (stack c.open.frames.items) (map terminal c.open.left.pieces.now) c.open.out.items (empty_is c.open.frames.items (sym c.open.frames.ok.0 ∙ c.in-None.ensures.cases.0)))
+    c.open.invariant.runs (terminals_of c.open.left.pieces) c.open.out.items (over (scope_of c.args.scope.now) (stack c.open.frames.items) (terminals_of c.open.left.pieces) c.open.out.items (empty_is c.open.frames.items (sym c.open.frames.ok.0 ∙ c.in-None.ensures.cases.0)))

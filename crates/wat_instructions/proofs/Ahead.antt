@@ -1,0 +1,31 @@
+-- The tokens from one on, by an index.
+use Rattle.std.proofs.Common.{◌≡◌, ◌∙◌, ◌≤◌, ◌<◌, ◌+◌, ◌-◌, ℕ, List, [], ◌∷◌, drop, length, get_or, ap, sym, inl, inr, Some, None}
+use Rattle.std.specs.Prelude.{◌⊎◌, slice_get}
+use Rattle.std.proofs.Math.ListN.{drop_of_length-le}
+use Rattle.std.proofs.lemmas.List.{drop_more, length-drop}
+use Rattle.std.proofs.lemmas.Option.{get_or_from_slice_get, none-some, slice_get_cases, slice_get_within}
+use Rattle.wat_instructions.specs.declared.source.Pieces.{Pieces}
+use Rattle.wat_instructions.specs.Pieces.{terminals_of}
+use Rattle.wat_instructions.specs.Terminals.{Terminal}
+
+first_is : (ts : List Terminal) (i : ℕ) (t : Terminal) → slice_get ts i ≡ Some t → drop i ts ≡ t ∷ drop (i + 1) ts
+first_is ts i t h = drop_more ts i t (slice_get_within ts i t h) ∙ ap (λ x. x ∷ drop (i + 1) ts) (get_or_from_slice_get ts i t t h)
+
+none_by : (ts : List Terminal) (i : ℕ) → slice_get ts i ≡ None → (((x : Terminal) × (i < length ts) × (slice_get ts i ≡ Some x) × (get_or ts i x ≡ x)) ⊎ ((length ts ≤ i) × (slice_get ts i ≡ None))) → drop i ts ≡ []
+none_by ts i h (inl k) = absurd (none-some k.0 (sym h ∙ k.2))
+none_by ts i h (inr k) = drop_of_length-le ts k.0
+
+none_is : (ts : List Terminal) (i : ℕ) → slice_get ts i ≡ None → drop i ts ≡ []
+none_is ts i h = none_by ts i h (slice_get_cases ts i).1
+
+pub taken : (p q : Pieces) (t : Terminal) → slice_get p.source.now p.at ≡ Some t → q.source ≡ p.source → q.at ≡ p.at + 1 → terminals_of p ≡ t ∷ terminals_of q
+unfolding terminals_of
+taken p q t h s a = first_is p.source.now p.at t h ∙ ap (λ n. t ∷ drop n p.source.now) (sym a) ∙ ap (λ r. t ∷ drop q.at r.now) (sym s)
+
+pub ended : (p : Pieces) → slice_get p.source.now p.at ≡ None → terminals_of p ≡ []
+unfolding terminals_of
+ended p h = none_is p.source.now p.at h
+
+pub length_left : (p : Pieces) → length (terminals_of p) ≡ length p.source.now - p.at
+unfolding terminals_of
+length_left p = length-drop p.at p.source.now

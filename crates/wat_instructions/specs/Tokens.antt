@@ -1,0 +1,51 @@
+-- The code's tokens of 8 bytes, and what each is. No part of the standard.
+use Rattle.std.specs.Prelude.{ℕ, ◌+◌, ◌≤◌, ◌<◌, List, Option, Some, None, take, drop, length, slice_get, string_bytes}
+use Rattle.std.specs.List.{All}
+use Rattle.std.specs.Str.{IsCharBoundary}
+use Rattle.wat_instructions.specs.declared.source.Kept.{Kept}
+use Rattle.wat_instructions.specs.declared.source.Kept.TheVariants as kept
+use Rattle.wat_instructions.specs.declared.source.ShortToken.{ShortToken}
+use Rattle.wat_instructions.specs.declared.source.ShortToken.TheVariants as short
+use Rattle.wat_instructions.specs.Terminals.{Terminal, Open, Close, Word, Id, Integer, Text, Other, float_of, terminal}
+
+-- so many bytes of the text from an offset on
+abbrev pub bytes_at : List ℕ → ℕ → ℕ → List ℕ
+bytes_at text o n = take n (drop o text)
+
+-- a value that is kept beside the text
+abbrev pub kept_terminal : Kept → Terminal
+kept_terminal (kept.Piece p) = terminal p
+kept_terminal (kept.Id x) = Id (string_bytes x)
+kept_terminal (kept.Text v) = Text v.items
+
+abbrev pub kept_or : Option Kept → Terminal
+kept_or None = Other
+kept_or (Some k) = kept_terminal k
+
+-- the terminal symbol that a token is
+abbrev pub terminal_in : List ℕ → List Kept → ShortToken → Terminal
+terminal_in text ks short.Open = Open
+terminal_in text ks short.Close = Close
+terminal_in text ks (short.Word o n) = Word (bytes_at text o n)
+terminal_in text ks (short.Id o n) = Id (bytes_at text o n)
+terminal_in text ks (short.Integer s n) = Integer s n
+terminal_in text ks (short.Float o n) = float_of (bytes_at text o n)
+terminal_in text ks (short.Text o n) = Text (bytes_at text o n)
+terminal_in text ks (short.Kept i) = kept_or (slice_get ks i)
+terminal_in text ks short.Other = Other
+
+-- these bytes are characters of the text
+abbrev pub IsWord : List ℕ → ℕ → ℕ → Type 0
+IsWord text o n = IsCharBoundary text o × IsCharBoundary text (o + n)
+
+-- a token of a text that can be read, where so many values are kept
+abbrev pub IsReadable : List ℕ → ℕ → ShortToken → Type 0
+IsReadable text k (short.Word o n) = IsWord text o n
+IsReadable text k (short.Id o n) = IsWord text o n
+IsReadable text k (short.Float o n) = IsWord text o n
+IsReadable text k (short.Text o n) = o + n ≤ length text
+IsReadable text k (short.Kept i) = i < k
+IsReadable text k t = Unit {0}
+
+abbrev pub AreReadable : List ℕ → ℕ → List ShortToken → Type 0
+AreReadable text k ts = All (IsReadable text k) ts
