@@ -18,9 +18,9 @@ TEXTS = [
     ("rust/wat-tokens/Cargo.toml", r'^wat-(?:lex|parser) = \{ version = "=([^"]*)"'),
     ("page/wat-lex/package.json", r'^  "version": "(.*)",$'),
     ("include/wat.h", r'^#define WAT_VERSION_TEXT "(.*)"$'),
-    ("crates/wat_commands/src/help.rt", PROGRAM),
-    ("crates/wat_commands/specs/Help.antt", PROGRAM),
-    ("rust/wat-tokens/src/commands/help.rs", PROGRAM),
+    ("crates/wat_options/src/help.rt", PROGRAM),
+    ("crates/wat_options/specs/Help.antt", PROGRAM),
+    ("rust/wat-tokens/src/options/help.rs", PROGRAM),
 ]
 # Those that have it as a number.
 NUMBERS = [

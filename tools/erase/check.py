@@ -65,6 +65,7 @@ PLACES = {
     "wat_lines": ("wat_tokens::lines", "crate::lines"),
     "wat_lists": ("wat_tokens::lists", "crate::lists"),
     "wat_types": ("wat_tokens::types", "crate::types"),
+    "wat_options": ("wat_tokens::options", "crate::options"),
     "wat_commands": ("wat_tokens::commands", "crate::commands"),
     "wat_tokens": ("wat_tokens::program", "crate::program"),
     "wat_instructions": ("", "crate::instructions"),
@@ -76,7 +77,7 @@ PLACES = {
     "wat_imports": ("", "crate::imports"),
 }
 # Crates that are compiled together see each other as they see themselves.
-PROGRAM = {"wat_format", "wat_lines", "wat_lists", "wat_types", "wat_commands", "wat_tokens"}
+PROGRAM = {"wat_format", "wat_lines", "wat_lists", "wat_types", "wat_options", "wat_commands", "wat_tokens"}
 MODULES = {"wat_instructions", "wat_pieces", "wat_fields", "wat_fields_read", "wat_sections", "wat_modules"}
 TOGETHER = [{"wat_words", "wat_floats", "wat_lexer_parser"}, {"wat_rows", "wat_parser_c"}, PROGRAM, MODULES]
 # Of a function that C calls, with a space between tokens: what C passes of a slice, and the statements that its body begins with.

@@ -25,6 +25,7 @@ MODULES = {
     "wat_lines": "wat-tokens/src/lines",
     "wat_lists": "wat-tokens/src/lists",
     "wat_types": "wat-tokens/src/types",
+    "wat_options": "wat-tokens/src/options",
     "wat_commands": "wat-tokens/src/commands",
     "wat_tokens": "wat-tokens/src/program",
     "wat_instructions": "wat-modules/src/instructions",

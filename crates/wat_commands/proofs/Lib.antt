@@ -1,8 +1,5 @@
-mod CallLaws
 mod CompileLaws
 mod ModuleLaws
-mod FrontLaws
-mod OptionLaws
 mod OutcomeLaws
 mod PrintLaws
 mod RespondLaws

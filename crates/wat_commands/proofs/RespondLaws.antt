@@ -7,8 +7,8 @@ use Rattle.std.proofs.lemmas.List.{append-nil, nil_from_length}
 use Rattle.std.specs.Option.{option_map}
 use Rattle.std.specs.Prelude.{max, nat_eq, string_bytes, Option, Some, None, IsSome, IfSome, is_some}
 use Rattle.wat_lines.specs.declared.failed.Failed.{Failed}
-use Rattle.wat_commands.specs.Options.{Word}
-use Rattle.wat_commands.specs.OptionSteps.{IsNext}
+use Rattle.wat_options.specs.Options.{Word}
+use Rattle.wat_options.specs.OptionSteps.{IsNext}
 use Rattle.wat_commands.specs.Outcomes.{status}
 use Rattle.wat_commands.specs.Responses.{Layer, LaidOutEach, Runner, RanEach, RanFiles, worst}
 use Rattle.wat_commands.specs.Responses.LaidOutEach.{no_file, one_more}

@@ -1,10 +1,6 @@
 pub mod Compiles
 pub mod Modules
-pub mod Complaints
-pub mod Help
 pub mod JsonWrites
-pub mod Options
-pub mod OptionSteps
 pub mod Outcomes
 pub mod Printed
 pub mod Responses

@@ -10,7 +10,7 @@ use Rattle.wat_lists.specs.Places.{shown_in, of_file}
 use Rattle.wat_lists.specs.Refusals.{bare_refusal, error_of, refusal}
 use Rattle.wat_lists.specs.declared.input.RunFailure.{RunFailure}
 use Rattle.wat_lists.specs.declared.input.RunFailure.TheVariants.{Read, TooLong, NotUtf8, Write, Memory}
-use Rattle.wat_commands.specs.Complaints.{complaint}
+use Rattle.wat_options.specs.Complaints.{complaint}
 use Rattle.wat_commands.specs.Printed.{Prints, AppendsText, AppendsCut}
 use Rattle.wat_commands.specs.Runs.{RunsWithCause}
 use Rattle.wat_commands.specs.declared.outcome.Exit.{Exit}

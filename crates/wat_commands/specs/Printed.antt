@@ -12,9 +12,9 @@ use Rattle.wat_lists.specs.Replies.{Plays}
 use Rattle.wat_lists.specs.Shows.{Shows}
 use Rattle.wat_commands.specs.Compiles.{Compiles}
 use Rattle.wat_commands.specs.Modules.{CompilesModule}
-use Rattle.wat_commands.specs.Options.{calls_of}
-use Rattle.wat_commands.specs.declared.options.Task.{Task}
-use Rattle.wat_commands.specs.declared.options.Task.TheVariants as task
+use Rattle.wat_options.specs.Options.{calls_of}
+use Rattle.wat_options.specs.declared.options.Task.{Task}
+use Rattle.wat_options.specs.declared.options.Task.TheVariants as task
 
 -- a text is printed of bytes, and an error is answered, if there is one
 abbrev pub Prints : Type 1

@@ -7,14 +7,14 @@ use Rattle.wat_lex.specs.declared.lexer.settings.Settings.{Settings}
 use Rattle.wat_lines.specs.Streams.{AppendsPrefix}
 use Rattle.wat_lines.specs.declared.failed.Failed.{Failed}
 use Rattle.wat_lists.specs.declared.input.RunFailure.TheVariants.{Write}
-use Rattle.wat_commands.specs.Help.{help, version}
-use Rattle.wat_commands.specs.Options.{Word, Asks, AsksNothing, AsksPlay, file_in_question, file_names}
+use Rattle.wat_options.specs.Help.{help, version}
+use Rattle.wat_options.specs.Options.{Word, Asks, AsksNothing, AsksPlay, file_in_question, file_names}
 use Rattle.wat_commands.specs.Outcomes.{Ran, status}
 use Rattle.wat_commands.specs.Printed.{Prints}
-use Rattle.wat_commands.specs.declared.options.Command.{Command}
-use Rattle.wat_commands.specs.declared.options.Command.TheVariants.{Help, Version, Run, Format}
-use Rattle.wat_commands.specs.declared.options.Mode.{Mode}
-use Rattle.wat_commands.specs.declared.options.Task.{Task}
+use Rattle.wat_options.specs.declared.options.Command.{Command}
+use Rattle.wat_options.specs.declared.options.Command.TheVariants.{Help, Version, Run, Format}
+use Rattle.wat_options.specs.declared.options.Mode.{Mode}
+use Rattle.wat_options.specs.declared.options.Task.{Task}
 use Rattle.wat_commands.specs.declared.outcome.Outcome.{Outcome}
 use Rattle.wat_commands.specs.declared.outcome.Outcome.TheVariants.{Listed, Refused, Unopened}
 

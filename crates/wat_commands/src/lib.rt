@@ -4,9 +4,6 @@
 //! spells.
 #![tactic(auto)]
 
-pub mod complaint;
-pub mod help;
-pub mod options;
 pub mod outcome;
 mod print;
 pub mod respond;
@@ -15,3 +12,4 @@ pub mod run;
 pub use wat_lex::lexer::Settings;
 pub use wat_lines::ends;
 pub use wat_lists::{blank, calls, fmt, json, list, named, play, show};
+pub use wat_options::{complaint, help, options};

@@ -8,8 +8,6 @@ ghost use Rattle.wat_commands.specs.Outcomes.{refused, Ran, status, Tells};
 ghost use Rattle.wat_commands.specs.Outcomes.{TellsFault};
 ghost use Rattle.wat_commands.specs.Printed.{task_prints};
 
-use crate::complaint::Complaint;
-use crate::options::Task;
 use crate::run::{RunError, RunFailure, run};
 use std::alloc::Global;
 use std::{fmt, io};
@@ -17,6 +15,8 @@ use wat_lex::error::Error;
 use wat_lex::lexer::{LexError, Settings};
 use wat_lines::ends::{Failed, Sink, Source};
 use wat_lists::named::{Shown, named};
+use wat_options::complaint::Complaint;
+use wat_options::options::Task;
 
 /// What a run of the program ends in.
 #[derive(Drop)]

@@ -16,7 +16,6 @@ ghost use Rattle.wat_commands.specs.Printed.{task_prints};
 ghost use Rattle.wat_commands.specs.JsonWrites.{AppendsRows, AppendsRowsCut};
 ghost use Rattle.wat_commands.specs.Writes.{Writes};
 
-use crate::options::Task;
 use crate::run::RunFailure;
 use std::alloc::{AllocError, Global};
 use wat_lex::error::Error;
@@ -31,6 +30,7 @@ use wat_lists::list::{buffer_of, error_of, write_lines};
 use wat_lists::play::play;
 use wat_lists::show::{Ending, ending_of, parser_of, write_shown};
 use wat_modules::compile;
+use wat_options::options::Task;
 use wat_types::compile_types;
 
 /// The error of what was written, or that the write failed.

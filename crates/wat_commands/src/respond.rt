@@ -2,24 +2,24 @@
 ghost use Rattle.std.specs.Prelude.{◌≡◌, ◌⊎◌, ℕ, List, Bool, Option, None, IfSome, MatchResult, IsTrue, is_some};
 ghost use Rattle.std.specs.Prelude.{nat_lt, length};
 ghost use Rattle.std.specs.Option.{option_map};
-ghost use Rattle.wat_commands.specs.Options.{file_names};
+ghost use Rattle.wat_options.specs.Options.{file_names};
 ghost use Rattle.wat_commands.specs.Outcomes.{exit_code, status};
 ghost use Rattle.wat_commands.specs.Printed.{task_prints};
 ghost use Rattle.wat_commands.specs.Responses.{Found, Gives, Fails, IsMeant, IsNotMeant, name_of};
 ghost use Rattle.wat_commands.specs.Responses.{Acted, LaidOutAll, LaidOutEach, RanFile, RanFileOf};
 ghost use Rattle.wat_commands.specs.Responses.{RanAll, RanFiles, RanWith, Responded, Says, label};
-ghost use Rattle.wat_commands.specs.declared.options.Mode.{Mode};
+ghost use Rattle.wat_options.specs.declared.options.Mode.{Mode};
 ghost use Rattle.wat_lex.specs.declared.lexer.settings.Settings.{Settings};
 
-use crate::complaint::complaint_of;
-use crate::help::{help, version};
-use crate::options::{Command, FileNames, Mode, Task, file_in_question, read_words};
 use crate::outcome::{Exit, Outcome, carry_out};
 use crate::run::RunFailure;
 use std::alloc::Global;
 use std::io;
 use wat_lex::lexer::Settings;
 use wat_lines::ends::{Failed, Sink, Source};
+use wat_options::complaint::complaint_of;
+use wat_options::help::{help, version};
+use wat_options::options::{Command, FileNames, Mode, Task, file_in_question, read_words};
 
 /// Where texts are found by the names of their files.
 pub trait Inputs {

@@ -12,7 +12,6 @@ ghost use Rattle.wat_lists.specs.Shows.{Shows};
 ghost use Rattle.wat_commands.specs.Printed.{task_prints, AppendsText, AppendsCut};
 ghost use Rattle.wat_commands.specs.Runs.{Runs, RunsWithCause, without_cause, without_error};
 
-use crate::options::{Calls, Task};
 use crate::print::print;
 use std::alloc::Global;
 use wat_lex::error::Error;
@@ -21,6 +20,7 @@ use wat_lexer_parser::parser::Call;
 use wat_lines::ends::{Sink, Source};
 use wat_lists::input::read_whole;
 pub use wat_lists::input::{RunError, RunFailure};
+use wat_options::options::{Calls, Task};
 
 /// Reads all that the source has left, and writes what the task prints of it.
 fn read_and_print<R: Source, W: Sink>(

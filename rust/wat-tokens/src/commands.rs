@@ -4,9 +4,6 @@
 //! or write the text with its comments blanked, or laid out, or the bytes of the module that the text
 //! spells.
 use crate::shim::prelude::*;
-pub mod complaint;
-pub mod help;
-pub mod options;
 pub mod outcome;
 mod print;
 pub mod respond;
@@ -15,3 +12,4 @@ pub mod run;
 pub use wat_lex::proved::lexer::Settings;
 pub use crate::lines::ends;
 pub use crate::lists::{blank, calls, fmt, json, list, named, play, show};
+pub use crate::options::{complaint, help, options};

@@ -36,7 +36,7 @@ macro_rules! made {
     )*};
 }
 
-made! { commands format lines lists program types }
+made! { commands format lines lists options program types }
 
 // Names and signatures are those of Rattle's library, whose documentation has their errors.
 #[allow(clippy::pedantic)]

@@ -2,8 +2,6 @@
 //! What a run of the program ends in.
 
 use crate::shim::prelude::*;
-use crate::commands::complaint::Complaint;
-use crate::commands::options::Task;
 use crate::commands::run::{RunError, RunFailure, run};
 use crate::shim::alloc::Global;
 use crate::shim::{fmt, io};
@@ -11,6 +9,8 @@ use wat_lex::proved::error::Error;
 use wat_lex::proved::lexer::{LexError, Settings};
 use crate::lines::ends::{Failed, Sink, Source};
 use crate::lists::named::{Shown, named};
+use crate::options::complaint::Complaint;
+use crate::options::options::Task;
 
 /// What a run of the program ends in.
 pub enum Outcome<'a> {

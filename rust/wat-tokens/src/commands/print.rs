@@ -2,7 +2,6 @@
 //! What is printed of bytes that may be no text.
 
 use crate::shim::prelude::*;
-use crate::commands::options::Task;
 use crate::commands::run::RunFailure;
 use crate::shim::alloc::{AllocError, Global};
 use wat_lex::proved::error::Error;
@@ -17,6 +16,7 @@ use crate::lists::list::{buffer_of, error_of, write_lines};
 use crate::lists::play::play;
 use crate::lists::show::{Ending, ending_of, parser_of, write_shown};
 use wat_modules::proved::compile;
+use crate::options::options::Task;
 use crate::types::compile_types;
 
 /// The error of what was written, or that the write failed.

@@ -2,15 +2,15 @@
 //! What the program answers to the words of its command line.
 
 use crate::shim::prelude::*;
-use crate::commands::complaint::complaint_of;
-use crate::commands::help::{help, version};
-use crate::commands::options::{Command, FileNames, Mode, Task, file_in_question, read_words};
 use crate::commands::outcome::{Exit, Outcome, carry_out};
 use crate::commands::run::RunFailure;
 use crate::shim::alloc::Global;
 use crate::shim::io;
 use wat_lex::proved::lexer::Settings;
 use crate::lines::ends::{Failed, Sink, Source};
+use crate::options::complaint::complaint_of;
+use crate::options::help::{help, version};
+use crate::options::options::{Command, FileNames, Mode, Task, file_in_question, read_words};
 
 /// Where texts are found by the names of their files.
 pub trait Inputs {

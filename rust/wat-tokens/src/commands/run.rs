@@ -2,7 +2,6 @@
 //! From a source of bytes to what is printed on a sink.
 
 use crate::shim::prelude::*;
-use crate::commands::options::{Calls, Task};
 use crate::commands::print::print;
 use crate::shim::alloc::Global;
 use wat_lex::proved::error::Error;
@@ -11,6 +10,7 @@ use wat_parser::proved::parser::Call;
 use crate::lines::ends::{Sink, Source};
 use crate::lists::input::read_whole;
 pub use crate::lists::input::{RunError, RunFailure};
+use crate::options::options::{Calls, Task};
 
 /// Reads all that the source has left, and writes what the task prints of it.
 ///

@@ -1,6 +1,6 @@
 use Rattle.std.proofs.Common.{refl, None}
 use Rattle.wat_lists.specs.Replies.{Plays}
-use Rattle.wat_commands.specs.Options.{calls_of}
+use Rattle.wat_options.specs.Options.{calls_of}
 use Rattle.wat_commands.proofs.PrintLaws.{writes_as}
 use Rattle.wat_commands.proofs.print.print_of.Goals as goal
 

@@ -1,6 +1,6 @@
 use Rattle.std.specs.Option.{option_map}
 use Rattle.std.proofs.Common.{ap, sym, ◌∙◌}
-use Rattle.wat_commands.specs.Options.{file_in_question}
+use Rattle.wat_options.specs.Options.{file_in_question}
 use Rattle.wat_commands.proofs.RespondLaws.{in_question}
 use Rattle.wat_commands.proofs.respond.is_meant.Goals as goal
 

@@ -1,4 +1,4 @@
-use Rattle.wat_commands.specs.Options.{file_names}
+use Rattle.wat_options.specs.Options.{file_names}
 use Rattle.wat_commands.specs.Outcomes.{exit_code}
 use Rattle.wat_commands.proofs.RespondLaws.{none_laid, one_more_laid, all_laid}
 use Rattle.wat_commands.proofs.respond.lay_out_files.Goals as goal

@@ -1,5 +1,5 @@
 use Rattle.std.proofs.Common.{length}
-use Rattle.wat_commands.specs.Options.{file_names}
+use Rattle.wat_options.specs.Options.{file_names}
 use Rattle.wat_commands.specs.Outcomes.{exit_code}
 use Rattle.wat_commands.proofs.RespondLaws.{LaidSoFar}
 use Rattle.wat_commands.proofs.respond.lay_out_files.Given as goal

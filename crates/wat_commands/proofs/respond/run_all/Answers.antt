@@ -1,5 +1,5 @@
 use Rattle.std.proofs.Common.{refl, sym, ◌∙◌}
-use Rattle.wat_commands.specs.Options.{file_names}
+use Rattle.wat_options.specs.Options.{file_names}
 use Rattle.wat_commands.specs.Responses.RanAll.{alone}
 use Rattle.wat_commands.proofs.RespondLaws.{none_named}
 use Rattle.wat_commands.proofs.respond.run_all.Goals as goal

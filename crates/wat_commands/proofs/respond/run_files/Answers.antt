@@ -1,5 +1,5 @@
 use Rattle.std.proofs.Common.{inl, inr, rules}
-use Rattle.wat_commands.specs.Options.{file_names}
+use Rattle.wat_options.specs.Options.{file_names}
 use Rattle.wat_commands.specs.Outcomes.{exit_code}
 use Rattle.wat_commands.proofs.RespondLaws.{none_ran, one_more_ran, all_ran}
 use Rattle.wat_commands.proofs.respond.run_files.Goals as goal

@@ -1,6 +1,6 @@
 use Rattle.std.proofs.Common.{length}
 use Rattle.std.specs.Prelude.{nat_lt}
-use Rattle.wat_commands.specs.Options.{file_names}
+use Rattle.wat_options.specs.Options.{file_names}
 use Rattle.wat_commands.specs.Outcomes.{exit_code}
 use Rattle.wat_commands.specs.Printed.{task_prints}
 use Rattle.wat_commands.specs.Responses.{RanFileOf, label}

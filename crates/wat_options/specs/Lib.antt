@@ -1,0 +1,4 @@
+pub mod Complaints
+pub mod Help
+pub mod Options
+pub mod OptionSteps
