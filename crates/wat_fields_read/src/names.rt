@@ -175,6 +175,7 @@ fn starts<'p, 'a>(alloc: Global, pieces: Pieces<'p, 'a>) -> Result<Vec<Left<'p, 
 {
     let mut starts = Vec::new(alloc);
     let mut depth = Depth::Before;
+    // So many groups are open at most.
     let _count = pieces.len();
     let mut left = Left { pieces };
     while let Some((piece, rest)) = left.pieces.first() {

@@ -74,12 +74,23 @@ abbrev pub with_index : Result (ℕ × List Terminal) Fault → Result (Argument
 with_index (Ok (n, ts)) = Ok (argument.Index n, ts)
 with_index (Err f) = Err f
 
--- 6.3.1 integers: i32 is a number of 32 bits without a sign, or one with a sign, from -2 ^ 31 to 2 ^ 31 - 1. Both denote the 32 bits; as a number with a
--- sign these are below 2 ^ 31.
+-- 6.3.1 integers: iN is a number of N bits without a sign, or one with a sign, from -half to half - 1, where half is 2 ^ (N - 1). Both denote N bits,
+-- here as a number without a sign: those of -n are those of 2 * half - n.
+abbrev pub opposite : ℕ → ℕ → ℕ
+opposite half zero = zero
+opposite half (suc n) = half * 2 - suc n
+
+abbrev pub integer_bits : ℕ → Sign → ℕ → Option ℕ
+integer_bits half sign.Absent n = if nat_lt n (half * 2) then Some n else None
+integer_bits half sign.Plus n = if nat_lt n half then Some n else None
+integer_bits half sign.Minus n = if nat_le n half then Some (opposite half n) else None
+
+-- 4.3.2: the same bits as a number with a sign
+abbrev pub signed_by : ℕ → ℕ → ℤ
+signed_by half n = if nat_lt n half then pos n else pos n -ℤ pos (half * 2)
+
 abbrev pub signed : ℕ → Sign → ℕ → Option ℤ
-signed half sign.Absent n = if nat_lt n half then Some (pos n) else if nat_lt n (half * 2) then Some (pos n -ℤ pos (half * 2)) else None
-signed half sign.Plus n = if nat_lt n half then Some (pos n) else None
-signed half sign.Minus n = if nat_le n half then Some (pos 0 -ℤ pos n) else None
+signed half s n = option_map (signed_by half) (integer_bits half s n)
 
 abbrev pub i32_by : Option ℤ → List Terminal → List Terminal → Result (Argument × List Terminal) Fault
 i32_by (Some n) all ts = Ok (argument.I32 n, ts)
@@ -180,16 +191,6 @@ lane_indices (suc n) ts = and_indices (lane_index ts) (lane_indices n)
 -- 6.5.9: i8x16.shuffle laneidx ^ 16; 5.4.8: a byte each
 abbrev pub shuffle : List Terminal → Result (Argument × List Terminal) Fault
 shuffle ts = with_bytes (lane_indices 16 ts)
-
--- 6.3.1: the bits of an integer of so many, as a number without a sign, where half is 2 ^ (so many - 1): those of -n are those of 2 * half - n
-abbrev pub opposite : ℕ → ℕ → ℕ
-opposite half zero = zero
-opposite half (suc n) = half * 2 - suc n
-
-abbrev pub integer_bits : ℕ → Sign → ℕ → Option ℕ
-integer_bits half sign.Absent n = if nat_lt n (half * 2) then Some n else None
-integer_bits half sign.Plus n = if nat_lt n half then Some n else None
-integer_bits half sign.Minus n = if nat_le n half then Some (opposite half n) else None
 
 abbrev pub integer : ℕ → List Terminal → Result (ℕ × List Terminal) Fault
 integer half (Integer s n ∷ ts) = bits_by (integer_bits half s n) (Integer s n ∷ ts) ts

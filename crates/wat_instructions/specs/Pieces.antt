@@ -1,4 +1,4 @@
--- The terminal symbols that the code has before it. No part of the standard.
+-- The terminal symbols that are left to read. No part of the standard.
 use Rattle.std.specs.Prelude.{List, drop}
 use Rattle.wat_instructions.specs.declared.source.Pieces.{Pieces}
 use Rattle.wat_instructions.specs.Terminals.{Terminal}

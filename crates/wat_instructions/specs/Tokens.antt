@@ -18,6 +18,7 @@ kept_terminal (kept.Piece p) = terminal p
 kept_terminal (kept.Id x) = Id (string_bytes x)
 kept_terminal (kept.Text v) = Text v.items
 
+-- what is kept at an index; where nothing is, which is so of no token that can be read, a token that no rule takes
 abbrev pub kept_or : Option Kept → Terminal
 kept_or None = Other
 kept_or (Some k) = kept_terminal k
@@ -34,18 +35,22 @@ terminal_in text ks (short.Text o n) = Text (bytes_at text o n)
 terminal_in text ks (short.Kept i) = kept_or (slice_get ks i)
 terminal_in text ks short.Other = Other
 
--- these bytes are characters of the text
-abbrev pub IsWord : List ℕ → ℕ → ℕ → Type 0
-IsWord text o n = IsCharBoundary text o × IsCharBoundary text (o + n)
+-- these bytes are whole characters of the text
+abbrev pub AreCharacters : List ℕ → ℕ → ℕ → Type 0
+AreCharacters text o n = IsCharBoundary text o × IsCharBoundary text (o + n)
 
--- a token of a text that can be read, where so many values are kept
+-- A token of a text can be read, where so many values are kept. That its own is one of them says that more values leave it what it is.
 abbrev pub IsReadable : List ℕ → ℕ → ShortToken → Type 0
-IsReadable text k (short.Word o n) = IsWord text o n
-IsReadable text k (short.Id o n) = IsWord text o n
-IsReadable text k (short.Float o n) = IsWord text o n
+IsReadable text k (short.Word o n) = AreCharacters text o n
+IsReadable text k (short.Id o n) = AreCharacters text o n
+IsReadable text k (short.Float o n) = AreCharacters text o n
 IsReadable text k (short.Text o n) = o + n ≤ length text
 IsReadable text k (short.Kept i) = i < k
-IsReadable text k t = Unit {0}
+IsReadable text k (short.Integer s n) = Unit {0}
+IsReadable text k short.Open = Unit {0}
+IsReadable text k short.Close = Unit {0}
+IsReadable text k short.Other = Unit {0}
 
+-- all of them can be read
 abbrev pub AreReadable : List ℕ → ℕ → List ShortToken → Type 0
 AreReadable text k ts = All (IsReadable text k) ts

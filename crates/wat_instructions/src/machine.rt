@@ -27,8 +27,8 @@ const END: Instruction = Instruction {
     argument: Argument::Nothing,
 };
 
-/// The instructions of a body up to its `)`, and what comes after that. They take no more memory
-/// than they need.
+/// The instructions of a body up to its `)`, and what comes after that. Room that they do not need
+/// is given back.
 pub fn instructions<'p, 'a>(
     alloc: Global,
     scope: &Scope<'_, '_>,

@@ -3,7 +3,7 @@
 ghost use Rattle.std.specs.Prelude.{◌≡◌, ◌≤◌, ◌<◌, ◌^◌, ◌+◌, ◌∷◌, [], None, Some, length, map, slice_get, IfSome, MatchOption};
 ghost use Rattle.wat_instructions.specs.Pieces.{terminals_of};
 ghost use Rattle.wat_instructions.specs.Terminals.{terminal};
-ghost use Rattle.wat_instructions.specs.Tokens.{AreReadable, IsReadable, IsWord, bytes_at, kept_or, terminal_in};
+ghost use Rattle.wat_instructions.specs.Tokens.{AreCharacters, AreReadable, IsReadable, bytes_at, kept_or, terminal_in};
 
 use crate::pieces::{Piece, Sign};
 use std::marker::Model;
@@ -20,7 +20,7 @@ pub enum ShortToken {
     Id(u32, u8),
     /// An integer below 2^32 in size.
     Integer(Sign, u32),
-    /// A number that is no integer.
+    /// Another number.
     Float(u32, u8),
     /// A string, by its value.
     Text(u32, u8),
@@ -30,8 +30,8 @@ pub enum ShortToken {
     Other,
 }
 
-/// What is kept of a token: a value that escapes spell, one of more than 255 bytes, or an integer of
-/// more than 32 bits.
+/// What is kept of a token: a value that escapes spell, the name of a quoted identifier, a value of
+/// more than 255 bytes, or an integer of more than 32 bits.
 #[derive(Drop)]
 pub enum Kept<'a> {
     Piece(Piece<'a>),
@@ -114,10 +114,10 @@ fn read<'a>(text: &'a str, kept: &'a [Kept<'a>], token: ShortToken) -> Piece<'a>
     match token {
         ShortToken::Open => Piece::Open,
         ShortToken::Close => Piece::Close,
-        ShortToken::Word(offset, len) => Piece::Word(word(text, offset, len)),
-        ShortToken::Id(offset, len) => Piece::Id(word(text, offset, len)),
+        ShortToken::Word(offset, len) => Piece::Word(characters(text, offset, len)),
+        ShortToken::Id(offset, len) => Piece::Id(characters(text, offset, len)),
         ShortToken::Integer(sign, size) => Piece::Integer(sign, u64::from(size)),
-        ShortToken::Float(offset, len) => Piece::Float(word(text, offset, len)),
+        ShortToken::Float(offset, len) => Piece::Float(characters(text, offset, len)),
         ShortToken::Text(offset, len) => Piece::Text(bytes(text, offset, len)),
         ShortToken::Kept(index) => at_index(kept, index as usize),
         ShortToken::Other => Piece::Other,
@@ -127,18 +127,15 @@ fn read<'a>(text: &'a str, kept: &'a [Kept<'a>], token: ShortToken) -> Piece<'a>
 /// Characters of a text. `get` rather than an index: where the answer is not used, nothing of it is
 /// computed.
 #[inline(always)]
-fn word(text: &str, offset: u32, len: u8) -> &str
-    requires { IsWord text.now offset len }
+fn characters(text: &str, offset: u32, len: u8) -> &str
+    requires { AreCharacters text.now offset len }
     ensures { result.now ≡ bytes_at text.now offset len }
 {
     let start = offset as usize;
-    match text.get(start..start + usize::from(len)) {
-        Some(word) => word,
-        None => "",
-    }
+    text.get(start..start + usize::from(len)).unwrap_or("")
 }
 
-/// Bytes of a text.
+/// Bytes of a text, by `get` as well.
 #[inline(always)]
 fn bytes(text: &str, offset: u32, len: u8) -> &[u8]
     requires { offset + len ≤ length text.now }

@@ -7,7 +7,7 @@ use Rattle.wat_pieces.specs.declared.Draft.{Draft}
 use Rattle.wat_pieces.specs.declared.Read.{Read}
 use Rattle.wat_pieces.specs.declared.Read.TheVariants as read
 
--- what is put down can be read as this, whatever else is kept
+-- what is put down can be read as this; if it is a token, then by the text alone, whatever is kept
 abbrev pub IsReadAs : List ℕ → Read → Terminal → Type 0
 IsReadAs text (read.Short t) x = ((ks : List Kept) → terminal_in text ks t ≡ x) × IsReadable text 0 t
 IsReadAs text (read.Kept k) x = kept_terminal k ≡ x

@@ -2,11 +2,11 @@
 use Rattle.std.specs.Prelude.{◌≡◌, ℕ, ◌^◌, true, List, map, nat_lt, Option, Some, None, Result, Ok, Err, if◌then◌else◌}
 use Rattle.wat_lex.specs.declared.lexer.faults.LexError.{LexError}
 use Rattle.wat_lex.specs.declared.lexer.faults.LexError.TheVariants.{EmptyId}
+use Rattle.wat_lex.specs.declared.lexer.kinds.SignToken.{SignToken}
+use Rattle.wat_lex.specs.declared.lexer.kinds.SignToken.TheVariants as token_sign
 use Rattle.wat_lex.specs.declared.lexer.kinds.Token.{Token}
 use Rattle.wat_lex.specs.declared.lexer.kinds.TokenKind.{TokenKind}
 use Rattle.wat_lex.specs.declared.lexer.kinds.TokenKind.TheVariants as kind
-use Rattle.wat_lex.specs.declared.lexer.kinds.SignToken.{SignToken}
-use Rattle.wat_lex.specs.declared.lexer.kinds.SignToken.TheVariants as token_sign
 use Rattle.wat_lex.specs.tokens.ReadableTokens.{token_text, word_of}
 use Rattle.wat_lex.specs.tokens.Setting.{Setting}
 use Rattle.wat_lex.specs.values.IntegerFacts.{kind_hex, kind_sign}

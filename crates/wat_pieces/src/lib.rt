@@ -1,5 +1,5 @@
-//! The tokens that count of a text, each with its value: the terminal symbols of the grammar of
-//! modules.
+//! The tokens that count of a text, which are the terminal symbols of the grammar of modules, in 8
+//! bytes each.
 #![tactic(auto)]
 
 ghost use Rattle.std.specs.Prelude.{◌≡◌, ◌≤◌, ◌<◌, ◌^◌, ◌++◌, ◌∷◌, [], suc, IfErr, IfOk, IfSome, None, OnOk, List, length, ℕ};
@@ -32,7 +32,7 @@ pub struct Draft<'t> {
     pub kept: Vec<Kept<'t>>,
 }
 
-/// The pieces of the tokens that are shown, and the error of the fault after them.
+/// What is put down of the tokens that are shown, and the error of the fault after them.
 #[derive(Drop)]
 pub struct ShownPieces<'t> {
     pub draft: Draft<'t>,
@@ -181,7 +181,8 @@ fn read_float<'t>(text: &'t str, token: &Token) -> Read<'t>
     }
 }
 
-/// What is put down of an identifier with this name, which mostly is what the text has after `$`.
+/// What is put down of an identifier with this name, which is what the text has after `$`, but for a
+/// quoted one.
 fn read_name<'t>(text: &'t str, token: &Token, name: &'t str) -> Read<'t>
     requires token { IsTokenOf text.now token.now }
     requires small { length text.now < 2 ^ 32 }
@@ -189,10 +190,11 @@ fn read_name<'t>(text: &'t str, token: &Token, name: &'t str) -> Read<'t>
 {
     let start = token.offset + 1;
     let end = start + name.len();
-    let is_there = text.is_char_boundary(start)
+    let is_there = name.len() < 256
+        && text.is_char_boundary(start)
         && text.is_char_boundary(end)
         && &text[start..end] == name;
-    if is_there && name.len() < 256 {
+    if is_there {
         return Read::Short(ShortToken::Id(start as u32, name.len() as u8));
     }
     Read::Kept(Kept::Piece(Piece::Id(name)))
@@ -252,7 +254,7 @@ fn push_token<'t>(
     push(text, draft, read)
 }
 
-/// All that a text shows where no name is registered, as pieces.
+/// All that a text shows where no name is registered, in 8 bytes each.
 pub fn shown_pieces(alloc: Global, text: &str) -> Result<ShownPieces<'_>, Error>
     requires { length text.now < 2 ^ 32 }
     ensures shown { IfOk result (λ r. PiecesShown text.now (draft_terminals text.now r.draft) r.error) }

@@ -66,6 +66,9 @@ pub fn parse_str(text: impl AsRef<str>) -> Result<Vec<u8>, Error> {
     Ok(bytes.into())
 }
 
+/// The memory that a text takes is for the most part that of its tokens.
+const _: () = assert!(size_of::<instructions::source::ShortToken>() == 8);
+
 /// The examples of the README, as tests.
 #[cfg(doctest)]
 #[doc = include_str!("../README.md")]

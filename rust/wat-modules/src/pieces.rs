@@ -1,6 +1,6 @@
 // Made by tools/erase from crates/wat_pieces/src/lib.rt; do not edit.
-//! The tokens that count of a text, each with its value: the terminal symbols of the grammar of
-//! modules.
+//! The tokens that count of a text, which are the terminal symbols of the grammar of modules, in 8
+//! bytes each.
 
 use wat_lex::shim::prelude::*;
 use wat_lex::shim::alloc::{AllocError, Global};
@@ -23,7 +23,7 @@ pub struct Draft<'t> {
     pub kept: Vec<Kept<'t>>,
 }
 
-/// The pieces of the tokens that are shown, and the error of the fault after them.
+/// What is put down of the tokens that are shown, and the error of the fault after them.
 pub struct ShownPieces<'t> {
     pub draft: Draft<'t>,
     pub error: Option<Error>,
@@ -200,7 +200,8 @@ fn read_float<'t>(text: &'t str, token: &Token) -> Read<'t> {
     }
 }
 
-/// What is put down of an identifier with this name, which mostly is what the text has after `$`.
+/// What is put down of an identifier with this name, which is what the text has after `$`, but for a
+/// quoted one.
 ///
 /// # Proved
 ///
@@ -212,9 +213,11 @@ fn read_float<'t>(text: &'t str, token: &Token) -> Read<'t> {
 fn read_name<'t>(text: &'t str, token: &Token, name: &'t str) -> Read<'t> {
     let start = token.offset + 1;
     let end = start + name.len();
-    let is_there =
-        text.is_char_boundary(start) && text.is_char_boundary(end) && &text[start..end] == name;
-    if is_there && name.len() < 256 {
+    let is_there = name.len() < 256
+        && text.is_char_boundary(start)
+        && text.is_char_boundary(end)
+        && &text[start..end] == name;
+    if is_there {
         return Read::Short(ShortToken::Id(start as u32, name.len() as u8));
     }
     Read::Kept(Kept::Piece(Piece::Id(name)))
@@ -285,7 +288,7 @@ fn push_token<'t>(
     push(text, draft, read)
 }
 
-/// All that a text shows where no name is registered, as pieces.
+/// All that a text shows where no name is registered, in 8 bytes each.
 ///
 /// # Proved
 ///

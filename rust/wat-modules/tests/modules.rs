@@ -266,6 +266,31 @@ fn a_type_is_found_among_many() {
 }
 
 #[test]
+fn values_of_each_length_are_read() {
+    for length in [0, 1, 2, 127, 254, 255, 256, 257, 300, 5000] {
+        let name = "n".repeat(length);
+        let text = format!(
+            "(func $f{name}) (export \"{name}\" (func $f{name})) (memory 0) (data \"{name}\")"
+        );
+        let escaped = format!(
+            "(func $\"f{name}\") (export \"{name}\" (func $\"\\66{name}\")) (memory 0) (data \"{name}\")"
+        );
+        let bytes = parse_str(&text).unwrap();
+        let count = bytes
+            .windows(length.max(1))
+            .filter(|part| part.iter().all(|byte| *byte == b'n'));
+        assert!(length == 0 || count.count() == 2, "{length}");
+        assert_eq!(bytes, parse_str(&escaped).unwrap(), "{length}");
+    }
+    let word = "w".repeat(300);
+    let error = parse_str(format!("(func\n{word})")).unwrap_err();
+    assert_eq!(
+        (error.message().as_str(), error.span().offset()),
+        ("unknown keyword", 6)
+    );
+}
+
+#[test]
 fn prefixes_are_answered() {
     let function = "(func $fN (export \"é N\") (param $x i32) (result i64) (local f32 f64)\n \
         (block $a (br_if $a (local.get $x)) ;; one\n (call $fN (i32.const -0x1_0))) (; two ;) drop i64.const 5)\n";

@@ -191,6 +191,7 @@ pub(crate) fn names_in<'s, 'a>(names: &'s Names<'a>, space: IndexSpace) -> &'s I
 fn starts<'p, 'a>(alloc: Global, pieces: Pieces<'p, 'a>) -> Result<Vec<Left<'p, 'a>>, AllocError> {
     let mut starts = Vec::new(alloc);
     let mut depth = Depth::Before;
+    // So many groups are open at most.
     let _count = pieces.len();
     let mut left = Left { pieces };
     while let Some((piece, rest)) = left.pieces.first() {
