@@ -66,7 +66,7 @@ pub fn parse_str(text: impl AsRef<str>) -> Result<Vec<u8>, Error> {
     Ok(bytes.into())
 }
 
-/// The memory that a text takes is for the most part that of its tokens.
+/// Each token that counts takes so much memory.
 const _: () = assert!(size_of::<instructions::source::ShortToken>() == 8);
 
 /// The examples of the README, as tests.
