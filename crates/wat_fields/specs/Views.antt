@@ -1,12 +1,13 @@
 -- What the code's fields are in the definitions.
 use denote.Ref.{Bor}
-use Rattle.std.specs.Prelude.{ℕ, List, map, Option, Some, None, Vec}
+use Rattle.std.specs.Prelude.{ℕ, List, map, replicate, Option, Some, None, Vec}
 use Rattle.wat_instructions.specs.Terminals.{label}
 use Rattle.wat_instructions.specs.Views.{type_of, use_of}
 use Rattle.wat_fields.specs.declared.fields.Definition as declared_definition
 use Rattle.wat_fields.specs.declared.fields.ExternType as declared_extern
 use Rattle.wat_fields.specs.declared.fields.ExternType.TheVariants as externs
 use Rattle.wat_fields.specs.declared.fields.Function as declared_function
+use Rattle.wat_fields.specs.declared.fields.Locals as declared_locals
 use Rattle.wat_fields.specs.declared.fields.Field as declared_field
 use Rattle.wat_fields.specs.declared.fields.Field.TheVariants as fields
 use Rattle.wat_fields.specs.declared.fields.Target as declared_target
@@ -15,6 +16,7 @@ use Rattle.wat_fields.specs.declared.fields.Elements.TheVariants as elements
 use Rattle.wat_fields.specs.declared.fields.ElemMode as declared_mode
 use Rattle.wat_fields.specs.declared.fields.ElemMode.TheVariants as modes
 use Rattle.wat_instructions.specs.declared.pieces.Instruction.{Instruction}
+use Rattle.wat_instructions.specs.declared.pieces.ValueType.{ValueType}
 use Rattle.std.specs.List.{flat_map}
 use Rattle.wat_fields.specs.Fields.{ExternType, FuncType, OfTable, OfMemory, OfGlobal, Field, TypeField, Import, Func, Table, Memory, Global, Start, Definition, Function, definition, Data, Elem, ElemMode, Passive, Active, Declarative, Elements, Target, ref_func, target}
 use Rattle.wat_fields.specs.Fields as field
@@ -27,12 +29,16 @@ text_of n = n.now
 abbrev pub together : List (Bor (List ℕ)) → List ℕ
 together strings = flat_map text_of strings
 
+-- 5.5.13: so many of a type
+abbrev pub local_types : declared_locals.Locals → List ValueType
+local_types l = replicate l.count l.of
+
 abbrev pub function_of : declared_function.Function → Function
 function_of f = record {
   name = label f.name;
   exports = map text_of f.exports.items;
   uses = use_of f.uses;
-  locals = f.locals.items;
+  locals = flat_map local_types f.locals.items;
   body = f.body.items;
 }
 

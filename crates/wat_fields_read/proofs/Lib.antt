@@ -3,6 +3,7 @@ pub mod SameTypes
 pub mod Items
 pub mod TypeRules
 pub mod SegmentKinds
+pub mod Starts
 pub mod ElementKinds
 pub mod FieldKinds
 pub mod Headers

@@ -18,6 +18,7 @@ use Rattle.wat_fields.specs.Modules.{FieldsAre, Module, by_module, by_fields, ow
 use Rattle.wat_instructions.specs.Uses.{MoreTypesKeep, UnknownTypesBring, unknown}
 use Rattle.wat_fields_read.specs.Law.{ReadingIsGrammar}
 use Rattle.wat_fields_read.specs.Reading.{Read, after, all, export, export_item, elem_name_at, inline_elem, elem_after_type, data_name_at, inline_data, unnamed_by, field_item, fields_at, fields_by, fields_again, fields_or, all_by, all_types, defined_types, context_by, binding_by, import_binding, binding_at, definition_by, definition_at, type_at, whole, whole_by, ended, at_end, ended_by, ordered, starts, Before, Inside}
+use Rattle.wat_fields_read.proofs.Starts.{inside_past}
 use Rattle.wat_fields_read.proofs.Headers.{item_ends, other_word}
 use Rattle.wat_fields_read.proofs.Items.{Finds, word_is, begins, after_is, exports_read}
 use Rattle.wat_fields_read.proofs.TypeRules.{limits_no_data, limits_no_export}
@@ -25,27 +26,6 @@ use Rattle.wat_fields_read.proofs.FieldKinds.{Laws, Closes, field_after, fields_
 use Rattle.wat_fields_read.proofs.OtherTypes.{more_fields, unknown_fields}
 use Rattle.wat_fields_read.proofs.Manies.{all_sound, all_complete}
 use Rattle.wat_fields_read.proofs.Manies as manies
-
--- Where fields begin, by the parentheses alone.
-
-inside_past : (d : ℕ) (ss : List (List Terminal)) (ts : List Terminal) → starts (Inside d) ss ts ≡ starts Before ss (past d ts)
-unfolding starts
-inside_past d ss [] = refl
-inside_past d ss (Open ∷ ts) = inside_past (suc d) ss ts
-inside_past zero ss (Close ∷ ts) = refl
-inside_past (suc d) ss (Close ∷ ts) = inside_past d ss ts
-inside_past zero ss (Word w ∷ ts) = inside_past zero ss ts
-inside_past (suc d) ss (Word w ∷ ts) = inside_past (suc d) ss ts
-inside_past zero ss (Id x ∷ ts) = inside_past zero ss ts
-inside_past (suc d) ss (Id x ∷ ts) = inside_past (suc d) ss ts
-inside_past zero ss (Integer s n ∷ ts) = inside_past zero ss ts
-inside_past (suc d) ss (Integer s n ∷ ts) = inside_past (suc d) ss ts
-inside_past zero ss (Text v ∷ ts) = inside_past zero ss ts
-inside_past (suc d) ss (Text v ∷ ts) = inside_past (suc d) ss ts
-inside_past zero ss (Float narrow wide ∷ ts) = inside_past zero ss ts
-inside_past zero ss (Other ∷ ts) = inside_past zero ss ts
-inside_past (suc d) ss (Float narrow wide ∷ ts) = inside_past (suc d) ss ts
-inside_past (suc d) ss (Other ∷ ts) = inside_past (suc d) ss ts
 
 field_start : (w : List ℕ) (us r : List Terminal) → Closes (label_of us).1 r → (ss : List (List Terminal)) → starts Before ss (Open ∷ Word w ∷ us) ≡ starts Before (ss ++ (Word w ∷ us) ∷ []) r
 unfolding starts

@@ -1,5 +1,5 @@
 -- What the code's tokens, names, variables and type uses are in the definitions, and what a call that reads promises.
-use Rattle.std.specs.Prelude.{◌≡◌, ◌≤◌, ◌++◌, ℕ, List, [], map, Some, None, Ok, Err}
+use Rattle.std.specs.Prelude.{◌≡◌, ◌++◌, List, [], map, Some, None, Ok, Err}
 use Rattle.wat_instructions.specs.declared.pieces.Refusal.{Refusal}
 use Rattle.wat_instructions.specs.declared.pieces.Refusal.TheVariants as refusal
 use Rattle.wat_instructions.specs.Parts.{fault_of}
@@ -13,10 +13,8 @@ use Rattle.wat_fields_read.specs.declared.names.Binding as declared_binding
 use Rattle.wat_fields_read.specs.declared.names.Names as declared_names
 use Rattle.wat_fields_read.specs.declared.variables.NamedUse as declared_use
 use Rattle.wat_fields_read.specs.declared.variables.Variable as declared_variable
-use Rattle.wat_fields_read.specs.declared.names.Depth as declared_depth
-use Rattle.wat_fields_read.specs.declared.names.Depth.TheVariants as depths
 use Rattle.wat_fields.specs.Fields.{Binding, NamedUse, Variable, binding, named_use, variable}
-use Rattle.wat_fields_read.specs.Reading.{Item, Depth, Before, Inside}
+use Rattle.wat_fields_read.specs.Reading.{Item}
 
 -- the tokens at a place
 abbrev pub left_of : declared_left.Left → List Terminal
@@ -62,12 +60,3 @@ pub record IsItem {V : Type 0} (item : Item V) (before after : List V) (left : L
 abbrev pub ItemFaults : {V : Type 0} → Item V → Refusal → Type 0
 ItemFaults item (refusal.Text f) = item ≡ Some (Err (fault_of f))
 ItemFaults item (refusal.Memory e) = Unit {0}
-
-abbrev pub depth_of : declared_depth.Depth → Depth
-depth_of depths.Before = Before
-depth_of (depths.Inside n) = Inside n
-
--- as many groups are open as there are tokens at most
-abbrev pub IsBelow : Depth → ℕ → Type 0
-IsBelow Before n = Unit {0}
-IsBelow (Inside d) n = d ≤ n

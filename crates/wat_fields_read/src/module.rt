@@ -19,7 +19,7 @@ use crate::names::{Names, names_in, names_of, variable_names, with_types, withou
 use crate::segments::{memory_at, segment};
 use crate::types::{global_type, limits, space_of, table_type, twice_closed};
 use crate::uses::{type_at, type_use};
-use crate::variables::{NamedUse, Variable, value_types, without_names};
+use crate::variables::{NamedUse, Variable, locals_of, without_names};
 use std::alloc::Global;
 use wat_fields::fields::{Export, ExternType, Field, Function, GlobalVariable, Import, IndexSpace};
 use wat_fields::implicit_types;
@@ -408,7 +408,7 @@ fn func<'p, 'a>(
     let (locals, rest) = variables(alloc, "local", true, rest)?;
     let (body, rest) = instructions(alloc, names, &uses.params, &locals, rest)?;
     let uses = without_names(alloc, &uses)?;
-    let locals = value_types(alloc, &locals)?;
+    let locals = locals_of(alloc, &locals)?;
     Ok((
         Field::Func(Function {
             name,

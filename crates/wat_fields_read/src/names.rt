@@ -4,7 +4,7 @@ ghost use Rattle.std.specs.List.{flat_map};
 ghost use Rattle.wat_fields.specs.Fields.{all_distinct, definition_name, definition_type, is_space, name_of, names_in, names_of};
 ghost use Rattle.wat_fields_read.specs.Reading as reading;
 ghost use Rattle.wat_fields.specs.Views.{definition_of};
-ghost use Rattle.wat_fields_read.specs.Views.{binding_of, context_of, depth_of, left_of, types_of, variable_of};
+ghost use Rattle.wat_fields_read.specs.Views.{binding_of, context_of, left_of, types_of, variable_of};
 ghost use Rattle.wat_instructions.specs.Grammar.{label_of};
 ghost use Rattle.wat_instructions.specs.Pieces.{terminals_of};
 ghost use Rattle.wat_instructions.specs.Names.{are_distinct};
@@ -24,13 +24,6 @@ use wat_instructions::pieces::{Name, Piece, Refusal};
 use wat_instructions::reading::label;
 use wat_instructions::source::Pieces;
 use wat_instructions::types::FunctionType;
-
-/// Where a token is: before a `(` of a field, and in a field, in so many groups more.
-#[derive(Clone, Copy)]
-enum Depth {
-    Before,
-    Inside(usize),
-}
 
 /// An item of an index space.
 #[derive(Clone, Copy)]
@@ -169,42 +162,14 @@ pub(crate) fn names_in<'s, 'a>(names: &'s Names<'a>, space: IndexSpace) -> &'s I
 }
 
 /// Where fields begin, each after its `(`.
-#[tactic(auto, unfolding(crate::specs::Reading::starts))]
 fn starts<'p, 'a>(alloc: Global, pieces: Pieces<'p, 'a>) -> Result<Vec<Left<'p, 'a>>, AllocError>
     ensures { IfOk result (λ starts. map left_of starts.items ≡ reading.starts reading.Before [] (terminals_of pieces.entry)) }
 {
     let mut starts = Vec::new(alloc);
-    let mut depth = Depth::Before;
-    // So many groups are open at most.
-    let _count = pieces.len();
     let mut left = Left { pieces };
-    while let Some((piece, rest)) = left.pieces.first() {
-        left = Left { pieces: rest };
-        match depth {
-            Depth::Before => match piece {
-                Piece::Open => {
-                    starts.push(left)?;
-                    depth = Depth::Inside(0);
-                }
-                Piece::Close
-                | Piece::Word(_)
-                | Piece::Id(_)
-                | Piece::Integer(_, _)
-                | Piece::Text(_)
-                | Piece::Float(_)
-                | Piece::Other => return Ok(starts),
-            },
-            Depth::Inside(open) => match piece {
-                Piece::Open => depth = Depth::Inside(open + 1),
-                Piece::Close => depth = closed(open),
-                Piece::Word(_)
-                | Piece::Id(_)
-                | Piece::Integer(_, _)
-                | Piece::Text(_)
-                | Piece::Float(_)
-                | Piece::Other => {}
-            },
-        }
+    while let Some((inside, after)) = left.pieces.group() {
+        starts.push(Left { pieces: inside })?;
+        left = Left { pieces: after };
     }
     Ok(starts)
 }
@@ -458,17 +423,6 @@ fn definition_after<'p, 'a>(
         Ok((definition, _)) => Ok(Some(definition)),
         Err(Refusal::Text(_)) => Ok(None),
         Err(Refusal::Memory(refused)) => Err(refused),
-    }
-}
-
-/// Where a field is after `)`.
-fn closed(groups: usize) -> Depth
-    ensures { depth_of result ≡ reading.after_close groups }
-{
-    if groups == 0 {
-        Depth::Before
-    } else {
-        Depth::Inside(groups - 1)
     }
 }
 

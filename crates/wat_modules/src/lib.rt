@@ -4,7 +4,7 @@
 
 ghost use Rattle.std.specs.Prelude.{◌≡◌, ◌<◌, ◌^◌, true, length, map, IfOk, List, None, Option};
 ghost use Rattle.wat_fields.specs.Fields.{Field};
-ghost use Rattle.wat_instructions.specs.Tokens.{AreReadable};
+ghost use Rattle.wat_instructions.specs.Tokens.{AreLinked, AreReadable};
 ghost use Rattle.wat_lex.specs.declared.lexer.kinds.Token.{Token};
 ghost use Rattle.wat_lex.specs.errors.Errors.{Custom, IsUnlessMemory, report_in};
 ghost use Rattle.wat_lexer_parser.specs.declared.parser.fault.Fault.{Fault};
@@ -72,6 +72,7 @@ pub fn compile(alloc: Global, text: &str) -> Result<Vec<u8>, Error>
 fn of_draft(alloc: Global, text: &str, draft: Draft<'_>) -> Result<Vec<u8>, Error>
     requires short { length text.now < 2 ^ 32 }
     requires readable { AreReadable text.now (length draft.kept.items) draft.tokens.items }
+    requires linked { AreLinked (draft_terminals text.now draft.entry) draft.tokens.items }
     ensures { (tokens : List Token) → TextShows (plain text.now) no_names tokens None →
         draft_terminals text.now draft.entry ≡ map (terminal_of text.now) tokens →
         Answers true (λ bytes. bytes.items) (compiled_tokens text.now tokens) result }

@@ -4,11 +4,12 @@ use Rattle.std.specs.Prelude.{slice_get}
 use Rattle.std.proofs.lemmas.List.{get_or_append_left, map-append}
 use Rattle.std.proofs.lemmas.List.Elements.{All-head, All-nil, All-push, All-tail}
 use Rattle.std.proofs.lemmas.Option.{slice_get-get_or}
+use Rattle.wat_instructions.specs.declared.source.Halves.{Halves}
 use Rattle.wat_instructions.specs.declared.source.Kept.{Kept}
 use Rattle.wat_instructions.specs.declared.source.ShortToken.{ShortToken}
 use Rattle.wat_instructions.specs.declared.source.ShortToken.TheVariants as short
 use Rattle.wat_instructions.specs.Terminals.{Terminal}
-use Rattle.wat_instructions.specs.Tokens.{AreReadable, IsReadable, kept_or, kept_terminal, terminal_in}
+use Rattle.wat_instructions.specs.Tokens.{AreReadable, IsReadable, kept_or, kept_terminal, number_of, terminal_in}
 
 same_get : (ks : List Kept) (k : Kept) (i : ℕ) → i < length ks → slice_get (ks ++ k ∷ []) i ≡ slice_get ks i
 same_get ks k i h =
@@ -20,14 +21,14 @@ last_get (x ∷ ks) k = last_get ks k
 
 -- a value more that is kept changes no token that could be read
 same_one : (text : List ℕ) (ks : List Kept) (k : Kept) (t : ShortToken) → IsReadable text (length ks) t → terminal_in text (ks ++ k ∷ []) t ≡ terminal_in text ks t
-same_one text ks k short.Open h = refl
+same_one text ks k (short.Open e) h = refl
 same_one text ks k short.Close h = refl
 same_one text ks k (short.Word o n) h = refl
 same_one text ks k (short.Id o n) h = refl
 same_one text ks k (short.Integer s n) h = refl
 same_one text ks k (short.Float o n) h = refl
 same_one text ks k (short.Text o n) h = refl
-same_one text ks k (short.Kept i) h = ap kept_or (same_get ks k i h)
+same_one text ks k (short.Kept i) h = ap kept_or (same_get ks k (number_of i) h)
 same_one text ks k short.Other h = refl
 
 same : (text : List ℕ) (ks : List Kept) (k : Kept) (ts : List ShortToken) → AreReadable text (length ks) ts → map (terminal_in text (ks ++ k ∷ [])) ts ≡ map (terminal_in text ks) ts
@@ -37,7 +38,7 @@ same text ks k (t ∷ ts) h =
     ∙ ap (λ x. terminal_in text ks t ∷ x) (same text ks k ts (All-tail (IsReadable text (length ks)) t ts h))
 
 more_one : (text : List ℕ) (n m : ℕ) (t : ShortToken) → n ≤ m → IsReadable text n t → IsReadable text m t
-more_one text n m short.Open l h = tt
+more_one text n m (short.Open e) l h = tt
 more_one text n m short.Close l h = tt
 more_one text n m (short.Word o k) l h = h
 more_one text n m (short.Id o k) l h = h
@@ -58,13 +59,13 @@ pub readable_short : (text : List ℕ) (n : ℕ) (ts us : List ShortToken) (t : 
 readable_short text n ts us t e h r = subst (AreReadable text n) (sym e) (All-push (IsReadable text n) ts t h (more_one text 0 n t (omega arith) r))
 
 -- a value more, with its token
-pub with_kept : (text : List ℕ) (ks js : List Kept) (ts us : List ShortToken) (k : Kept) (i : ℕ) (x : Terminal) → js ≡ ks ++ k ∷ [] → us ≡ ts ++ short.Kept i ∷ [] → i ≡ length ks → AreReadable text (length ks) ts → kept_terminal k ≡ x → map (terminal_in text js) us ≡ map (terminal_in text ks) ts ++ x ∷ []
+pub with_kept : (text : List ℕ) (ks js : List Kept) (ts us : List ShortToken) (k : Kept) (i : Halves) (x : Terminal) → js ≡ ks ++ k ∷ [] → us ≡ ts ++ short.Kept i ∷ [] → number_of i ≡ length ks → AreReadable text (length ks) ts → kept_terminal k ≡ x → map (terminal_in text js) us ≡ map (terminal_in text ks) ts ++ x ∷ []
 with_kept text ks js ts us k i x e f o h r =
     let is : terminal_in text (ks ++ k ∷ []) (short.Kept i) ≡ x = ap (λ n. kept_or (slice_get (ks ++ k ∷ []) n)) o ∙ ap kept_or (last_get ks k) ∙ r in
     ap (λ v. map (terminal_in text v) us) e ∙ ap (λ v. map (terminal_in text (ks ++ k ∷ [])) v) f ∙ map-append (terminal_in text (ks ++ k ∷ [])) ts (short.Kept i ∷ [])
     ∙ ap (λ y. y ++ map (terminal_in text (ks ++ k ∷ [])) (short.Kept i ∷ [])) (same text ks k ts h) ∙ ap (λ y. map (terminal_in text ks) ts ++ y ∷ []) is
 
-pub readable_kept : (text : List ℕ) (ks js : List Kept) (ts us : List ShortToken) (k : Kept) (i : ℕ) → js ≡ ks ++ k ∷ [] → us ≡ ts ++ short.Kept i ∷ [] → i ≡ length ks → AreReadable text (length ks) ts → AreReadable text (length js) us
+pub readable_kept : (text : List ℕ) (ks js : List Kept) (ts us : List ShortToken) (k : Kept) (i : Halves) → js ≡ ks ++ k ∷ [] → us ≡ ts ++ short.Kept i ∷ [] → number_of i ≡ length ks → AreReadable text (length ks) ts → AreReadable text (length js) us
 readable_kept text ks js ts us k i e f o h =
     let l : length js ≡ suc (length ks) = ap length e ∙ length-append ks (k ∷ []) ∙ omega arith in
     subst (λ n. AreReadable text n us) (sym l)

@@ -1,19 +1,19 @@
-//! The tokens that count of a text, which are the terminal symbols of the grammar of modules, in 8
+//! The tokens that count of a text, which are the terminal symbols of the grammar of modules, in 6
 //! bytes each.
 #![tactic(auto)]
 
 ghost use Rattle.std.specs.Prelude.{◌≡◌, ◌≤◌, ◌<◌, ◌^◌, ◌++◌, ◌∷◌, [], suc, IfErr, IfOk, IfSome, None, OnOk, List, length, ℕ};
-ghost use Rattle.wat_instructions.specs.Terminals.{Id, Integer, Terminal, Text, Word, float_of};
-ghost use Rattle.wat_instructions.specs.Tokens.{AreReadable};
+ghost use Rattle.wat_instructions.specs.Terminals.{Close, Id, Integer, Open, Terminal, Text, Word, float_of};
+ghost use Rattle.wat_instructions.specs.Tokens.{AreLinked, AreReadable};
 ghost use Rattle.wat_lex.specs.tokens.ReadableTokens.{IsTokenOf, token_text};
-ghost use Rattle.wat_pieces.specs.Drafts.{IsReadAs, draft_terminals};
+ghost use Rattle.wat_pieces.specs.Drafts.{IsDraft, IsReadAs, draft_terminals};
 ghost use Rattle.wat_pieces.specs.Pieces.{sign_of, terminal_of};
 ghost use Rattle.wat_pieces.specs.Shown.{PiecesFrom, PiecesShown, ShownFrom, TextShown};
 
 use std::alloc::{AllocError, Global};
 use std::borrow::{CowSlice, CowStr};
-use wat_instructions::pieces::{Piece, Sign};
-use wat_instructions::source::{Kept, ShortToken};
+use wat_instructions::pieces::Sign;
+use wat_instructions::source::{Halves, Kept, ShortToken};
 use wat_lexer_parser::lexer::{Lexer, Settings, SignToken, Token, TokenKind};
 use wat_lexer_parser::parser::{Cursor, LazyBuffer};
 use wat_lexer_parser::{Error, laws};
@@ -42,7 +42,11 @@ pub struct ShownPieces<'t> {
 /// What is put down of a token.
 #[derive(Drop)]
 enum Read<'t> {
+    Open,
+    Close,
+    /// A token whose value the text has, or that has none.
     Short(ShortToken),
+    /// A value, and a token that says where it is kept.
     Kept(Kept<'t>),
 }
 
@@ -119,12 +123,12 @@ fn read_token<'t>(alloc: Global, text: &'t str, token: &Token) -> Result<Read<'t
     ensures { IfOk result (λ r. IsReadAs text.now r (terminal_of text.now token.now)) }
 {
     match token.kind {
-        TokenKind::LParen => Ok(Read::Short(ShortToken::Open)),
-        TokenKind::RParen => Ok(Read::Short(ShortToken::Close)),
+        TokenKind::LParen => Ok(Read::Open),
+        TokenKind::RParen => Ok(Read::Close),
         TokenKind::Keyword => Ok(read_word(text, token)),
         TokenKind::Id => match token.name(alloc, text)? {
             Ok(CowStr::Borrowed(name)) => Ok(read_name(text, token, name)),
-            Ok(CowStr::Owned(name)) => Ok(Read::Kept(Kept::Id(name))),
+            Ok(CowStr::Owned(name)) => Ok(Read::Kept(Kept::Id(CowStr::Owned(name)))),
             Err(_) => Ok(Read::Short(ShortToken::Other)),
         },
         TokenKind::Integer(kind) => match token.magnitude(text, kind) {
@@ -134,7 +138,7 @@ fn read_token<'t>(alloc: Global, text: &'t str, token: &Token) -> Result<Read<'t
         TokenKind::Float(_) => Ok(read_float(text, token)),
         TokenKind::String => match token.string(alloc, text)? {
             CowSlice::Borrowed(value) => Ok(read_string(text, token, value)),
-            CowSlice::Owned(value) => Ok(Read::Kept(Kept::Text(value))),
+            CowSlice::Owned(value) => Ok(Read::Kept(Kept::Text(CowSlice::Owned(value)))),
         },
         TokenKind::LineComment
         | TokenKind::BlockComment
@@ -151,9 +155,10 @@ fn read_word<'t>(text: &'t str, token: &Token) -> Read<'t>
     ensures { IsReadAs text.now result (Word (token_text text.now token.now)) }
 {
     if token.len < 256 {
-        Read::Short(ShortToken::Word(token.offset as u32, token.len as u8))
+        let offset = Halves::new(token.offset as u32);
+        Read::Short(ShortToken::Word(offset, token.len as u8))
     } else {
-        Read::Kept(Kept::Piece(Piece::Word(token.src(text))))
+        Read::Kept(Kept::Word(token.src(text)))
     }
 }
 
@@ -162,9 +167,9 @@ fn read_integer<'t>(sign: Sign, size: u64) -> Read<'t>
     ensures { (text : List ℕ) → IsReadAs text result (Integer sign size) }
 {
     if size < 0x1_0000_0000 {
-        Read::Short(ShortToken::Integer(sign, size as u32))
+        Read::Short(ShortToken::Integer(sign, Halves::new(size as u32)))
     } else {
-        Read::Kept(Kept::Piece(Piece::Integer(sign, size)))
+        Read::Kept(Kept::Integer(sign, size))
     }
 }
 
@@ -175,9 +180,10 @@ fn read_float<'t>(text: &'t str, token: &Token) -> Read<'t>
     ensures { IsReadAs text.now result (float_of (token_text text.now token.now)) }
 {
     if token.len < 256 {
-        Read::Short(ShortToken::Float(token.offset as u32, token.len as u8))
+        let offset = Halves::new(token.offset as u32);
+        Read::Short(ShortToken::Float(offset, token.len as u8))
     } else {
-        Read::Kept(Kept::Piece(Piece::Float(token.src(text))))
+        Read::Kept(Kept::Float(token.src(text)))
     }
 }
 
@@ -195,9 +201,9 @@ fn read_name<'t>(text: &'t str, token: &Token, name: &'t str) -> Read<'t>
         && text.is_char_boundary(end)
         && &text[start..end] == name;
     if is_there {
-        return Read::Short(ShortToken::Id(start as u32, name.len() as u8));
+        return Read::Short(ShortToken::Id(Halves::new(start as u32), name.len() as u8));
     }
-    Read::Kept(Kept::Piece(Piece::Id(name)))
+    Read::Kept(Kept::Id(CowStr::Borrowed(name)))
 }
 
 /// What is put down of a string of this value, which is what the text has after the first quote.
@@ -209,30 +215,90 @@ fn read_string<'t>(text: &'t str, token: &Token, value: &'t [u8]) -> Read<'t>
     let start = token.offset + 1;
     match text.as_bytes().get(start..start + value.len()) {
         Some(there) if value.len() < 256 && there == value => {
-            Read::Short(ShortToken::Text(start as u32, value.len() as u8))
+            Read::Short(ShortToken::Text(Halves::new(start as u32), value.len() as u8))
         }
-        _ => Read::Kept(Kept::Piece(Piece::Text(value))),
+        _ => Read::Kept(Kept::Text(CowSlice::Borrowed(value))),
     }
 }
 
-/// Appends what is put down of a token.
-#[tactic(auto, using(crate::proofs::Drafts::with_short))]
-fn push<'t>(text: &'t str, draft: &mut Draft<'t>, read: Read<'t>) -> Result<(), AllocError>
-    requires few { length draft.old.kept.items < 2 ^ 32 }
-    requires readable { AreReadable text.now (length draft.old.kept.items) draft.old.tokens.items }
-    ensures is { OnOk result ((x : Terminal) → IsReadAs text.now read.entry x → draft_terminals text.now draft.new ≡ draft_terminals text.now draft.old ++ x ∷ []) }
-    ensures readable { OnOk result ((x : Terminal) → IsReadAs text.now read.entry x → AreReadable text.now (length draft.new.kept.items) draft.new.tokens.items) }
-    ensures few { OnOk result (length draft.new.kept.items ≤ suc (length draft.old.kept.items)) }
+/// Appends `(`, of which only what comes later says where its group ends.
+fn push_open(text: &str, draft: &mut Draft<'_>, open: &mut Vec<u32>) -> Result<(), AllocError>
+    requires few { length draft.old.tokens.items < 2 ^ 32 }
+    requires sound { IsDraft text.now draft.old open.old.items }
+    ensures is { OnOk result (draft_terminals text.now draft.new ≡ draft_terminals text.now draft.old ++ Open ∷ []) }
+    ensures sound { OnOk result (IsDraft text.now draft.new open.new.items) }
+    ensures few { OnOk result (length draft.new.kept.items ≡ length draft.old.kept.items) }
+    ensures count { OnOk result (length draft.new.tokens.items ≡ suc (length draft.old.tokens.items)) }
 {
-    match read {
-        Read::Short(token) => draft.tokens.push(token)?,
-        Read::Kept(value) => {
-            let index = draft.kept.len() as u32;
-            draft.kept.push(value)?;
-            draft.tokens.push(ShortToken::Kept(index))?;
-        }
+    open.push(draft.tokens.len() as u32)?;
+    draft.tokens.push(ShortToken::Open(Halves::new(u32::MAX)))?;
+    Ok(())
+}
+
+/// Appends `)`, and says at the last `(` whose group is open that it ends here.
+fn push_close(text: &str, draft: &mut Draft<'_>, open: &mut Vec<u32>) -> Result<(), AllocError>
+    requires few { length draft.old.tokens.items + 1 < 2 ^ 32 }
+    requires sound { IsDraft text.now draft.old open.old.items }
+    ensures is { OnOk result (draft_terminals text.now draft.new ≡ draft_terminals text.now draft.old ++ Close ∷ []) }
+    ensures sound { OnOk result (IsDraft text.now draft.new open.new.items) }
+    ensures few { OnOk result (length draft.new.kept.items ≡ length draft.old.kept.items) }
+    ensures count { OnOk result (length draft.new.tokens.items ≡ suc (length draft.old.tokens.items)) }
+{
+    draft.tokens.push(ShortToken::Close)?;
+    if let Some(begin) = open.pop() {
+        let end = Halves::new(draft.tokens.len() as u32);
+        draft.tokens[begin as usize] = ShortToken::Open(end);
     }
     Ok(())
+}
+
+/// Appends a token whose value the text has.
+#[tactic(auto, using(crate::proofs::Drafts::with_short))]
+fn push_short(text: &str, draft: &mut Draft<'_>, token: ShortToken) -> Result<(), AllocError>
+    ensures is { OnOk result ((x : Terminal) → IsReadAs text.now (Read.Short token) x → draft_terminals text.now draft.new ≡ draft_terminals text.now draft.old ++ x ∷ []) }
+    ensures sound { OnOk result ((x : Terminal) (is : List ℕ) → IsReadAs text.now (Read.Short token) x → IsDraft text.now draft.old is → IsDraft text.now draft.new is) }
+    ensures few { OnOk result (length draft.new.kept.items ≡ length draft.old.kept.items) }
+    ensures count { OnOk result (length draft.new.tokens.items ≡ suc (length draft.old.tokens.items)) }
+{
+    draft.tokens.push(token)?;
+    Ok(())
+}
+
+/// Appends a token whose value is kept, and that.
+fn push_kept<'t>(text: &'t str, draft: &mut Draft<'t>, value: Kept<'t>) -> Result<(), AllocError>
+    requires few { length draft.old.kept.items < 2 ^ 32 }
+    ensures is { OnOk result ((x : Terminal) (is : List ℕ) → IsReadAs text.now (Read.Kept value) x → IsDraft text.now draft.old is → draft_terminals text.now draft.new ≡ draft_terminals text.now draft.old ++ x ∷ []) }
+    ensures sound { OnOk result ((x : Terminal) (is : List ℕ) → IsReadAs text.now (Read.Kept value) x → IsDraft text.now draft.old is → IsDraft text.now draft.new is) }
+    ensures few { OnOk result (length draft.new.kept.items ≤ suc (length draft.old.kept.items)) }
+    ensures count { OnOk result (length draft.new.tokens.items ≡ suc (length draft.old.tokens.items)) }
+{
+    let index = draft.kept.len() as u32;
+    draft.kept.push(value)?;
+    draft.tokens.push(ShortToken::Kept(Halves::new(index)))?;
+    Ok(())
+}
+
+/// Appends what is put down of a token.
+fn push<'t>(
+    text: &'t str,
+    draft: &mut Draft<'t>,
+    open: &mut Vec<u32>,
+    read: Read<'t>,
+) -> Result<(), AllocError>
+    requires room { suc (length draft.old.tokens.items) < 2 ^ 32 }
+    requires kept { length draft.old.kept.items < 2 ^ 32 }
+    requires sound { IsDraft text.now draft.old open.old.items }
+    ensures is { OnOk result ((x : Terminal) → IsReadAs text.now read.entry x → draft_terminals text.now draft.new ≡ draft_terminals text.now draft.old ++ x ∷ []) }
+    ensures sound { OnOk result ((x : Terminal) → IsReadAs text.now read.entry x → IsDraft text.now draft.new open.new.items) }
+    ensures few { OnOk result (length draft.new.kept.items ≤ suc (length draft.old.kept.items)) }
+    ensures count { OnOk result (length draft.new.tokens.items ≡ suc (length draft.old.tokens.items)) }
+{
+    match read {
+        Read::Open => push_open(text, draft, open),
+        Read::Close => push_close(text, draft, open),
+        Read::Short(token) => push_short(text, draft, token),
+        Read::Kept(value) => push_kept(text, draft, value),
+    }
 }
 
 /// Appends a token.
@@ -241,24 +307,28 @@ fn push_token<'t>(
     text: &'t str,
     token: &Token,
     draft: &mut Draft<'t>,
+    open: &mut Vec<u32>,
 ) -> Result<(), AllocError>
     requires token { IsTokenOf text.now token.now }
     requires small { length text.now < 2 ^ 32 }
-    requires few { length draft.old.kept.items < 2 ^ 32 }
-    requires readable { AreReadable text.now (length draft.old.kept.items) draft.old.tokens.items }
+    requires room { suc (length draft.old.tokens.items) < 2 ^ 32 }
+    requires kept { length draft.old.kept.items < 2 ^ 32 }
+    requires sound { IsDraft text.now draft.old open.old.items }
     ensures is { OnOk result (draft_terminals text.now draft.new ≡ draft_terminals text.now draft.old ++ terminal_of text.now token.now ∷ []) }
-    ensures readable { OnOk result (AreReadable text.now (length draft.new.kept.items) draft.new.tokens.items) }
+    ensures sound { OnOk result (IsDraft text.now draft.new open.new.items) }
     ensures few { OnOk result (length draft.new.kept.items ≤ suc (length draft.old.kept.items)) }
+    ensures count { OnOk result (length draft.new.tokens.items ≡ suc (length draft.old.tokens.items)) }
 {
     let read = read_token(alloc, text, token)?;
-    push(text, draft, read)
+    push(text, draft, open, read)
 }
 
-/// All that a text shows where no name is registered, in 8 bytes each.
+/// All that a text shows where no name is registered, in 6 bytes each.
 pub fn shown_pieces(alloc: Global, text: &str) -> Result<ShownPieces<'_>, Error>
     requires { length text.now < 2 ^ 32 }
     ensures shown { IfOk result (λ r. PiecesShown text.now (draft_terminals text.now r.draft) r.error) }
     ensures readable { IfOk result (λ r. AreReadable text.now (length r.draft.kept.items) r.draft.tokens.items) }
+    ensures linked { IfOk result (λ r. AreLinked (draft_terminals text.now r.draft) r.draft.tokens.items) }
     ensures refused { IfErr result (λ e. e ≡ None) }
 {
     let buffer = LazyBuffer::new_with_lexer(alloc, Lexer::with_settings(text, SETTINGS));
@@ -277,6 +347,7 @@ fn pieces_from<'p, 'a, 't>(
         PiecesFrom from.entry.parser.now.source from.entry.parser.now.names from.entry.at
         (draft_terminals text.now r.0.draft) r.0.error) }
     ensures readable { IfOk result (λ r. AreReadable text.now (length r.0.draft.kept.items) r.0.draft.tokens.items) }
+    ensures linked { IfOk result (λ r. AreLinked (draft_terminals text.now r.0.draft) r.0.draft.tokens.items) }
     ensures parser { IfOk result (λ r. r.1.parser ≡ from.entry.parser) }
     ensures on { IfOk result (λ r. from.entry.at ≤ r.1.at) }
     ensures refused { IfErr result (λ e. e ≡ None) }
@@ -287,11 +358,12 @@ fn pieces_from<'p, 'a, 't>(
         tokens: Vec::new(alloc),
         kept: Vec::new(alloc),
     };
+    let mut open = Vec::new(alloc);
     let mut cursor = from;
     'tokens: loop {
         match cursor.any() {
             Ok(Some((token, next))) => {
-                push_token(alloc, text, &token, &mut draft)?;
+                push_token(alloc, text, &token, &mut draft, &mut open)?;
                 cursor = next;
             }
             Ok(None) => return Ok((ShownPieces { draft, error: None }, cursor)),

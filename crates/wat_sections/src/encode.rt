@@ -1,8 +1,8 @@
 //! The bytes of a module.
-ghost use Rattle.std.specs.Prelude.{◌≡◌, ◌<◌, ◌≤◌, pos, ◌+◌, ◌++◌, ◌^◌, ◌∷◌, [], OnOk, IfErr, IfOk, MatchOption, length, map, None, Some};
+ghost use Rattle.std.specs.Prelude.{◌≡◌, ◌<◌, ◌≤◌, pos, ◌+◌, ◌++◌, ◌^◌, ◌∷◌, [], OnOk, IfErr, IfOk, MatchOption, length, map, replicate, None, Some};
 ghost use Rattle.std.specs.List.{flat_map, list_any};
 ghost use Rattle.wat_fields.specs.Fields as grammar;
-ghost use Rattle.wat_fields.specs.Views.{extern_of, field_of, fields_of, function_of, text_of, expression_of, expressions_of, mode_of, together};
+ghost use Rattle.wat_fields.specs.Views.{extern_of, field_of, fields_of, function_of, local_types, text_of, expression_of, expressions_of, mode_of, together};
 ghost use Rattle.wat_instructions.specs.Types.{index_or, type_byte};
 ghost use Rattle.wat_instructions.specs.Views.{type_of, use_of};
 ghost use Rattle.wat_lex.specs.binary.Encoding.{list_encoding, text_encoding};
@@ -13,7 +13,7 @@ ghost use Rattle.wat_sections.specs.Views.{AreBelow, count, counted, counted_sec
 use std::alloc::{AllocError, Global};
 use wat_fields::fields::{
     ElemMode, Elements, Export, ExternType, Field, Function, GlobalType, Import, IndexSpace,
-    Limits, TableType, Target,
+    Limits, Locals, TableType, Target,
 };
 use wat_fields::implicit_types::types_of;
 use wat_fields::indexed_types::IndexedTypes;
@@ -197,17 +197,6 @@ fn put_instructions(
         put_instruction(out, types, instruction)?;
     }
     Ok(())
-}
-
-/// The bytes of value types.
-fn value_bytes(alloc: Global, types: &[ValueType]) -> Result<Vec<u8>, AllocError>
-    ensures { IfOk result (λ bytes. bytes.items ≡ map type_byte types.now) }
-{
-    let mut bytes = Vec::new(alloc);
-    for of in types {
-        bytes.push(type_byte(*of))?;
-    }
-    Ok(bytes)
 }
 
 /// The index of the type that is used.
@@ -549,12 +538,33 @@ fn put_runs(out: &mut Vec<u8>, runs: &[Run]) -> Result<(), AllocError>
     Ok(())
 }
 
+/// The bytes of the types of local variables.
+fn local_bytes(alloc: Global, locals: &[Locals]) -> Result<Vec<u8>, AllocError>
+    ensures { IfOk result (λ bytes. bytes.items ≡ map type_byte (flat_map local_types locals.now)) }
+{
+    let mut bytes = Vec::new(alloc);
+    for some in locals {
+        put_times(&mut bytes, some.count, type_byte(some.of))?;
+    }
+    Ok(bytes)
+}
+
+/// Appends a byte so many times.
+fn put_times(out: &mut Vec<u8>, count: usize, value: u8) -> Result<(), AllocError>
+    ensures { OnOk result (out.new.items ≡ out.old.items ++ replicate count value) }
+{
+    for _ in 0..count {
+        out.push(value)?;
+    }
+    Ok(())
+}
+
 /// The bytes of a function's local variables and instructions.
 #[tactic(auto, unfolding(crate::specs::Binary::code))]
 fn code(alloc: Global, types: &IndexedTypes, function: &Function<'_>) -> Result<Vec<u8>, AllocError>
     ensures { IfOk result (λ bytes. bytes.items ≡ binary.code types.now (function_of function.now)) }
 {
-    let locals = value_bytes(alloc, &function.locals)?;
+    let locals = local_bytes(alloc, &function.locals)?;
     let runs = runs_of(alloc, &locals)?;
     let mut bytes = Vec::new(alloc);
     put_runs(&mut bytes, &runs)?;

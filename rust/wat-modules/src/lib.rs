@@ -67,7 +67,7 @@ pub fn parse_str(text: impl AsRef<str>) -> Result<Vec<u8>, Error> {
 }
 
 /// Each token that counts takes so much memory.
-const _: () = assert!(size_of::<instructions::source::ShortToken>() == 8);
+const _: () = assert!(size_of::<instructions::source::ShortToken>() == 6);
 
 /// The examples of the README, as tests.
 #[cfg(doctest)]

@@ -1,12 +1,12 @@
 // Made by tools/erase from crates/wat_pieces/src/lib.rt; do not edit.
-//! The tokens that count of a text, which are the terminal symbols of the grammar of modules, in 8
+//! The tokens that count of a text, which are the terminal symbols of the grammar of modules, in 6
 //! bytes each.
 
 use wat_lex::shim::prelude::*;
 use wat_lex::shim::alloc::{AllocError, Global};
 use wat_lex::shim::borrow::{CowSlice, CowStr};
-use crate::instructions::pieces::{Piece, Sign};
-use crate::instructions::source::{Kept, ShortToken};
+use crate::instructions::pieces::Sign;
+use crate::instructions::source::{Halves, Kept, ShortToken};
 use wat_parser::proved::lexer::{Lexer, Settings, SignToken, Token, TokenKind};
 use wat_parser::proved::parser::{Cursor, LazyBuffer};
 use wat_parser::proved::{Error, laws};
@@ -31,7 +31,11 @@ pub struct ShownPieces<'t> {
 
 /// What is put down of a token.
 enum Read<'t> {
+    Open,
+    Close,
+    /// A token whose value the text has, or that has none.
     Short(ShortToken),
+    /// A value, and a token that says where it is kept.
     Kept(Kept<'t>),
 }
 
@@ -126,12 +130,12 @@ fn sign(sign: Option<SignToken>) -> Sign {
 /// ```
 fn read_token<'t>(alloc: Global, text: &'t str, token: &Token) -> Result<Read<'t>, AllocError> {
     match token.kind {
-        TokenKind::LParen => Ok(Read::Short(ShortToken::Open)),
-        TokenKind::RParen => Ok(Read::Short(ShortToken::Close)),
+        TokenKind::LParen => Ok(Read::Open),
+        TokenKind::RParen => Ok(Read::Close),
         TokenKind::Keyword => Ok(read_word(text, token)),
         TokenKind::Id => match token.name(alloc, text)? {
             Ok(CowStr::Borrowed(name)) => Ok(read_name(text, token, name)),
-            Ok(CowStr::Owned(name)) => Ok(Read::Kept(Kept::Id(name))),
+            Ok(CowStr::Owned(name)) => Ok(Read::Kept(Kept::Id(CowStr::Owned(name)))),
             Err(_) => Ok(Read::Short(ShortToken::Other)),
         },
         TokenKind::Integer(kind) => match token.magnitude(text, kind) {
@@ -141,7 +145,7 @@ fn read_token<'t>(alloc: Global, text: &'t str, token: &Token) -> Result<Read<'t
         TokenKind::Float(_) => Ok(read_float(text, token)),
         TokenKind::String => match token.string(alloc, text)? {
             CowSlice::Borrowed(value) => Ok(read_string(text, token, value)),
-            CowSlice::Owned(value) => Ok(Read::Kept(Kept::Text(value))),
+            CowSlice::Owned(value) => Ok(Read::Kept(Kept::Text(CowSlice::Owned(value)))),
         },
         TokenKind::LineComment
         | TokenKind::BlockComment
@@ -162,9 +166,10 @@ fn read_token<'t>(alloc: Global, text: &'t str, token: &Token) -> Result<Read<'t
 /// ```
 fn read_word<'t>(text: &'t str, token: &Token) -> Read<'t> {
     if token.len < 256 {
-        Read::Short(ShortToken::Word(token.offset as u32, token.len as u8))
+        let offset = Halves::new(token.offset as u32);
+        Read::Short(ShortToken::Word(offset, token.len as u8))
     } else {
-        Read::Kept(Kept::Piece(Piece::Word(token.src(text))))
+        Read::Kept(Kept::Word(token.src(text)))
     }
 }
 
@@ -177,9 +182,9 @@ fn read_word<'t>(text: &'t str, token: &Token) -> Read<'t> {
 /// ```
 fn read_integer<'t>(sign: Sign, size: u64) -> Read<'t> {
     if size < 0x1_0000_0000 {
-        Read::Short(ShortToken::Integer(sign, size as u32))
+        Read::Short(ShortToken::Integer(sign, Halves::new(size as u32)))
     } else {
-        Read::Kept(Kept::Piece(Piece::Integer(sign, size)))
+        Read::Kept(Kept::Integer(sign, size))
     }
 }
 
@@ -194,9 +199,10 @@ fn read_integer<'t>(sign: Sign, size: u64) -> Read<'t> {
 /// ```
 fn read_float<'t>(text: &'t str, token: &Token) -> Read<'t> {
     if token.len < 256 {
-        Read::Short(ShortToken::Float(token.offset as u32, token.len as u8))
+        let offset = Halves::new(token.offset as u32);
+        Read::Short(ShortToken::Float(offset, token.len as u8))
     } else {
-        Read::Kept(Kept::Piece(Piece::Float(token.src(text))))
+        Read::Kept(Kept::Float(token.src(text)))
     }
 }
 
@@ -218,9 +224,9 @@ fn read_name<'t>(text: &'t str, token: &Token, name: &'t str) -> Read<'t> {
         && text.is_char_boundary(end)
         && &text[start..end] == name;
     if is_there {
-        return Read::Short(ShortToken::Id(start as u32, name.len() as u8));
+        return Read::Short(ShortToken::Id(Halves::new(start as u32), name.len() as u8));
     }
-    Read::Kept(Kept::Piece(Piece::Id(name)))
+    Read::Kept(Kept::Id(CowStr::Borrowed(name)))
 }
 
 /// What is put down of a string of this value, which is what the text has after the first quote.
@@ -235,11 +241,84 @@ fn read_name<'t>(text: &'t str, token: &Token, name: &'t str) -> Read<'t> {
 fn read_string<'t>(text: &'t str, token: &Token, value: &'t [u8]) -> Read<'t> {
     let start = token.offset + 1;
     match text.as_bytes().get(start..start + value.len()) {
-        Some(there) if value.len() < 256 && there == value => {
-            Read::Short(ShortToken::Text(start as u32, value.len() as u8))
-        }
-        _ => Read::Kept(Kept::Piece(Piece::Text(value))),
+        Some(there) if value.len() < 256 && there == value => Read::Short(ShortToken::Text(
+            Halves::new(start as u32),
+            value.len() as u8,
+        )),
+        _ => Read::Kept(Kept::Text(CowSlice::Borrowed(value))),
     }
+}
+
+/// Appends `(`, of which only what comes later says where its group ends.
+///
+/// # Proved
+///
+/// ```text
+/// requires few { length draft.old.tokens.items < 2 ^ 32 }
+/// requires sound { IsDraft text.now draft.old open.old.items }
+/// ensures is { OnOk result (draft_terminals text.now draft.new ≡ draft_terminals text.now draft.old ++ Open ∷ []) }
+/// ensures sound { OnOk result (IsDraft text.now draft.new open.new.items) }
+/// ensures few { OnOk result (length draft.new.kept.items ≡ length draft.old.kept.items) }
+/// ensures count { OnOk result (length draft.new.tokens.items ≡ suc (length draft.old.tokens.items)) }
+/// ```
+fn push_open(text: &str, draft: &mut Draft<'_>, open: &mut Vec<u32>) -> Result<(), AllocError> {
+    open.push(draft.tokens.len() as u32)?;
+    draft.tokens.push(ShortToken::Open(Halves::new(u32::MAX)))?;
+    Ok(())
+}
+
+/// Appends `)`, and says at the last `(` whose group is open that it ends here.
+///
+/// # Proved
+///
+/// ```text
+/// requires few { length draft.old.tokens.items + 1 < 2 ^ 32 }
+/// requires sound { IsDraft text.now draft.old open.old.items }
+/// ensures is { OnOk result (draft_terminals text.now draft.new ≡ draft_terminals text.now draft.old ++ Close ∷ []) }
+/// ensures sound { OnOk result (IsDraft text.now draft.new open.new.items) }
+/// ensures few { OnOk result (length draft.new.kept.items ≡ length draft.old.kept.items) }
+/// ensures count { OnOk result (length draft.new.tokens.items ≡ suc (length draft.old.tokens.items)) }
+/// ```
+fn push_close(text: &str, draft: &mut Draft<'_>, open: &mut Vec<u32>) -> Result<(), AllocError> {
+    draft.tokens.push(ShortToken::Close)?;
+    if let Some(begin) = open.pop() {
+        let end = Halves::new(draft.tokens.len() as u32);
+        draft.tokens[begin as usize] = ShortToken::Open(end);
+    }
+    Ok(())
+}
+
+/// Appends a token whose value the text has.
+///
+/// # Proved
+///
+/// ```text
+/// ensures is { OnOk result ((x : Terminal) → IsReadAs text.now (Read.Short token) x → draft_terminals text.now draft.new ≡ draft_terminals text.now draft.old ++ x ∷ []) }
+/// ensures sound { OnOk result ((x : Terminal) (is : List ℕ) → IsReadAs text.now (Read.Short token) x → IsDraft text.now draft.old is → IsDraft text.now draft.new is) }
+/// ensures few { OnOk result (length draft.new.kept.items ≡ length draft.old.kept.items) }
+/// ensures count { OnOk result (length draft.new.tokens.items ≡ suc (length draft.old.tokens.items)) }
+/// ```
+fn push_short(text: &str, draft: &mut Draft<'_>, token: ShortToken) -> Result<(), AllocError> {
+    draft.tokens.push(token)?;
+    Ok(())
+}
+
+/// Appends a token whose value is kept, and that.
+///
+/// # Proved
+///
+/// ```text
+/// requires few { length draft.old.kept.items < 2 ^ 32 }
+/// ensures is { OnOk result ((x : Terminal) (is : List ℕ) → IsReadAs text.now (Read.Kept value) x → IsDraft text.now draft.old is → draft_terminals text.now draft.new ≡ draft_terminals text.now draft.old ++ x ∷ []) }
+/// ensures sound { OnOk result ((x : Terminal) (is : List ℕ) → IsReadAs text.now (Read.Kept value) x → IsDraft text.now draft.old is → IsDraft text.now draft.new is) }
+/// ensures few { OnOk result (length draft.new.kept.items ≤ suc (length draft.old.kept.items)) }
+/// ensures count { OnOk result (length draft.new.tokens.items ≡ suc (length draft.old.tokens.items)) }
+/// ```
+fn push_kept<'t>(text: &'t str, draft: &mut Draft<'t>, value: Kept<'t>) -> Result<(), AllocError> {
+    let index = draft.kept.len() as u32;
+    draft.kept.push(value)?;
+    draft.tokens.push(ShortToken::Kept(Halves::new(index)))?;
+    Ok(())
 }
 
 /// Appends what is put down of a token.
@@ -247,22 +326,26 @@ fn read_string<'t>(text: &'t str, token: &Token, value: &'t [u8]) -> Read<'t> {
 /// # Proved
 ///
 /// ```text
-/// requires few { length draft.old.kept.items < 2 ^ 32 }
-/// requires readable { AreReadable text.now (length draft.old.kept.items) draft.old.tokens.items }
+/// requires room { suc (length draft.old.tokens.items) < 2 ^ 32 }
+/// requires kept { length draft.old.kept.items < 2 ^ 32 }
+/// requires sound { IsDraft text.now draft.old open.old.items }
 /// ensures is { OnOk result ((x : Terminal) → IsReadAs text.now read.entry x → draft_terminals text.now draft.new ≡ draft_terminals text.now draft.old ++ x ∷ []) }
-/// ensures readable { OnOk result ((x : Terminal) → IsReadAs text.now read.entry x → AreReadable text.now (length draft.new.kept.items) draft.new.tokens.items) }
+/// ensures sound { OnOk result ((x : Terminal) → IsReadAs text.now read.entry x → IsDraft text.now draft.new open.new.items) }
 /// ensures few { OnOk result (length draft.new.kept.items ≤ suc (length draft.old.kept.items)) }
+/// ensures count { OnOk result (length draft.new.tokens.items ≡ suc (length draft.old.tokens.items)) }
 /// ```
-fn push<'t>(text: &'t str, draft: &mut Draft<'t>, read: Read<'t>) -> Result<(), AllocError> {
+fn push<'t>(
+    text: &'t str,
+    draft: &mut Draft<'t>,
+    open: &mut Vec<u32>,
+    read: Read<'t>,
+) -> Result<(), AllocError> {
     match read {
-        Read::Short(token) => draft.tokens.push(token)?,
-        Read::Kept(value) => {
-            let index = draft.kept.len() as u32;
-            draft.kept.push(value)?;
-            draft.tokens.push(ShortToken::Kept(index))?;
-        }
+        Read::Open => push_open(text, draft, open),
+        Read::Close => push_close(text, draft, open),
+        Read::Short(token) => push_short(text, draft, token),
+        Read::Kept(value) => push_kept(text, draft, value),
     }
-    Ok(())
 }
 
 /// Appends a token.
@@ -272,23 +355,26 @@ fn push<'t>(text: &'t str, draft: &mut Draft<'t>, read: Read<'t>) -> Result<(), 
 /// ```text
 /// requires token { IsTokenOf text.now token.now }
 /// requires small { length text.now < 2 ^ 32 }
-/// requires few { length draft.old.kept.items < 2 ^ 32 }
-/// requires readable { AreReadable text.now (length draft.old.kept.items) draft.old.tokens.items }
+/// requires room { suc (length draft.old.tokens.items) < 2 ^ 32 }
+/// requires kept { length draft.old.kept.items < 2 ^ 32 }
+/// requires sound { IsDraft text.now draft.old open.old.items }
 /// ensures is { OnOk result (draft_terminals text.now draft.new ≡ draft_terminals text.now draft.old ++ terminal_of text.now token.now ∷ []) }
-/// ensures readable { OnOk result (AreReadable text.now (length draft.new.kept.items) draft.new.tokens.items) }
+/// ensures sound { OnOk result (IsDraft text.now draft.new open.new.items) }
 /// ensures few { OnOk result (length draft.new.kept.items ≤ suc (length draft.old.kept.items)) }
+/// ensures count { OnOk result (length draft.new.tokens.items ≡ suc (length draft.old.tokens.items)) }
 /// ```
 fn push_token<'t>(
     alloc: Global,
     text: &'t str,
     token: &Token,
     draft: &mut Draft<'t>,
+    open: &mut Vec<u32>,
 ) -> Result<(), AllocError> {
     let read = read_token(alloc, text, token)?;
-    push(text, draft, read)
+    push(text, draft, open, read)
 }
 
-/// All that a text shows where no name is registered, in 8 bytes each.
+/// All that a text shows where no name is registered, in 6 bytes each.
 ///
 /// # Proved
 ///
@@ -296,6 +382,7 @@ fn push_token<'t>(
 /// requires { length text.now < 2 ^ 32 }
 /// ensures shown { IfOk result (λ r. PiecesShown text.now (draft_terminals text.now r.draft) r.error) }
 /// ensures readable { IfOk result (λ r. AreReadable text.now (length r.draft.kept.items) r.draft.tokens.items) }
+/// ensures linked { IfOk result (λ r. AreLinked (draft_terminals text.now r.draft) r.draft.tokens.items) }
 /// ensures refused { IfErr result (λ e. e ≡ None) }
 /// ```
 pub fn shown_pieces(alloc: Global, text: &str) -> Result<ShownPieces<'_>, Error> {
@@ -314,6 +401,7 @@ pub fn shown_pieces(alloc: Global, text: &str) -> Result<ShownPieces<'_>, Error>
 ///     PiecesFrom from.entry.parser.now.source from.entry.parser.now.names from.entry.at
 ///     (draft_terminals text.now r.0.draft) r.0.error) }
 /// ensures readable { IfOk result (λ r. AreReadable text.now (length r.0.draft.kept.items) r.0.draft.tokens.items) }
+/// ensures linked { IfOk result (λ r. AreLinked (draft_terminals text.now r.0.draft) r.0.draft.tokens.items) }
 /// ensures parser { IfOk result (λ r. r.1.parser ≡ from.entry.parser) }
 /// ensures on { IfOk result (λ r. from.entry.at ≤ r.1.at) }
 /// ensures refused { IfErr result (λ e. e ≡ None) }
@@ -329,11 +417,12 @@ fn pieces_from<'p, 'a, 't>(
         tokens: Vec::new(alloc),
         kept: Vec::new(alloc),
     };
+    let mut open = Vec::new(alloc);
     let mut cursor = from;
     'tokens: loop {
         match cursor.any() {
             Ok(Some((token, next))) => {
-                push_token(alloc, text, &token, &mut draft)?;
+                push_token(alloc, text, &token, &mut draft, &mut open)?;
                 cursor = next;
             }
             Ok(None) => return Ok((ShownPieces { draft, error: None }, cursor)),

@@ -11,12 +11,19 @@ pub struct Definition<'p> {
     pub of: FunctionType,
 }
 
+/// So many local variables of a type, one after another.
+#[derive(Clone, Copy)]
+pub struct Locals {
+    pub count: usize,
+    pub of: ValueType,
+}
+
 /// A function. Its parameters and local variables have no names.
 pub struct Function<'p> {
     pub name: Name<'p>,
     pub exports: Vec<&'p [u8]>,
     pub uses: TypeUse,
-    pub locals: Vec<ValueType>,
+    pub locals: Vec<Locals>,
     pub body: Vec<Instruction>,
 }
 

@@ -1,28 +1,67 @@
 // Made by tools/erase from crates/wat_instructions/src/source.rt; do not edit.
-//! The tokens that count of a text, in 8 bytes each, and how they are read: the value of a token is
+//! The tokens that count of a text, in 6 bytes each, and how they are read: the value of a token is
 //! taken from the text when it is looked at.
 
 use wat_lex::shim::prelude::*;
 use crate::instructions::pieces::{Piece, Sign};
+use wat_lex::shim::borrow::{CowSlice, CowStr};
+
+/// A number of 32 bits. In halves it is aligned to 2 bytes, so that a token takes 6.
+#[derive(Clone, Copy)]
+pub struct Halves {
+    low: u16,
+    high: u16,
+}
+
+impl Halves {
+    /// The halves of a number.
+    ///
+    /// # Proved
+    ///
+    /// ```text
+    /// ensures { number_of result ≡ number }
+    /// ```
+    #[inline(always)]
+    pub fn new(number: u32) -> Halves {
+        Halves {
+            low: (number % 65536) as u16,
+            high: (number / 65536) as u16,
+        }
+    }
+
+    /// The number.
+    ///
+    /// # Proved
+    ///
+    /// ```text
+    /// ensures { result ≡ number_of self }
+    /// ```
+    #[inline(always)]
+    pub fn number(self) -> u32 {
+        u32::from(self.high) * 65536 + u32::from(self.low)
+    }
+}
 
 /// A token that counts, without its value where the text has that as it is: then it has the offset
 /// of the value and its length, both in bytes.
 #[derive(Clone, Copy)]
 pub enum ShortToken {
-    Open,
+    /// `(`, by how many tokens come before the first one after its group; by `u32::MAX` where the
+    /// group has no end.
+    Open(Halves),
     Close,
     /// A keyword.
-    Word(u32, u8),
+    Word(Halves, u8),
     /// An identifier, by its name.
-    Id(u32, u8),
+    Id(Halves, u8),
     /// An integer below 2^32 in size.
-    Integer(Sign, u32),
+    Integer(Sign, Halves),
     /// Another number.
-    Float(u32, u8),
+    Float(Halves, u8),
     /// A string, by its value.
-    Text(u32, u8),
+    Text(Halves, u8),
     /// One whose value is kept, by how many are kept before that.
-    Kept(u32),
+    Kept(Halves),
     /// Any other token.
     Other,
 }
@@ -30,9 +69,16 @@ pub enum ShortToken {
 /// What is kept of a token: a value that escapes spell, the name of a quoted identifier, a value of
 /// more than 255 bytes, or an integer of more than 32 bits.
 pub enum Kept<'a> {
-    Piece(Piece<'a>),
-    Id(String),
-    Text(Vec<u8>),
+    /// A keyword.
+    Word(&'a str),
+    /// An identifier, by its name.
+    Id(CowStr<'a>),
+    /// An integer.
+    Integer(Sign, u64),
+    /// Another number.
+    Float(&'a str),
+    /// A string, by its value.
+    Text(CowSlice<'a, u8>),
 }
 
 /// The tokens that count of a text.
@@ -55,7 +101,8 @@ impl<'a> Source<'a> {
     /// # Proved
     ///
     /// ```text
-    /// requires { AreReadable text.now (length kept.now) tokens.items }
+    /// requires readable { AreReadable text.now (length kept.now) tokens.items }
+    /// requires linked { AreLinked (map (terminal_in text.now kept.now) tokens.items) tokens.items }
     /// ensures { result ≡ map (terminal_in text.now kept.now) tokens.items }
     /// ```
     pub fn new(text: &'a str, tokens: Vec<ShortToken>, kept: &'a [Kept<'a>]) -> Source<'a> {
@@ -102,6 +149,22 @@ impl<'a> Source<'a> {
             None => None,
         }
     }
+
+    /// Where the tokens after a group begin whose `(` is at this index, if one is.
+    ///
+    /// # Proved
+    ///
+    /// ```text
+    /// ensures is { MatchOption result (slice_get self.now at ≢ Some Open)
+    ///     (λ end. (slice_get self.now at ≡ Some Open) × (past 0 (drop (suc at) self.now) ≡ drop end self.now)) }
+    /// ensures small { IfSome result (λ _. at < 2 ^ 63) }
+    /// ```
+    fn group_end(&self, at: usize) -> Option<usize> {
+        match self.tokens.get(at) {
+            Some(ShortToken::Open(end)) => Some(end.number() as usize),
+            _ => None,
+        }
+    }
 }
 
 /// A token with its value.
@@ -115,14 +178,14 @@ impl<'a> Source<'a> {
 #[inline(always)]
 fn read<'a>(text: &'a str, kept: &'a [Kept<'a>], token: ShortToken) -> Piece<'a> {
     match token {
-        ShortToken::Open => Piece::Open,
+        ShortToken::Open(_) => Piece::Open,
         ShortToken::Close => Piece::Close,
         ShortToken::Word(offset, len) => Piece::Word(characters(text, offset, len)),
         ShortToken::Id(offset, len) => Piece::Id(characters(text, offset, len)),
-        ShortToken::Integer(sign, size) => Piece::Integer(sign, u64::from(size)),
+        ShortToken::Integer(sign, size) => Piece::Integer(sign, u64::from(size.number())),
         ShortToken::Float(offset, len) => Piece::Float(characters(text, offset, len)),
         ShortToken::Text(offset, len) => Piece::Text(bytes(text, offset, len)),
-        ShortToken::Kept(index) => at_index(kept, index as usize),
+        ShortToken::Kept(index) => at_index(kept, index.number() as usize),
         ShortToken::Other => Piece::Other,
     }
 }
@@ -133,12 +196,12 @@ fn read<'a>(text: &'a str, kept: &'a [Kept<'a>], token: ShortToken) -> Piece<'a>
 /// # Proved
 ///
 /// ```text
-/// requires { AreCharacters text.now offset len }
-/// ensures { result.now ≡ bytes_at text.now offset len }
+/// requires { AreCharacters text.now (number_of offset) len }
+/// ensures { result.now ≡ bytes_at text.now (number_of offset) len }
 /// ```
 #[inline(always)]
-fn characters(text: &str, offset: u32, len: u8) -> &str {
-    let start = offset as usize;
+fn characters(text: &str, offset: Halves, len: u8) -> &str {
+    let start = offset.number() as usize;
     text.get(start..start + usize::from(len)).unwrap_or("")
 }
 
@@ -147,12 +210,12 @@ fn characters(text: &str, offset: u32, len: u8) -> &str {
 /// # Proved
 ///
 /// ```text
-/// requires { offset + len ≤ length text.now }
-/// ensures { result.now ≡ bytes_at text.now offset len }
+/// requires { number_of offset + len ≤ length text.now }
+/// ensures { result.now ≡ bytes_at text.now (number_of offset) len }
 /// ```
 #[inline(always)]
-fn bytes(text: &str, offset: u32, len: u8) -> &[u8] {
-    let start = offset as usize;
+fn bytes(text: &str, offset: Halves, len: u8) -> &[u8] {
+    let start = offset.number() as usize;
     match text.as_bytes().get(start..start + usize::from(len)) {
         Some(bytes) => bytes,
         None => &[],
@@ -168,9 +231,13 @@ fn bytes(text: &str, offset: u32, len: u8) -> &[u8] {
 /// ```
 fn at_index<'a>(kept: &'a [Kept<'a>], index: usize) -> Piece<'a> {
     match kept.get(index) {
-        Some(Kept::Piece(piece)) => *piece,
-        Some(Kept::Id(name)) => Piece::Id(name.as_str()),
-        Some(Kept::Text(text)) => Piece::Text(text.as_slice()),
+        Some(Kept::Word(word)) => Piece::Word(word),
+        Some(Kept::Id(CowStr::Borrowed(name))) => Piece::Id(name),
+        Some(Kept::Id(CowStr::Owned(name))) => Piece::Id(name.as_str()),
+        Some(Kept::Integer(sign, size)) => Piece::Integer(*sign, *size),
+        Some(Kept::Float(word)) => Piece::Float(word),
+        Some(Kept::Text(CowSlice::Borrowed(value))) => Piece::Text(value),
+        Some(Kept::Text(CowSlice::Owned(value))) => Piece::Text(value.as_slice()),
         None => Piece::Other,
     }
 }
@@ -192,6 +259,28 @@ impl<'p, 'a> Pieces<'p, 'a> {
                     at: self.at + 1,
                 };
                 Some((piece, rest))
+            }
+            None => None,
+        }
+    }
+
+    /// Those after the `(` with which they begin, and those after its group, if they begin so.
+    ///
+    /// # Proved
+    ///
+    /// ```text
+    /// ensures { MatchOption result ((ts : List Terminal) → terminals_of self.entry ≢ Open ∷ ts)
+    /// (λ r. (terminals_of self.entry ≡ Open ∷ terminals_of r.0) × (terminals_of r.1 ≡ past 0 (terminals_of r.0))) }
+    /// ```
+    pub fn group(self) -> Option<(Pieces<'p, 'a>, Pieces<'p, 'a>)> {
+        let source = self.source;
+        match source.group_end(self.at) {
+            Some(end) => {
+                let inside = Pieces {
+                    source,
+                    at: self.at + 1,
+                };
+                Some((inside, Pieces { source, at: end }))
             }
             None => None,
         }

@@ -8,7 +8,7 @@ use crate::reading::names::{Names, names_in, names_of, variable_names, with_type
 use crate::reading::segments::{memory_at, segment};
 use crate::reading::types::{global_type, limits, space_of, table_type, twice_closed};
 use crate::reading::uses::{type_at, type_use};
-use crate::reading::variables::{NamedUse, Variable, value_types, without_names};
+use crate::reading::variables::{NamedUse, Variable, locals_of, without_names};
 use wat_lex::shim::alloc::Global;
 use crate::fields::fields::{Export, ExternType, Field, Function, GlobalVariable, Import, IndexSpace};
 use crate::fields::implicit_types;
@@ -479,7 +479,7 @@ fn func<'p, 'a>(
     let (locals, rest) = variables(alloc, "local", true, rest)?;
     let (body, rest) = instructions(alloc, names, &uses.params, &locals, rest)?;
     let uses = without_names(alloc, &uses)?;
-    let locals = value_types(alloc, &locals)?;
+    let locals = locals_of(alloc, &locals)?;
     Ok((
         Field::Func(Function {
             name,

@@ -15,13 +15,6 @@ use crate::instructions::reading::label;
 use crate::instructions::source::Pieces;
 use crate::instructions::types::FunctionType;
 
-/// Where a token is: before a `(` of a field, and in a field, in so many groups more.
-#[derive(Clone, Copy)]
-enum Depth {
-    Before,
-    Inside(usize),
-}
-
 /// An item of an index space.
 #[derive(Clone, Copy)]
 struct Binding<'a> {
@@ -190,37 +183,10 @@ pub(crate) fn names_in<'s, 'a>(names: &'s Names<'a>, space: IndexSpace) -> &'s I
 /// ```
 fn starts<'p, 'a>(alloc: Global, pieces: Pieces<'p, 'a>) -> Result<Vec<Left<'p, 'a>>, AllocError> {
     let mut starts = Vec::new(alloc);
-    let mut depth = Depth::Before;
-    // So many groups are open at most.
-    let _count = pieces.len();
     let mut left = Left { pieces };
-    while let Some((piece, rest)) = left.pieces.first() {
-        left = Left { pieces: rest };
-        match depth {
-            Depth::Before => match piece {
-                Piece::Open => {
-                    starts.push(left)?;
-                    depth = Depth::Inside(0);
-                }
-                Piece::Close
-                | Piece::Word(_)
-                | Piece::Id(_)
-                | Piece::Integer(_, _)
-                | Piece::Text(_)
-                | Piece::Float(_)
-                | Piece::Other => return Ok(starts),
-            },
-            Depth::Inside(open) => match piece {
-                Piece::Open => depth = Depth::Inside(open + 1),
-                Piece::Close => depth = closed(open),
-                Piece::Word(_)
-                | Piece::Id(_)
-                | Piece::Integer(_, _)
-                | Piece::Text(_)
-                | Piece::Float(_)
-                | Piece::Other => {}
-            },
-        }
+    while let Some((inside, after)) = left.pieces.group() {
+        starts.push(Left { pieces: inside })?;
+        left = Left { pieces: after };
     }
     Ok(starts)
 }
@@ -541,21 +507,6 @@ fn definition_after<'p, 'a>(
         Ok((definition, _)) => Ok(Some(definition)),
         Err(Refusal::Text(_)) => Ok(None),
         Err(Refusal::Memory(refused)) => Err(refused),
-    }
-}
-
-/// Where a field is after `)`.
-///
-/// # Proved
-///
-/// ```text
-/// ensures { depth_of result ≡ reading.after_close groups }
-/// ```
-fn closed(groups: usize) -> Depth {
-    if groups == 0 {
-        Depth::Before
-    } else {
-        Depth::Inside(groups - 1)
     }
 }
 

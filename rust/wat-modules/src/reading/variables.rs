@@ -3,6 +3,7 @@
 
 use wat_lex::shim::prelude::*;
 use wat_lex::shim::alloc::{AllocError, Global};
+use crate::fields::fields::Locals;
 use crate::instructions::pieces::{Name, ValueType};
 use crate::instructions::types::{FunctionType, TypeUse};
 
@@ -36,6 +37,51 @@ pub(crate) fn value_types(
         types.push(variable.of)?;
     }
     Ok(types)
+}
+
+/// The types of variables, of which those that are the same and follow one another are counted.
+///
+/// # Proved
+///
+/// ```text
+/// ensures { IfOk result (λ locals. flat_map local_types locals.items ≡ map grammar.type_of (map variable_of variables.now)) }
+/// ```
+pub(crate) fn locals_of(
+    alloc: Global,
+    variables: &[Variable<'_>],
+) -> Result<Vec<Locals>, AllocError> {
+    match variables {
+        [first, others @ ..] => locals_after(alloc, first.of, others),
+        [] => Ok(Vec::new(alloc)),
+    }
+}
+
+/// The same of a variable of this type and of others.
+///
+/// # Proved
+///
+/// ```text
+/// ensures { IfOk result (λ locals. flat_map local_types locals.items ≡ first ∷ map grammar.type_of (map variable_of others.now)) }
+/// ```
+fn locals_after(
+    alloc: Global,
+    first: ValueType,
+    others: &[Variable<'_>],
+) -> Result<Vec<Locals>, AllocError> {
+    let mut locals = Vec::new(alloc);
+    let mut count = 1;
+    let mut of = first;
+    for other in others {
+        if other.of == of {
+            count += 1;
+        } else {
+            locals.push(Locals { count, of })?;
+            count = 1;
+            of = other.of;
+        }
+    }
+    locals.push(Locals { count, of })?;
+    Ok(locals)
 }
 
 /// The type of parameters and results.

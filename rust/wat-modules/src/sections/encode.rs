@@ -5,7 +5,7 @@ use wat_lex::shim::prelude::*;
 use wat_lex::shim::alloc::{AllocError, Global};
 use crate::fields::fields::{
     ElemMode, Elements, Export, ExternType, Field, Function, GlobalType, Import, IndexSpace,
-    Limits, TableType, Target,
+    Limits, Locals, TableType, Target,
 };
 use crate::fields::implicit_types::types_of;
 use crate::fields::indexed_types::IndexedTypes;
@@ -245,21 +245,6 @@ fn put_instructions(
         put_instruction(out, types, instruction)?;
     }
     Ok(())
-}
-
-/// The bytes of value types.
-///
-/// # Proved
-///
-/// ```text
-/// ensures { IfOk result (λ bytes. bytes.items ≡ map type_byte types.now) }
-/// ```
-fn value_bytes(alloc: Global, types: &[ValueType]) -> Result<Vec<u8>, AllocError> {
-    let mut bytes = Vec::new(alloc);
-    for of in types {
-        bytes.push(type_byte(*of))?;
-    }
-    Ok(bytes)
 }
 
 /// The index of the type that is used.
@@ -663,6 +648,35 @@ fn put_runs(out: &mut Vec<u8>, runs: &[Run]) -> Result<(), AllocError> {
     Ok(())
 }
 
+/// The bytes of the types of local variables.
+///
+/// # Proved
+///
+/// ```text
+/// ensures { IfOk result (λ bytes. bytes.items ≡ map type_byte (flat_map local_types locals.now)) }
+/// ```
+fn local_bytes(alloc: Global, locals: &[Locals]) -> Result<Vec<u8>, AllocError> {
+    let mut bytes = Vec::new(alloc);
+    for some in locals {
+        put_times(&mut bytes, some.count, type_byte(some.of))?;
+    }
+    Ok(bytes)
+}
+
+/// Appends a byte so many times.
+///
+/// # Proved
+///
+/// ```text
+/// ensures { OnOk result (out.new.items ≡ out.old.items ++ replicate count byte) }
+/// ```
+fn put_times(out: &mut Vec<u8>, count: usize, byte: u8) -> Result<(), AllocError> {
+    for _ in 0..count {
+        out.push(byte)?;
+    }
+    Ok(())
+}
+
 /// The bytes of a function's local variables and instructions.
 ///
 /// # Proved
@@ -675,7 +689,7 @@ fn code(
     types: &IndexedTypes,
     function: &Function<'_>,
 ) -> Result<Vec<u8>, AllocError> {
-    let locals = value_bytes(alloc, &function.locals)?;
+    let locals = local_bytes(alloc, &function.locals)?;
     let runs = runs_of(alloc, &locals)?;
     let mut bytes = Vec::new(alloc);
     put_runs(&mut bytes, &runs)?;
