@@ -27,7 +27,7 @@ past_atom Other d ts h = refl
 
 -- Elements of lists.
 
-get_left : {A : Type 0} (xs ys : List A) (i : ℕ) (x : A) → slice_get xs i ≡ Some x → slice_get (xs ++ ys) i ≡ Some x
+pub get_left : {A : Type 0} (xs ys : List A) (i : ℕ) (x : A) → slice_get xs i ≡ Some x → slice_get (xs ++ ys) i ≡ Some x
 get_left [] ys i x h = cc
 get_left (y ∷ xs) ys zero x h = h
 get_left (y ∷ xs) ys (suc i) x h = get_left xs ys i x h
@@ -40,14 +40,14 @@ get_cases : {A : Type 0} (xs : List A) (x : A) (i : ℕ) (u : A) → slice_get (
 get_cases [] x zero u h = inr (refl, cc)
 get_cases [] x (suc i) u h = cc
 get_cases (y ∷ xs) x zero u h = inl h
-get_cases (y ∷ xs) x (suc i) u h = elim get_cases xs x i u h [ inl e ↦ inl e | inr e ↦ inr (ap suc e.0, e.1) ]
+get_cases (y ∷ xs) x (suc i) u h = elim (get_cases xs x i u h) [ inl e ↦ inl e | inr e ↦ inr (ap suc e.0, e.1) ]
 
 set_cases : {A : Type 0} (xs : List A) (i : ℕ) (x : A) (j : ℕ) (u : A) → slice_get (slice_set xs i x) j ≡ Some u → ((j ≡ i) × (x ≡ u)) ⊎ ((¬ (j ≡ i)) × (slice_get xs j ≡ Some u))
 set_cases [] i x j u h = cc
 set_cases (y ∷ xs) zero x zero u h = inl (refl, cc)
 set_cases (y ∷ xs) zero x (suc j) u h = inr ((λ e. absurd (omega (arith, e))), h)
 set_cases (y ∷ xs) (suc i) x zero u h = inr ((λ e. absurd (omega (arith, e))), h)
-set_cases (y ∷ xs) (suc i) x (suc j) u h = elim set_cases xs i x j u h [ inl e ↦ inl (ap suc e.0, e.1) | inr e ↦ inr ((λ k. e.0 (omega (arith, k))), e.1) ]
+set_cases (y ∷ xs) (suc i) x (suc j) u h = elim (set_cases xs i x j u h) [ inl e ↦ inl (ap suc e.0, e.1) | inr e ↦ inr ((λ k. e.0 (omega (arith, k))), e.1) ]
 
 pub same_map : {A B : Type 0} (f : A → B) (xs : List A) (i : ℕ) (x : A) → slice_get (map f xs) i ≡ Some (f x) → map f (slice_set xs i x) ≡ map f xs
 same_map f [] i x h = refl
@@ -105,23 +105,23 @@ open_at xs (j ∷ is) i (suc k) h l e = open_at xs is i k h.1 (omega (arith, l))
 linked_before : (xs : List Terminal) (x : Terminal) (ts : List ShortToken) (is : List ℕ) (i : ℕ) (e : Halves) → length xs ≡ length ts → AreLinkedBut xs ts is → slice_get ts i ≡ Some (short.Open e) → (Contains is i × (number_of e ≡ 2 ^ 32 - 1)) ⊎ HasEnded (xs ++ x ∷ []) i (number_of e)
 linked_before xs x ts is i e s h g =
     let l : i < length xs = omega (arith, s, slice_get_within ts i (short.Open e) g) in
-    elim h i e g [ inl o ↦ inl o | inr k ↦ inr (ended_on xs x i (number_of e) l k) ]
+    elim (h i e g) [ inl o ↦ inl o | inr k ↦ inr (ended_on xs x i (number_of e) l k) ]
 
 pub linked_other : (xs : List Terminal) (x : Terminal) (ts : List ShortToken) (t : ShortToken) (is : List ℕ) → length xs ≡ length ts → ((e : Halves) → ¬ (t ≡ short.Open e)) → AreLinkedBut xs ts is → AreLinkedBut (xs ++ x ∷ []) (ts ++ t ∷ []) is
-linked_other xs x ts t is s n h = λ i e g. elim get_cases ts t i (short.Open e) g [ inl k ↦ linked_before xs x ts is i e s h k | inr k ↦ absurd (n e k.1) ]
+linked_other xs x ts t is s n h = λ i e g. elim (get_cases ts t i (short.Open e) g) [ inl k ↦ linked_before xs x ts is i e s h k | inr k ↦ absurd (n e k.1) ]
 
 pub linked_open : (xs : List Terminal) (ts : List ShortToken) (m : Halves) (is : List ℕ) → length xs ≡ length ts → number_of m ≡ 2 ^ 32 - 1 → AreLinkedBut xs ts is → AreLinkedBut (xs ++ Open ∷ []) (ts ++ short.Open m ∷ []) (is ++ length xs ∷ [])
-linked_open xs ts m is s n h = λ i e g. elim get_cases ts (short.Open m) i (short.Open e) g [
-  inl k ↦ elim linked_before xs Open ts is i e s h k [ inl o ↦ inl (Contains-append_left is (length xs ∷ []) i o.0, o.1) | inr z ↦ inr z ] |
-  inr k ↦ let f : m ≡ e = cc in inl (subst (Contains (is ++ length xs ∷ [])) (s ∙ sym k.0) (Contains-push is (length xs)), ap number_of (sym f) ∙ n)
+linked_open xs ts m is s n h = λ i e g. elim (get_cases ts (short.Open m) i (short.Open e) g) [
+  | inl k ↦ elim (linked_before xs Open ts is i e s h k) [ inl o ↦ inl (Contains-append_left is (length xs ∷ []) i o.0, o.1) | inr z ↦ inr z ]
+  | inr k ↦ let f : m ≡ e = cc in inl (subst (Contains (is ++ length xs ∷ [])) (s ∙ sym k.0) (Contains-push is (length xs)), ap number_of (sym f) ∙ n)
 ]
 
 pub linked_close : (xs : List Terminal) (ts : List ShortToken) (m : Halves) (is : List ℕ) (i : ℕ) → length xs ≡ length ts → number_of m ≡ suc (length xs) → IsOpen xs i 0 → AreLinkedBut xs ts (is ++ i ∷ []) → AreLinkedBut (xs ++ Close ∷ []) (slice_set (ts ++ short.Close ∷ []) i (short.Open m)) is
-linked_close xs ts m is i s n o h = λ j e g. elim set_cases (ts ++ short.Close ∷ []) i (short.Open m) j (short.Open e) g [
-  inl k ↦ inr (by j e k.0 cc) |
-  inr k ↦ elim get_cases ts short.Close j (short.Open e) k.1 [
-    inl z ↦ elim linked_before xs Close ts (is ++ i ∷ []) j e s h z [ inl c ↦ elim Contains-push_cases is i j c.0 [ inl b ↦ inl (b, c.1) | inr b ↦ absurd (k.0 (sym b)) ] | inr b ↦ inr b ] |
-    inr z ↦ cc
+linked_close xs ts m is i s n o h = λ j e g. elim (set_cases (ts ++ short.Close ∷ []) i (short.Open m) j (short.Open e) g) [
+  | inl k ↦ inr (by j e k.0 cc)
+  | inr k ↦ elim (get_cases ts short.Close j (short.Open e) k.1) [
+    | inl z ↦ elim (linked_before xs Close ts (is ++ i ∷ []) j e s h z) [ inl c ↦ elim (Contains-push_cases is i j c.0) [ inl b ↦ inl (b, c.1) | inr b ↦ absurd (k.0 (sym b)) ] | inr b ↦ inr b ]
+    | inr z ↦ cc
   ]
 ]
   where
@@ -136,9 +136,9 @@ linked_close xs ts m is i s n o h = λ j e g. elim set_cases (ts ++ short.Close 
 
 -- all tokens are put down: a group that is open has no end
 pub linked : (xs : List Terminal) (ts : List ShortToken) (is : List ℕ) → length xs < 2 ^ 32 → AreOpen xs is → AreLinkedBut xs ts is → AreLinked xs ts
-linked xs ts is s o h = λ i e g. elim h i e g [
-  inl k ↦ without_end i e (open_at xs is i k.0.0 o k.0.1 k.0.2) k.1 |
-  inr k ↦ ap (past 0) (sym (append-nil (drop (suc i) xs))) ∙ k.ended [] ∙ append-nil (drop (number_of e) xs)
+linked xs ts is s o h = λ i e g. elim (h i e g) [
+  | inl k ↦ without_end i e (open_at xs is i k.0.0 o k.0.1 k.0.2) k.1
+  | inr k ↦ ap (past 0) (sym (append-nil (drop (suc i) xs))) ∙ k.ended [] ∙ append-nil (drop (number_of e) xs)
 ]
   where
     without_end : (i : ℕ) (e : Halves) → (inner : ℕ) × IsOpen xs i inner → number_of e ≡ 2 ^ 32 - 1 → past 0 (drop (suc i) xs) ≡ drop (number_of e) xs

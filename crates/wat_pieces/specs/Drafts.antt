@@ -51,5 +51,5 @@ AreLinkedBut xs ts is = (i : ℕ) (e : Halves) → slice_get ts i ≡ Some (shor
 -- what holds of tokens while they are put down
 pub record IsDraft (text : List ℕ) (d : Draft) (is : List ℕ) : Type 0 where
   pub readable : AreReadable text (length d.kept.items) d.tokens.items
-  pub open : AreOpen (draft_terminals text d) is
+  pub groups : AreOpen (draft_terminals text d) is
   pub linked : AreLinkedBut (draft_terminals text d) d.tokens.items is

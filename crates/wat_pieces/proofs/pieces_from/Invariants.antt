@@ -1,7 +1,6 @@
 use Rattle.std.proofs.Common.{◌≡◌, ◌≤◌, List, length, map, ◌-◌}
-use Rattle.wat_instructions.specs.Tokens.{AreReadable}
 use Rattle.wat_lex.specs.declared.lexer.kinds.Token.{Token}
-use Rattle.wat_pieces.specs.Drafts.{draft_terminals}
+use Rattle.wat_pieces.specs.Drafts.{IsDraft, draft_terminals}
 use Rattle.wat_pieces.specs.Pieces.{terminal_of}
 use Rattle.wat_pieces.proofs.ShownLaws.{ShownSoFar}
 use Rattle.wat_pieces.proofs.pieces_from.Given as goal
@@ -13,7 +12,8 @@ invariant-tokens l = record {
   tokens : List Token;
   shown : ShownSoFar l.fn.from.parser.now.source l.fn.from.parser.now.names l.fn.from.at l.cursor.at tokens;
   are : draft_terminals l.text l.draft ≡ map (terminal_of l.text) tokens;
-  readable : AreReadable l.text (length l.draft.kept.items) l.draft.tokens.items;
+  sound : IsDraft l.text l.draft l.groups.items;
+  count : length l.draft.tokens.items ≤ l.cursor.at;
   few : length l.draft.kept.items ≤ l.cursor.at;
 }
 

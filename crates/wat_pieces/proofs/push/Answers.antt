@@ -1,12 +1,20 @@
-use Rattle.std.proofs.Common.{◌≡◌, length, rules, subst}
-use Rattle.wat_instructions.specs.Tokens.{kept_terminal}
+use Rattle.std.proofs.Common.{Result, Ok, Err, subst}
+use Rattle.std.specs.Prelude.{OnOk}
 use Rattle.wat_pieces.specs.Drafts.{IsReadAs}
-use Rattle.wat_pieces.proofs.Drafts.{with_kept}
 use Rattle.wat_pieces.proofs.push.Goals as goal
 
-pub returns-in_ok-push-in-Kept-2-clause-is : goal.returns-in_ok-push-in-Kept-2-clause-is
-returns-in_ok-push-in-Kept-2-clause-is c = λ x h.
-    let d = c.args.draft.now in
-    let index : c.len-index.result ≡ length d.kept.items = search rules in
-    let is : kept_terminal c.in-Kept.value ≡ x = subst (λ r. IsReadAs c.args.text.now r x) c.in-Kept.is h in
-    with_kept c.args.text.now d.kept.items c.push-in-Kept.new.self.items d.tokens.items c.push-in-Kept-2.new.self.items c.in-Kept.value c.len-index.result x c.in_ok-push-in-Kept.ensures.items c.in_ok-push-in-Kept-2.ensures.items index c.requires.readable is
+so : {T E : Type 0} (r : Result T E) (P Q : Type 0) → (P → Q) → OnOk r P → OnOk r Q
+so (Ok v) P Q f h = f h
+so (Err e) P Q f h = tt
+
+pub returns-in-Short-clause-sound : goal.returns-in-Short-clause-sound
+returns-in-Short-clause-sound c =
+    so c.push_short.result _ _ (λ h x r. h x c.args.groups.now.items (subst (λ v. IsReadAs c.args.text.now v x) c.in-Short.is r) c.requires.sound) c.push_short.ensures.sound
+
+pub returns-in-Kept-clause-is : goal.returns-in-Kept-clause-is
+returns-in-Kept-clause-is c =
+    so c.push_kept.result _ _ (λ h x r. h x c.args.groups.now.items (subst (λ v. IsReadAs c.args.text.now v x) c.in-Kept.is r) c.requires.sound) c.push_kept.ensures.is
+
+pub returns-in-Kept-clause-sound : goal.returns-in-Kept-clause-sound
+returns-in-Kept-clause-sound c =
+    so c.push_kept.result _ _ (λ h x r. h x c.args.groups.now.items (subst (λ v. IsReadAs c.args.text.now v x) c.in-Kept.is r) c.requires.sound) c.push_kept.ensures.sound
