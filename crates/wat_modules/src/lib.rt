@@ -72,7 +72,7 @@ pub fn compile(alloc: Global, text: &str) -> Result<Vec<u8>, Error>
 fn of_draft(alloc: Global, text: &str, draft: Draft<'_>) -> Result<Vec<u8>, Error>
     requires short { length text.now < 2 ^ 32 }
     requires readable { AreReadable text.now (length draft.kept.items) draft.tokens.items }
-    requires linked { AreLinked (draft_terminals text.now draft.entry) draft.tokens.items }
+    requires linked { AreLinked (draft_terminals text.now draft) draft.tokens.items }
     ensures { (tokens : List Token) → TextShows (plain text.now) no_names tokens None →
         draft_terminals text.now draft.entry ≡ map (terminal_of text.now) tokens →
         Answers true (λ bytes. bytes.items) (compiled_tokens text.now tokens) result }

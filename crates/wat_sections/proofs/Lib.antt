@@ -1,4 +1,5 @@
 pub mod Counting
 pub mod Bytes
 pub mod RunLaws
+pub mod LocalLaws
 pub mod Functions

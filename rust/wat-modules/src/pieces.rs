@@ -255,14 +255,14 @@ fn read_string<'t>(text: &'t str, token: &Token, value: &'t [u8]) -> Read<'t> {
 ///
 /// ```text
 /// requires few { length draft.old.tokens.items < 2 ^ 32 }
-/// requires sound { IsDraft text.now draft.old open.old.items }
+/// requires sound { IsDraft text.now draft.old groups.old.items }
 /// ensures is { OnOk result (draft_terminals text.now draft.new ≡ draft_terminals text.now draft.old ++ Open ∷ []) }
-/// ensures sound { OnOk result (IsDraft text.now draft.new open.new.items) }
+/// ensures sound { OnOk result (IsDraft text.now draft.new groups.new.items) }
 /// ensures few { OnOk result (length draft.new.kept.items ≡ length draft.old.kept.items) }
 /// ensures count { OnOk result (length draft.new.tokens.items ≡ suc (length draft.old.tokens.items)) }
 /// ```
-fn push_open(text: &str, draft: &mut Draft<'_>, open: &mut Vec<u32>) -> Result<(), AllocError> {
-    open.push(draft.tokens.len() as u32)?;
+fn push_open(text: &str, draft: &mut Draft<'_>, groups: &mut Vec<u32>) -> Result<(), AllocError> {
+    groups.push(draft.tokens.len() as u32)?;
     draft.tokens.push(ShortToken::Open(Halves::new(u32::MAX)))?;
     Ok(())
 }
@@ -272,16 +272,16 @@ fn push_open(text: &str, draft: &mut Draft<'_>, open: &mut Vec<u32>) -> Result<(
 /// # Proved
 ///
 /// ```text
-/// requires few { length draft.old.tokens.items + 1 < 2 ^ 32 }
-/// requires sound { IsDraft text.now draft.old open.old.items }
+/// requires few { suc (length draft.old.tokens.items) < 2 ^ 32 }
+/// requires sound { IsDraft text.now draft.old groups.old.items }
 /// ensures is { OnOk result (draft_terminals text.now draft.new ≡ draft_terminals text.now draft.old ++ Close ∷ []) }
-/// ensures sound { OnOk result (IsDraft text.now draft.new open.new.items) }
+/// ensures sound { OnOk result (IsDraft text.now draft.new groups.new.items) }
 /// ensures few { OnOk result (length draft.new.kept.items ≡ length draft.old.kept.items) }
 /// ensures count { OnOk result (length draft.new.tokens.items ≡ suc (length draft.old.tokens.items)) }
 /// ```
-fn push_close(text: &str, draft: &mut Draft<'_>, open: &mut Vec<u32>) -> Result<(), AllocError> {
+fn push_close(text: &str, draft: &mut Draft<'_>, groups: &mut Vec<u32>) -> Result<(), AllocError> {
     draft.tokens.push(ShortToken::Close)?;
-    if let Some(begin) = open.pop() {
+    if let Some(begin) = groups.pop() {
         let end = Halves::new(draft.tokens.len() as u32);
         draft.tokens[begin as usize] = ShortToken::Open(end);
     }
@@ -309,8 +309,8 @@ fn push_short(text: &str, draft: &mut Draft<'_>, token: ShortToken) -> Result<()
 ///
 /// ```text
 /// requires few { length draft.old.kept.items < 2 ^ 32 }
-/// ensures is { OnOk result ((x : Terminal) (is : List ℕ) → IsReadAs text.now (Read.Kept value) x → IsDraft text.now draft.old is → draft_terminals text.now draft.new ≡ draft_terminals text.now draft.old ++ x ∷ []) }
-/// ensures sound { OnOk result ((x : Terminal) (is : List ℕ) → IsReadAs text.now (Read.Kept value) x → IsDraft text.now draft.old is → IsDraft text.now draft.new is) }
+/// ensures is { OnOk result ((x : Terminal) (is : List ℕ) → IsReadAs text.now (Read.Kept value.entry) x → IsDraft text.now draft.old is → draft_terminals text.now draft.new ≡ draft_terminals text.now draft.old ++ x ∷ []) }
+/// ensures sound { OnOk result ((x : Terminal) (is : List ℕ) → IsReadAs text.now (Read.Kept value.entry) x → IsDraft text.now draft.old is → IsDraft text.now draft.new is) }
 /// ensures few { OnOk result (length draft.new.kept.items ≤ suc (length draft.old.kept.items)) }
 /// ensures count { OnOk result (length draft.new.tokens.items ≡ suc (length draft.old.tokens.items)) }
 /// ```
@@ -328,21 +328,21 @@ fn push_kept<'t>(text: &'t str, draft: &mut Draft<'t>, value: Kept<'t>) -> Resul
 /// ```text
 /// requires room { suc (length draft.old.tokens.items) < 2 ^ 32 }
 /// requires kept { length draft.old.kept.items < 2 ^ 32 }
-/// requires sound { IsDraft text.now draft.old open.old.items }
+/// requires sound { IsDraft text.now draft.old groups.old.items }
 /// ensures is { OnOk result ((x : Terminal) → IsReadAs text.now read.entry x → draft_terminals text.now draft.new ≡ draft_terminals text.now draft.old ++ x ∷ []) }
-/// ensures sound { OnOk result ((x : Terminal) → IsReadAs text.now read.entry x → IsDraft text.now draft.new open.new.items) }
+/// ensures sound { OnOk result ((x : Terminal) → IsReadAs text.now read.entry x → IsDraft text.now draft.new groups.new.items) }
 /// ensures few { OnOk result (length draft.new.kept.items ≤ suc (length draft.old.kept.items)) }
 /// ensures count { OnOk result (length draft.new.tokens.items ≡ suc (length draft.old.tokens.items)) }
 /// ```
 fn push<'t>(
     text: &'t str,
     draft: &mut Draft<'t>,
-    open: &mut Vec<u32>,
+    groups: &mut Vec<u32>,
     read: Read<'t>,
 ) -> Result<(), AllocError> {
     match read {
-        Read::Open => push_open(text, draft, open),
-        Read::Close => push_close(text, draft, open),
+        Read::Open => push_open(text, draft, groups),
+        Read::Close => push_close(text, draft, groups),
         Read::Short(token) => push_short(text, draft, token),
         Read::Kept(value) => push_kept(text, draft, value),
     }
@@ -357,9 +357,9 @@ fn push<'t>(
 /// requires small { length text.now < 2 ^ 32 }
 /// requires room { suc (length draft.old.tokens.items) < 2 ^ 32 }
 /// requires kept { length draft.old.kept.items < 2 ^ 32 }
-/// requires sound { IsDraft text.now draft.old open.old.items }
+/// requires sound { IsDraft text.now draft.old groups.old.items }
 /// ensures is { OnOk result (draft_terminals text.now draft.new ≡ draft_terminals text.now draft.old ++ terminal_of text.now token.now ∷ []) }
-/// ensures sound { OnOk result (IsDraft text.now draft.new open.new.items) }
+/// ensures sound { OnOk result (IsDraft text.now draft.new groups.new.items) }
 /// ensures few { OnOk result (length draft.new.kept.items ≤ suc (length draft.old.kept.items)) }
 /// ensures count { OnOk result (length draft.new.tokens.items ≡ suc (length draft.old.tokens.items)) }
 /// ```
@@ -368,10 +368,10 @@ fn push_token<'t>(
     text: &'t str,
     token: &Token,
     draft: &mut Draft<'t>,
-    open: &mut Vec<u32>,
+    groups: &mut Vec<u32>,
 ) -> Result<(), AllocError> {
     let read = read_token(alloc, text, token)?;
-    push(text, draft, open, read)
+    push(text, draft, groups, read)
 }
 
 /// All that a text shows where no name is registered, in 6 bytes each.
@@ -417,12 +417,12 @@ fn pieces_from<'p, 'a, 't>(
         tokens: Vec::new(alloc),
         kept: Vec::new(alloc),
     };
-    let mut open = Vec::new(alloc);
+    let mut groups = Vec::new(alloc);
     let mut cursor = from;
     'tokens: loop {
         match cursor.any() {
             Ok(Some((token, next))) => {
-                push_token(alloc, text, &token, &mut draft, &mut open)?;
+                push_token(alloc, text, &token, &mut draft, &mut groups)?;
                 cursor = next;
             }
             Ok(None) => return Ok((ShownPieces { draft, error: None }, cursor)),

@@ -668,11 +668,11 @@ fn local_bytes(alloc: Global, locals: &[Locals]) -> Result<Vec<u8>, AllocError> 
 /// # Proved
 ///
 /// ```text
-/// ensures { OnOk result (out.new.items ≡ out.old.items ++ replicate count byte) }
+/// ensures { OnOk result (out.new.items ≡ out.old.items ++ replicate count value) }
 /// ```
-fn put_times(out: &mut Vec<u8>, count: usize, byte: u8) -> Result<(), AllocError> {
+fn put_times(out: &mut Vec<u8>, count: usize, value: u8) -> Result<(), AllocError> {
     for _ in 0..count {
-        out.push(byte)?;
+        out.push(value)?;
     }
     Ok(())
 }

@@ -7,6 +7,6 @@ use Rattle.wat_fields_read.proofs.variables.locals_after.Given as goal
 
 abbrev pub invariant-loop-other : goal.invariant-loop-other
 invariant-loop-other l = record {
-  are : l.first ∷ map type_of (map variable_of l.others) ≡ flat_map local_types l.locals.items ++ (replicate l.count l.of ++ map type_of (map variable_of (drop l.other-index l.others)));
+  are : l.fn.first ∷ map type_of (map variable_of l.others) ≡ flat_map local_types l.locals.items ++ (replicate l.count l.of ++ map type_of (map variable_of (drop l.other-index l.others)));
   few : l.count ≤ suc l.other-index;
 }
