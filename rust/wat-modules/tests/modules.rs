@@ -175,6 +175,12 @@ fn refusals_have_their_place() {
             44,
         ),
         ("(module (func (export \"\\ff\")))", "name is not UTF-8", 22),
+        // Groups that have no end, and ends of none.
+        ("(func $f) (start $f", "unexpected token", 19),
+        ("(func $f (start $f)", "unknown keyword", 10),
+        ("(func) ) (func)", "unexpected token", 7),
+        ("(func $f)) (start $f)", "unexpected token", 9),
+        ("(module (func)))", "unexpected token", 15),
         // Faults of the lexer.
         ("(module (func \"", "unexpected end-of-file", 15),
         ("(module (; ", "unterminated block comment", 8),
