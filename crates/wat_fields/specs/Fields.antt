@@ -327,7 +327,8 @@ pub data UseIs (word : List ℕ) (names : List Label) : List Terminal → ℕ �
   by_use : {w : List ℕ} {ts r : List Terminal} {i : ℕ} → w ≡ word → IndexIs names ts i (Close ∷ r) → UseIs word names (Open ∷ Word w ∷ ts) i r
   by_no_use : {ts : List Terminal} → UseIs word names ts 0 ts
 
--- 6.6.11, 6.6.12: an expression after a word, `(` word instr* `)`, where word is `offset` or `item`; or one folded instruction, which is the same in it
+-- 6.6.11, 6.6.12: an expression after a word, `(` word instr* `)`, where word is `offset` or `item`; or `(` instr `)`, which is the same in it. That this is
+-- one folded instruction is a reading of our own.
 pub data ExpressionIs (word : List ℕ) (context : Context) : List Terminal → List Instruction → List Terminal → Type 0 where
   by_word_expression : {w : List ℕ} {ts r : List Terminal} {is : List Instruction} → w ≡ word → Body context ts is r → ExpressionIs word context (Open ∷ Word w ∷ ts) is r
   by_instruction : {ts r : List Terminal} {is : List Instruction} → Folded context ts is r → ExpressionIs word context ts is r

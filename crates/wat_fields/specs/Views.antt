@@ -62,7 +62,7 @@ target_of None = None
 abbrev pub expression_of : {G : Type 0} → Vec Instruction G → List Instruction
 expression_of v = v.items
 
--- 6.6.11: the instructions of each element; an index stands for `ref.func` of it
+-- 6.6.11: the instructions of each element; of an index, `ref.func` of it
 abbrev pub expressions_of : declared_elements.Elements → Elements
 expressions_of (elements.Functions v) = map ref_func v.items
 expressions_of (elements.Expressions v) = map expression_of v.items

@@ -1,4 +1,5 @@
--- What the code reads, token by token. Nobody has to believe it: Law.antt says that it is the grammar.
+-- What the code reads. Which fields these are, nobody has to believe: Law.antt says that they are the grammar's. Which fault a text has is a rule of our
+-- own.
 use Rattle.std.specs.Prelude.{ℕ, zero, suc, Bool, true, false, List, [], ◌∷◌, ◌++◌, length, map, codes, bytes_eq, nat_lt, slice_get, Option, Some, None, Result, Ok, Err, if◌then◌else◌}
 use Rattle.std.specs.List.{flat_map}
 use Rattle.std.specs.Str.{is_utf8}
@@ -7,6 +8,7 @@ use Rattle.wat_instructions.specs.declared.pieces.FaultKind.TheVariants.{Unexpec
 use Rattle.wat_instructions.specs.declared.pieces.ReferenceType.{ReferenceType}
 use Rattle.wat_instructions.specs.declared.pieces.ReferenceType.TheVariants as reference
 use Rattle.wat_instructions.specs.declared.pieces.ValueType.{ValueType}
+pub use Rattle.wat_instructions.specs.Grammar.{after, after_word}
 use Rattle.wat_instructions.specs.Grammar.{Context, Fault, index, label_of, reference_type, small, value_type}
 use Rattle.wat_instructions.specs.Machine.{body, folded}
 use Rattle.wat_instructions.specs.Types.{FunctionType, Types, same_type}
@@ -55,15 +57,6 @@ closed ts = Err (Unexpected, ts)
 abbrev pub closing : {V : Type 0} → V → Result (List Terminal) Fault → Read V
 closing v (Ok ts) = Ok (v, ts)
 closing v (Err f) = Err f
-
--- after `(` and a word, where the tokens begin so
-abbrev pub after_word : List ℕ → List Terminal → Option (List Terminal)
-after_word word (Word w ∷ ts) = if bytes_eq w word then Some ts else None
-after_word word ts = None
-
-abbrev pub after : List ℕ → List Terminal → Option (List Terminal)
-after word (Open ∷ ts) = after_word word ts
-after word ts = None
 
 abbrev pub begun : {V : Type 0} → (List Terminal → Read (List V)) → Option (List Terminal) → Item V
 begun rest None = None
@@ -485,7 +478,7 @@ field_item types context ts = None
 
 -- Where fields begin, and what they bring, by the parentheses alone.
 
--- where a token is: before a `(` of a field, and in a field, in so many groups more
+-- where a token is: before a `(` of a field; or in a field, in so many groups more
 pub data Depth : Type 0 where
   Before : Depth
   Inside : ℕ → Depth

@@ -340,7 +340,7 @@ abbrev pub indexed_by : ℕ → Option FunctionType → List Terminal → List T
 indexed_by i None all ts = Err (UnknownName, all)
 indexed_by i (Some t) all ts = agreed i t all (lists_of ts)
 
--- the same where the types are not known, which is so in no module: 0 stands for the index, whatever it is, and the type is the one that is listed
+-- the same where the types are not known, which is so in no module: the index is 0, whatever the text says, and the type is the one that is listed
 abbrev pub assumed : Result (FunctionType × List Terminal) Fault → Result (TypeUse × List Terminal) Fault
 assumed (Ok (t, ts)) = Ok (type_use (Some 0) t, ts)
 assumed (Err f) = Err f
@@ -588,7 +588,7 @@ pub data Instructions (context : Context) : List Label → Bool → List Termina
 abbrev pub Body : Context → List Terminal → List Instruction → List Terminal → Type 0
 Body context ts is r = Instructions context (None ∷ []) false ts is (Close ∷ r)
 
--- the tokens after the `)` of the group in which so many are open
+-- the tokens after the `)` of the group in which so many are open; none where it has no `)`
 abbrev pub past : ℕ → List Terminal → List Terminal
 past d [] = []
 past d (Open ∷ ts) = past (suc d) ts

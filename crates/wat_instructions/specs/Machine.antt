@@ -1,4 +1,5 @@
--- What the code does, token by token, over a stack of what is open. Nobody has to believe it: Law.antt says that it is the grammar.
+-- What the code does, token by token, over a stack of what is open. Which instructions these are, nobody has to believe:
+-- Law.antt says that they are the grammar's. Which fault a text has is a rule of our own.
 use Rattle.std.specs.Prelude.{ℕ, zero, suc, Bool, true, false, ◌&&◌, List, [], ◌∷◌, ◌++◌, length, Option, Some, None, Result, Ok, Err, if◌then◌else◌}
 use Rattle.wat_instructions.specs.declared.pieces.Argument.{Argument}
 use Rattle.wat_instructions.specs.declared.pieces.Instruction.{Instruction}

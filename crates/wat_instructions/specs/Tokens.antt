@@ -27,7 +27,7 @@ kept_terminal (kept.Integer s n) = Integer s n
 kept_terminal (kept.Float w) = float_of w.now
 kept_terminal (kept.Text v) = Text (cow_slice_items v)
 
--- what is kept at an index; where nothing is, which is so of no token that can be read, a token that no rule takes
+-- what is kept at an index. A token that can be read has something there; where nothing is, no rule takes it.
 abbrev pub kept_or : Option Kept → Terminal
 kept_or None = Other
 kept_or (Some k) = kept_terminal k
@@ -48,7 +48,7 @@ terminal_in text ks short.Other = Other
 abbrev pub AreCharacters : List ℕ → ℕ → ℕ → Type 0
 AreCharacters text o n = IsCharBoundary text o × IsCharBoundary text (o + n)
 
--- A token of a text can be read, where so many values are kept. That its own is one of them says that more values leave it what it is.
+-- A token of a text can be read, where so many values are kept. Its own is one of them, so that more values leave it what it is.
 abbrev pub IsReadable : List ℕ → ℕ → ShortToken → Type 0
 IsReadable text k (short.Word o n) = AreCharacters text (number_of o) n
 IsReadable text k (short.Id o n) = AreCharacters text (number_of o) n
@@ -64,6 +64,6 @@ IsReadable text k short.Other = Unit {0}
 abbrev pub AreReadable : List ℕ → ℕ → List ShortToken → Type 0
 AreReadable text k ts = All (IsReadable text k) ts
 
--- each `(` says where its group ends: the tokens from there on are those after its `)`
+-- each `(` says where its group ends: the tokens from there on are those after its `)`; where it has none, it says no less than how many tokens there are
 abbrev pub AreLinked : List Terminal → List ShortToken → Type 0
 AreLinked xs ts = (i : ℕ) (e : Halves) → slice_get ts i ≡ Some (short.Open e) → past 0 (drop (suc i) xs) ≡ drop (number_of e) xs

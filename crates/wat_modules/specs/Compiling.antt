@@ -24,8 +24,8 @@ pub record Spells (text : List ℕ) (fs : List Field) : Type 0 where
 abbrev pub SpellingIsOne : Type 0
 SpellingIsOne = (text : List ℕ) (fs gs : List Field) → Spells text fs → Spells text gs → fs ≡ gs
 
--- A rule of our own, so that all sizes are `u32`: 5.5.2 bounds each size, and not the whole. That counts of local variables are (5.5.13) follows from the
--- length of the text, which is below 2 ^ 32.
+-- A rule of our own, so that all sizes are `u32`: 5.5.2 bounds each size, and not the whole. That counts of local variables (5.5.13) are `u32` follows
+-- from the length of the text, which is below 2 ^ 32.
 abbrev pub Fits : List Field → Type 0
 Fits fs = length (module_bytes fs) < 2 ^ 32
 
@@ -47,7 +47,7 @@ abbrev pub offset_or : ℕ → Option Token → ℕ
 offset_or end None = end
 offset_or end (Some t) = t.offset
 
--- where the token is after which, with it, so many are left; the text's end where none is
+-- where the token is from which on so many are left; the text's end where none is
 abbrev pub place : List ℕ → List Token → ℕ → ℕ
 place text tokens left = offset_or (length text) (slice_get tokens (length tokens - left))
 

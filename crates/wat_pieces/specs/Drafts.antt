@@ -18,7 +18,7 @@ IsAtom Open = ⊥
 IsAtom Close = ⊥
 IsAtom x = Unit {0}
 
--- what is put down can be read as this; if it is a token, then by the text alone, whatever is kept
+-- what is put down can be read as this: a short token by the text alone, whatever is kept, and it is no parenthesis
 abbrev pub IsReadAs : List ℕ → Read → Terminal → Type 0
 IsReadAs text read.Open x = x ≡ Open
 IsReadAs text read.Close x = x ≡ Close
@@ -34,12 +34,13 @@ pub record IsOpen (xs : List Terminal) (i inner : ℕ) : Type 0 where
   pub begins : slice_get xs i ≡ Some Open
   pub goes_on : (more : List Terminal) → past 0 (drop (suc i) xs ++ more) ≡ past inner more
 
--- all groups that are open, by the indices of their `(`, the outermost first
+-- these groups are open, by the indices of their `(`, the outermost first, each of them with those after it in it and no others. That no other is open,
+-- `AreLinkedBut` says.
 abbrev pub AreOpen : List Terminal → List ℕ → Type 0
 AreOpen xs [] = Unit {0}
 AreOpen xs (i ∷ is) = IsOpen xs i (length is) × AreOpen xs is
 
--- the group whose `(` is at this index has ended: these tokens come after it, and then what comes next
+-- the group whose `(` is at this index has ended: after it come the tokens from `end` on, and then what comes next
 pub record HasEnded (xs : List Terminal) (i end : ℕ) : Type 0 where
   pub within : end ≤ length xs
   pub ended : (more : List Terminal) → past 0 (drop (suc i) xs ++ more) ≡ drop end xs ++ more

@@ -1,5 +1,5 @@
 -- WebAssembly specification, text format, lexical format: all tokens that a text shows.
-use Rattle.std.specs.Prelude.{◌≡◌, ℕ, true, List, Option, Some, drop, map}
+use Rattle.std.specs.Prelude.{◌≡◌, ℕ, List, Option, Some, drop, map}
 use Rattle.std.specs.List.{All}
 use Rattle.wat_lex.specs.tokens.ReadableTokens.{IsTokenOf}
 use Rattle.std.specs.Option.{option_map}
@@ -11,7 +11,7 @@ use Rattle.wat_lexer_parser.specs.parser.State.{report_of}
 use Rattle.wat_lexer_parser.specs.places.Source.{Source, IsRead}
 use Rattle.wat_lexer_parser.specs.laws.AllShown.{AllShown}
 use Rattle.wat_instructions.specs.Terminals.{Terminal}
-use Rattle.wat_pieces.specs.Pieces.{terminal_of}
+use Rattle.wat_pieces.specs.Pieces.{plain, terminal_of}
 
 -- these tokens are shown from a place on, and this is the error of the fault after them where there is one
 pub record ShownFrom (s : Source) (names : Names) (place : ℕ) (items : List Token) (error : Option (Option Report)) : Type 0 where
@@ -25,7 +25,7 @@ pub record ShownFrom (s : Source) (names : Names) (place : ℕ) (items : List To
 -- the same of a whole text
 pub record TextShown (text : List ℕ) (items : List Token) (error : Option (Option Report)) : Type 0 where
   pub source : Source
-  pub setting : source.setting ≡ record { text = text; flags = record { allow = true; strict = true } }
+  pub setting : source.setting ≡ plain text
   pub read : IsRead source
   pub shown : ShownFrom source no_names 0 items error
 

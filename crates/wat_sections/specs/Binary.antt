@@ -336,7 +336,7 @@ needs_data_count (Start i) = false
 needs_data_count (field.Elem l m t es) = false
 needs_data_count (field.Data l t bytes) = false
 
--- 5.5.2: a section: its number, its size and its content, which are written as a vector of bytes is
+-- 5.5.2: a section: its number, and its content as a vector of bytes, which begins with its size
 abbrev pub section : ℕ → List ℕ → List ℕ
 section number content = number ∷ text_encoding content
 
