@@ -1,12 +1,11 @@
 -- What is read of a module is what the grammar spells.
-use Rattle.std.proofs.Common.{◌≡◌, ◌≤◌, ℕ, zero, suc, Bool, true, false, List, [], ◌∷◌, ◌++◌, length, map, Option, Some, None, Result, Ok, Err, refl, sym, ap, subst, ◌∙◌, arith, append_assoc, append-nil}
+use Rattle.std.proofs.Common.{◌≡◌, ◌≤◌, ℕ, Bool, true, false, List, [], ◌∷◌, ◌++◌, length, map, Option, Some, None, Result, Ok, Err, refl, sym, ap, subst, ◌∙◌, arith, append_assoc, append-nil}
 use Rattle.std.specs.Prelude.{if◌then◌else◌, bytes_eq, codes, nat_lt}
 use Rattle.std.specs.List.{flat_map}
 use Rattle.std.proofs.lemmas.Bool.Decides.{Decides-ltb}
 use Rattle.std.proofs.lemmas.Grind.{flat_map-append}
 use Rattle.wat_instructions.specs.declared.pieces.FaultKind.TheVariants.{Duplicate, SecondStart, LateImport}
 use Rattle.wat_instructions.specs.Grammar.{Context, Fault, label_of}
-use Rattle.wat_instructions.specs.Law.{past}
 use Rattle.wat_instructions.specs.Terminals.{Terminal, Open, Close, Word, Id, Integer, Text, Float, Other}
 use Rattle.wat_fields.specs.declared.fields.IndexSpace.{IndexSpace}
 use Rattle.wat_fields.specs.declared.fields.Limits.{Limits}
@@ -17,7 +16,7 @@ use Rattle.wat_fields.specs.ImplicitTypes.{has_type, types_after, types_of, fiel
 use Rattle.wat_fields.specs.Modules.{FieldsAre, Module, by_module, by_fields, own_context, own_types}
 use Rattle.wat_instructions.specs.Uses.{MoreTypesKeep, UnknownTypesBring, unknown}
 use Rattle.wat_fields_read.specs.Law.{ReadingIsGrammar}
-use Rattle.wat_fields_read.specs.Reading.{Read, after, all, export, export_item, elem_name_at, inline_elem, elem_after_type, data_name_at, inline_data, unnamed_by, field_item, fields_at, fields_by, fields_again, fields_or, all_by, all_types, defined_types, context_by, binding_by, import_binding, binding_at, definition_by, definition_at, type_at, whole, whole_by, ended, at_end, ended_by, ordered, starts, Before, Inside}
+use Rattle.wat_fields_read.specs.Reading.{Read, after, all, export, export_item, elem_name_at, inline_elem, elem_after_type, data_name_at, inline_data, unnamed_by, field_item, fields_at, fields_by, fields_again, fields_or, all_by, all_types, defined_types, context_by, binding_by, import_binding, binding_at, definition_by, definition_at, type_at, whole, whole_by, ended, at_end, ended_by, ordered, starts, Before}
 use Rattle.wat_fields_read.proofs.Starts.{inside_past}
 use Rattle.wat_fields_read.proofs.Headers.{item_ends, other_word}
 use Rattle.wat_fields_read.proofs.Items.{Finds, word_is, begins, after_is, exports_read}

@@ -583,7 +583,7 @@ fn variables_and_elements(rt: HostRuntime) {
     }
 }
 
-/// Values that a token of 8 bytes has not, and those next to them.
+/// Values that a token of 6 bytes has not, and those next to them.
 #[test]
 fn values_that_are_kept(rt: HostRuntime) {
     let rows: [(&str, &[u8]); 4] = [

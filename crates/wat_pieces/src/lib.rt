@@ -44,9 +44,9 @@ pub struct ShownPieces<'t> {
 enum Read<'t> {
     Open,
     Close,
-    /// A token whose value the text has, or that has none.
+    /// A token that needs nothing kept.
     Short(ShortToken),
-    /// A value, and a token that says where it is kept.
+    /// A value to keep.
     Kept(Kept<'t>),
 }
 
@@ -252,7 +252,7 @@ fn push_close(text: &str, draft: &mut Draft<'_>, groups: &mut Vec<u32>) -> Resul
     Ok(())
 }
 
-/// Appends a token whose value the text has.
+/// Appends a token that needs nothing kept.
 #[tactic(auto, using(crate::proofs::Drafts::with_short))]
 fn push_short(text: &str, draft: &mut Draft<'_>, token: ShortToken) -> Result<(), AllocError>
     ensures is { OnOk result ((x : Terminal) → IsReadAs text.now (Read.Short token) x → draft_terminals text.now draft.new ≡ draft_terminals text.now draft.old ++ x ∷ []) }

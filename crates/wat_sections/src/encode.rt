@@ -543,8 +543,8 @@ fn local_bytes(alloc: Global, locals: &[Locals]) -> Result<Vec<u8>, AllocError>
     ensures { IfOk result (λ bytes. bytes.items ≡ map type_byte (flat_map local_types locals.now)) }
 {
     let mut bytes = Vec::new(alloc);
-    for some in locals {
-        put_times(&mut bytes, some.count, type_byte(some.of))?;
+    for run in locals {
+        put_times(&mut bytes, run.count, type_byte(run.of))?;
     }
     Ok(bytes)
 }

@@ -33,9 +33,9 @@ pub struct ShownPieces<'t> {
 enum Read<'t> {
     Open,
     Close,
-    /// A token whose value the text has, or that has none.
+    /// A token that needs nothing kept.
     Short(ShortToken),
-    /// A value, and a token that says where it is kept.
+    /// A value to keep.
     Kept(Kept<'t>),
 }
 
@@ -288,7 +288,7 @@ fn push_close(text: &str, draft: &mut Draft<'_>, groups: &mut Vec<u32>) -> Resul
     Ok(())
 }
 
-/// Appends a token whose value the text has.
+/// Appends a token that needs nothing kept.
 ///
 /// # Proved
 ///

@@ -1,4 +1,4 @@
-use Rattle.std.proofs.Common.{◌≡◌, ◌∙◌, length, rules}
+use Rattle.std.proofs.Common.{◌≡◌, length, rules}
 use Rattle.wat_instructions.specs.Tokens.{number_of}
 use Rattle.wat_pieces.proofs.Drafts.{with_kept}
 use Rattle.wat_pieces.proofs.Puts.{put_kept}

@@ -46,8 +46,7 @@ impl Halves {
 /// of the value and its length, both in bytes.
 #[derive(Clone, Copy)]
 pub enum ShortToken {
-    /// `(`, by how many tokens come before the first one after its group; by `u32::MAX` where the
-    /// group has no end.
+    /// `(`, with the index after its group's `)`; with `u32::MAX` where it has none.
     Open(Halves),
     Close,
     /// A keyword.
@@ -150,7 +149,7 @@ impl<'a> Source<'a> {
         }
     }
 
-    /// Where the tokens after a group begin whose `(` is at this index, if one is.
+    /// The index after the group whose `(` is at this index, if one is.
     ///
     /// # Proved
     ///

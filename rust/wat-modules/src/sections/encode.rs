@@ -657,8 +657,8 @@ fn put_runs(out: &mut Vec<u8>, runs: &[Run]) -> Result<(), AllocError> {
 /// ```
 fn local_bytes(alloc: Global, locals: &[Locals]) -> Result<Vec<u8>, AllocError> {
     let mut bytes = Vec::new(alloc);
-    for some in locals {
-        put_times(&mut bytes, some.count, type_byte(some.of))?;
+    for run in locals {
+        put_times(&mut bytes, run.count, type_byte(run.of))?;
     }
     Ok(bytes)
 }

@@ -7,10 +7,10 @@ use Rattle.wat_instructions.specs.Types.{type_byte}
 use Rattle.wat_sections.proofs.LocalLaws.{more_locals}
 use Rattle.wat_sections.proofs.encode.local_bytes.Goals as goal
 
-pub loop-some-preserved : goal.loop-some-preserved
-loop-some-preserved c =
+pub loop-run-preserved : goal.loop-run-preserved
+loop-run-preserved c =
     let none : Locals = record { count = 0; of = I32 } in
-    let n = (get_or c.args.locals.now c.loop-some.some-index none).count in
-    let before = map type_byte (flat_map local_types (take c.loop-some.some-index c.args.locals.now)) in
-    c.in_ok-put_times.ensures ∙ ap (λ bs. bs ++ replicate n c.type_byte.result) c.loop-some.invariant ∙ ap (λ b. before ++ replicate n b) c.type_byte.ensures
-    ∙ sym (more_locals c.args.locals.now c.loop-some.some-index none c.loop-some-test.true)
+    let n = (get_or c.args.locals.now c.loop-run.run-index none).count in
+    let before = map type_byte (flat_map local_types (take c.loop-run.run-index c.args.locals.now)) in
+    c.in_ok-put_times.ensures ∙ ap (λ bs. bs ++ replicate n c.type_byte.result) c.loop-run.invariant ∙ ap (λ b. before ++ replicate n b) c.type_byte.ensures
+    ∙ sym (more_locals c.args.locals.now c.loop-run.run-index none c.loop-run-test.true)
