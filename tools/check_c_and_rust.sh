@@ -2,8 +2,8 @@
 # The C library, by both of its compilers: as cargo builds it of the text that tools/erase makes, static and shared, and as Rattle's own compilers
 # make it. Over each, by each C compiler that is here: each function with answers from outside, C programs that list the stored texts and their
 # identifiers, all functions on the stored texts and on mutants of them under the address and undefined-behaviour sanitizers and under valgrind, and
-# each request for memory refused; the header as C99 and as C++; and the declarations of both. Each answers the same. Last numbers as wat-parser
-# reads them, beside `strtof` and `strtod`. What can't be run here is left out, and says so.
+# each request for memory refused; the header as C99 and as C++, and the example at its head; and the declarations of both. Each answers the same.
+# Last numbers as wat-parser reads them, beside `strtof` and `strtod`. What can't be run here is left out, and says so.
 #
 #   CRATES_FOLDER=FOLDER  the crates that cargo takes, each in a folder of its own, where no registry is at hand
 #
@@ -133,11 +133,37 @@ said_by() {
     say "$name, ${compiler[*]}: $said"
 }
 
+# extract_example: writes the example program of the header, and the output that the header states, to files
+extract_example() {
+    sed -n '/^ \* Example/,/^ \* Output/{/^ \* [^ ]/!s/^ \*\( \{5\}\)\{0,1\}//p;}' include/wat.h > "$room/example.c"
+    sed -n '/^ \* Output/,/^ \* [^ ]/s/^ \* \{5\}//p' include/wat.h > "$room/example.wanted"
+    if [ ! -s "$room/example.c" ] || [ ! -s "$room/example.wanted" ]; then
+        fail 'the header has no example with its output'
+    fi
+    cp "$room/example.c" "$room/example.cc"
+}
+
+# run_example NAME LIBRARY..: compiles the example of the header as C11 and as C++17, and compares what it prints with what the header states
+run_example() {
+    local name=$1 compiler
+    shift
+    for compiler in "${compilers[@]}"; do
+        "$compiler" -std=c11 "${strict[@]}" -o "$room/example" "$room/example.c" "$@"
+        "$room/example" | diff "$room/example.wanted" - || fail "$name, $compiler: the example of the header prints something else"
+    done
+    if has "$cpp"; then
+        "$cpp" -std=c++17 "${strict[@]}" -o "$room/example" "$room/example.cc" "$@"
+        "$room/example" | diff "$room/example.wanted" - || fail "$name, $cpp: the example of the header prints something else"
+    fi
+    say "$name: the example of the header prints the $(wc -l < "$room/example.wanted") lines that the header states"
+}
+
 # suite NAME LIBRARY..: all of tools/c over a library
 suite() {
     local name=$1 compiler level
     shift
     libraries+=("$name")
+    run_example "$name" "$@"
     for compiler in "${compilers[@]}"; do
         for level in -O0 -O2; do
             said_by "$compiler -std=c99 $level" "$name" answers "$@"
@@ -237,6 +263,7 @@ c=${compilers[0]}
 printf '#include "wat.h"\n' > "$room/alone.c"
 "$c" -std=c99 "${strict[@]}" -c -o "$room/alone.o" "$room/alone.c"
 printf '#include "wat.h"\nint main() { return wat_is_text(reinterpret_cast<const uint8_t *>("("), 1) ? 0 : 1; }\n' > "$room/alone.cc"
+extract_example
 has "$cpp" || say "the header as C++ is left out, as no C++ compiler $cpp is here"
 "$c" -O1 -fPIC -shared -nostdlib -o "$room/refuse.so" tools/refuse_requests.c
 
