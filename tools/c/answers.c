@@ -63,7 +63,7 @@ static struct wat_answer answer(const char *reader, const char *text, uint8_t *o
 
 /* The reader gives these bytes where the buffer has room for them, and else none. */
 static void gives(const char *reader, const char *text, const char *wanted) {
-    uint8_t out[ROOM], shorter[ROOM];
+    uint8_t out[ROOM] = {0}, shorter[ROOM];
     size_t len = strlen(wanted), i;
     struct wat_answer given = answer(reader, text, out, len);
     expect(given.needed == len && given.status == WAT_GIVEN, reader, text);
@@ -238,14 +238,14 @@ static void values(void) {
 }
 
 static bool prints(const char *file, const char *wanted) {
-    uint8_t out[ROOM];
+    uint8_t out[ROOM] = {0};
     struct wat_answer given = wat_print(bytes_of("a b"), 3, 2, bytes_of("no such word"), 12, bytes_of(file), strlen(file), out, ROOM);
     return given.needed == strlen(wanted) && given.status == WAT_GIVEN && memcmp(out, wanted, given.needed) == 0;
 }
 
 /* Errors, messages, names and the version. */
 static void messages(void) {
-    uint8_t out[ROOM];
+    uint8_t out[ROOM] = {0};
     struct wat_answer given = wat_message(WAT_UNEXPECTED, 0x80, 0, out, ROOM);
     expect(prints("", "no such word\n     --> <anon>:1:3\n      |\n    1 | a b\n      |   ^"), "wat_print", "a b");
     expect(prints("x.wat", "no such word\n     --> x.wat:1:3\n      |\n    1 | a b\n      |   ^"), "wat_print", "a b");
