@@ -1,4 +1,4 @@
--- The format of import lists, over the tokens of the WebAssembly text format that count. No part of the standard.
+-- The grammar of import lists, over the significant tokens of the WebAssembly text format. Not part of the standard.
 use Rattle.std.specs.Prelude.{ℕ, false, List, Option, codes, refl}
 use Rattle.wat_imports.specs.declared.Kind.{Kind}
 use Rattle.wat_imports.specs.declared.Kind.TheVariants.{Code, Pages}
@@ -21,11 +21,11 @@ kind =
     one_of (choice (a_keyword (codes "code")) (quoted false (codes "code")) (and_then (keyword (codes "code")) (λ at. mapped Code u32))
     (choice (a_keyword (codes "pages")) (quoted false (codes "pages")) (and_then (keyword (codes "pages")) (λ at. mapped Pages u32)) nothing_else))
 
--- a kind, and a name or none, after what was read before
+-- a kind and an optional name, after the two strings and the identifier
 unfoldable pub described : List ℕ → List ℕ → Option Spelled → Format Read
 described p f i = and_then kind (λ k. mapped (λ n. record { place = p; field = f; id = i; kind = k; name = n }) optional_name)
 
--- an identifier or none, and these
+-- an optional identifier, and these
 unfoldable pub called : List ℕ → List ℕ → Format Read
 called p f = and_then (optional an_identifier identifier) (λ i. described p f i)
 

@@ -1,4 +1,4 @@
--- What is read of an import list is what it spells.
+-- Parsing a source returns a list if and only if the source matches the grammar with it.
 use Rattle.wat_lexer_parser.specs.rules.Spelling.{ReadsAsSpelled}
 use Rattle.wat_imports.specs.Imports.{imports}
 

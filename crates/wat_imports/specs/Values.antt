@@ -1,4 +1,4 @@
--- What callers see of an entry that is read.
+-- The contents of a parsed entry, as callers see them.
 use Rattle.std.specs.Cow.{cow_str_bytes}
 use Rattle.std.specs.Option.{option_map}
 use Rattle.wat_imports.specs.Imports.{Read}

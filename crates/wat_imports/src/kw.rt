@@ -3,7 +3,7 @@ ghost use Rattle.std.specs.Prelude.{codes, false};
 
 use wat_lexer_parser::token::{Keyword, Word};
 
-/// The word `imports`.
+/// The spelling of the keyword `imports`.
 #[derive(Clone, Copy, Debug)]
 pub struct Imports;
 
@@ -23,7 +23,7 @@ impl Word for Imports {
     }
 }
 
-/// The word `entry`.
+/// The spelling of the keyword `entry`.
 #[derive(Clone, Copy, Debug)]
 pub struct Entry;
 
@@ -43,7 +43,7 @@ impl Word for Entry {
     }
 }
 
-/// The word `code`.
+/// The spelling of the keyword `code`.
 #[derive(Clone, Copy, Debug)]
 pub struct Code;
 
@@ -63,7 +63,7 @@ impl Word for Code {
     }
 }
 
-/// The word `pages`.
+/// The spelling of the keyword `pages`.
 #[derive(Clone, Copy, Debug)]
 pub struct Pages;
 

@@ -1,8 +1,8 @@
-//! The law that joins what is read of a text with what the format spells.
+//! The theorem that relates the parser with the grammar of the format.
 ghost use Rattle.wat_imports.specs.Spelling.{ReadingIsSpelling};
 
-/// A text is read as a list of these entries exactly where the rule of the format spells them with
-/// its tokens. The function does nothing: its contract is the law.
+/// Theorem (no effect): parsing a source returns these entries if and only if its significant
+/// tokens match the grammar with these entries.
 pub fn reading_is_spelling()
     ensures { ReadingIsSpelling }
 {

@@ -1,9 +1,8 @@
-//! Import lists: a format of its own, over the parser of WebAssembly text, that nobody of the library had
-//! in mind.
+//! Import lists: a custom s-expression format, over the parser of the WebAssembly text format.
 //!
-//! A text is `(imports ENTRY*)`. An entry is `(entry STRING STRING ID? KIND NAME?)`: a place and a
-//! field in it, an identifier or none, `code N` or `pages N`, and `(@name STRING)` or none, which is
-//! shown where `name` is registered.
+//! A source is `(imports ENTRY*)`. An entry is `(entry STRING STRING ID? KIND NAME?)`: a module, a
+//! field of it, an optional identifier, `code N` or `pages N`, and an optional `(@name STRING)`,
+//! which is visible if `name` is registered.
 #![tactic(auto)]
 
 ghost use Rattle.std.specs.Prelude.{◌≤◌, map};
@@ -23,12 +22,12 @@ use wat_lexer_parser::Error;
 use wat_lexer_parser::parser::{Parse, Parser};
 use wat_lexer_parser::token::{Id, NameAnnotation};
 
-/// What is imported.
+/// The kind of an import.
 #[derive(Debug, Clone, Copy, PartialEq, Eq)]
 pub enum Kind {
-    /// Code of a type.
+    /// Code, with the index of its type.
     Code(u32),
-    /// So many pages.
+    /// Memory, with its number of pages.
     Pages(u32),
 }
 
@@ -62,15 +61,15 @@ impl<'a> Parse<'a> for Kind {
 /// An entry of a list.
 #[derive(Debug, Drop)]
 pub struct Entry<'a> {
-    /// Where it comes from.
+    /// The name of the module.
     pub place: CowStr<'a>,
-    /// What it is called there.
+    /// The name of the field.
     pub field: CowStr<'a>,
-    /// What it is called here.
+    /// The identifier that the entry defines.
     pub id: Option<Id<'a>>,
-    /// What it is.
+    /// The kind.
     pub kind: Kind,
-    /// The name that an annotation gives it.
+    /// The name given by an annotation.
     pub name: Option<NameAnnotation<'a>>,
 }
 
@@ -89,7 +88,7 @@ impl<'a> Parse<'a> for Entry<'a> {
     }
 }
 
-/// What is within the parentheses of an entry.
+/// Parses the contents of an entry's parentheses.
 #[tactic(auto, unfolding(crate::specs::Imports::inner))]
 fn inner<'a>(parser: &mut Parser<'a>) -> Result<Entry<'a>, Error>
     ensures kept { IsKept parser.old parser.new }
@@ -100,7 +99,7 @@ fn inner<'a>(parser: &mut Parser<'a>) -> Result<Entry<'a>, Error>
     details(parser)
 }
 
-/// What comes after the word of an entry.
+/// Parses an entry after its keyword.
 #[tactic(auto, unfolding(crate::specs::Imports::details))]
 fn details<'a>(parser: &mut Parser<'a>) -> Result<Entry<'a>, Error>
     ensures kept { IsKept parser.old parser.new }
@@ -112,7 +111,7 @@ fn details<'a>(parser: &mut Parser<'a>) -> Result<Entry<'a>, Error>
     called(parser, place, field)
 }
 
-/// An identifier or none, and the rest, after the strings.
+/// Parses an entry after its two strings.
 #[tactic(auto, unfolding(crate::specs::Imports::called))]
 fn called<'a>(
     parser: &mut Parser<'a>,
@@ -128,7 +127,7 @@ fn called<'a>(
     described(parser, place, field, id)
 }
 
-/// A kind, and a name or none, after what was read before.
+/// Parses an entry after its identifier.
 #[tactic(auto, unfolding(crate::specs::Imports::described))]
 fn described<'a>(
     parser: &mut Parser<'a>,
@@ -156,7 +155,7 @@ fn described<'a>(
 /// A list of imports.
 #[derive(Debug, Drop)]
 pub struct Imports<'a> {
-    /// The entries, in their order.
+    /// The entries, in source order.
     pub entries: Vec<Entry<'a>>,
 }
 
@@ -176,7 +175,7 @@ impl<'a> Parse<'a> for Imports<'a> {
     }
 }
 
-/// What is within the parentheses of a list.
+/// Parses the contents of a list's parentheses.
 #[tactic(auto, unfolding(crate::specs::Imports::list))]
 fn list<'a>(parser: &mut Parser<'a>) -> Result<Imports<'a>, Error>
     ensures kept { IsKept parser.old parser.new }
@@ -190,7 +189,7 @@ fn list<'a>(parser: &mut Parser<'a>) -> Result<Imports<'a>, Error>
     })
 }
 
-/// All entries before `)`.
+/// Parses all entries before `)`.
 fn entries<'a>(parser: &mut Parser<'a>) -> Result<Vec<Entry<'a>>, Error>
     ensures kept { IsKept parser.old parser.new }
     ensures on { parser.old.place ≤ parser.new.place }

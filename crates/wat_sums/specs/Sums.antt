@@ -1,17 +1,17 @@
--- The format of sums, over the tokens of the WebAssembly text format that count. No part of the standard.
+-- The grammar of sums, over the significant tokens of the WebAssembly text format. Not part of the standard.
 use Rattle.std.specs.Prelude.{ℤ, pos, neg_ℤ, List, codes, refl}
 use Rattle.wat_lexer_parser.specs.rules.Formats.{Format, and_then, choice, group, many, mapped, nothing_else, one_of}
 use Rattle.wat_lexer_parser.specs.rules.FormatTypes.{a_group, an_integer, keyword, u32}
 
--- a number of 32 bits after `neg`
+-- an unsigned 32-bit integer after `neg`
 unfoldable pub negative : Format ℤ
 negative = and_then (keyword (codes "neg")) (λ at. mapped (λ n. neg_ℤ (pos n)) u32)
 
--- such a number alone, or a group
+-- such an integer, or a group with its negative
 unfoldable pub term : Format ℤ
 term = one_of (choice an_integer (codes "u32") (mapped pos u32) (choice a_group (codes "left paren") (group negative) nothing_else))
 
--- the terms after `sum`, in a group
+-- a group: `sum`, and its terms
 unfoldable pub sum : Format (List ℤ)
 unfolding term
 sum = group (and_then (keyword (codes "sum")) (λ at. many term refl))

@@ -3,7 +3,7 @@ ghost use Rattle.std.specs.Prelude.{codes, false};
 
 use wat_lexer_parser::token::{Keyword, Word};
 
-/// The word `sum`.
+/// The spelling of the keyword `sum`.
 #[derive(Clone, Copy, Debug)]
 pub struct Sum;
 
@@ -23,7 +23,7 @@ impl Word for Sum {
     }
 }
 
-/// The word `neg`.
+/// The spelling of the keyword `neg`.
 #[derive(Clone, Copy, Debug)]
 pub struct Neg;
 

@@ -1,9 +1,9 @@
-//! The law that joins what is read of a text with what the format spells.
+//! The theorem that relates the parser with the grammar of the format.
 ghost use Rattle.wat_sums.specs.Spelling.{ReadingIsSpelling, SpellingIsOne};
 
-/// A text is read as a sum of these terms exactly where the rule of the format spells them with its
-/// tokens, and one that only begins with a sum is refused where that ends; and a text spells one sum
-/// at most. The function does nothing: its contract is the law.
+/// Theorem (no effect): parsing a source returns these terms if and only if its significant tokens
+/// match the grammar with these terms. A source that only begins with a sum is rejected at the
+/// token after that sum. The terms of a source are unique.
 pub fn reading_is_spelling()
     ensures same { ReadingIsSpelling }
     ensures one { SpellingIsOne }

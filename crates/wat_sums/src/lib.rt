@@ -1,7 +1,7 @@
-//! Sums: an s-expression format of its own, over the parser of WebAssembly text.
+//! Sums: a custom s-expression format, over the parser of the WebAssembly text format.
 //!
-//! A text is one sum, `(sum TERM..)`. A term is a number of 32 bits, or `(neg NUMBER)`. White space,
-//! comments and numbers are those of WebAssembly.
+//! A source is one sum, `(sum TERM..)`. A term is an unsigned 32-bit integer, or `(neg INTEGER)`.
+//! Whitespace, comments and integers are those of WebAssembly.
 #![tactic(auto)]
 
 ghost use Rattle.std.specs.Prelude.{◌≡◌, ◌≤◌, ◌<◌, ◌^◌, ℤ, List, length, map, true, false, IfOk, Ok};
@@ -51,7 +51,7 @@ impl<'a> Parse<'a> for Term {
     }
 }
 
-/// A number after `neg`, which stands for its negative.
+/// Parses an integer after `neg`, and negates it.
 #[tactic(auto, unfolding(crate::specs::Sums::negative))]
 fn negative(parser: &mut Parser<'_>) -> Result<Term, Error>
     ensures kept { IsKept parser.old parser.new }
@@ -62,10 +62,10 @@ fn negative(parser: &mut Parser<'_>) -> Result<Term, Error>
     Ok(Term(-i64::from(parser.parse::<u32>()?)))
 }
 
-/// A sum, as its terms.
+/// A sum.
 #[derive(Debug, Drop)]
 pub struct Sum {
-    /// The terms, in their order.
+    /// The terms, in source order.
     pub terms: Vec<Term>,
 }
 
@@ -88,7 +88,7 @@ impl<'a> Parse<'a> for Sum {
     }
 }
 
-/// All terms before `)`.
+/// Parses all terms before `)`.
 fn terms(parser: &mut Parser<'_>) -> Result<Vec<Term>, Error>
     ensures kept { IsKept parser.old parser.new }
     ensures on { parser.old.place ≤ parser.new.place }
@@ -98,7 +98,12 @@ fn terms(parser: &mut Parser<'_>) -> Result<Vec<Term>, Error>
     parser.all_of::<Term>()
 }
 
-/// The sum that a text spells: its terms exactly where the text is a sum, and else what is wrong.
+/// Parses a source as one sum.
+///
+/// # Errors
+///
+/// Returns a syntax error if the source does not match the grammar, and out of memory if an
+/// allocation fails.
 pub fn read(alloc: Global, text: &str) -> Result<Sum, Error>
     requires { length text.now < 2 ^ 32 }
     ensures value { (s : Source) → IsRead s → s.setting ≡ record {
@@ -107,16 +112,17 @@ pub fn read(alloc: Global, text: &str) -> Result<Sum, Error>
     } → s.track ≡ false →
         Answers true (λ v. map (λ t. t.0) v.terms.items) (whole sum.reading s) result }
 
-    // There are such raw tokens.
+    // Every source has raw tokens.
     ensures some { (s : Source) × IsRead s × (s.setting ≡ record {
       text = text.now;
       flags = record { allow = false; strict = false };
     }) × (s.track ≡ false) }
 
-    // The terms are those that the text spells.
+    // The source matches the grammar with the returned terms.
     ensures spells { IfOk result (λ v. SpellsSum text.now (map (λ t. t.0) v.terms.items)) }
 
-    // Where it spells terms, the answer is these.
+    // If the source matches the grammar with some terms, then these are returned, unless an
+    // allocation fails.
     ensures spelled { (terms : List ℤ) → SpellsSum text.now terms →
         Answers true (λ v. map (λ t. t.0) v.terms.items) (Ok terms) result }
 {
@@ -126,7 +132,7 @@ pub fn read(alloc: Global, text: &str) -> Result<Sum, Error>
     buffer.parse::<Sum>()
 }
 
-/// A text has raw tokens.
+/// Lemma (no effect): the source has raw tokens.
 fn has_tokens(text: &str)
     ensures { (s : Source) × IsRead s × (s.setting ≡ record {
       text = text.now;

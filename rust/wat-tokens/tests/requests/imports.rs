@@ -1,10 +1,9 @@
 // Made by tools/erase from crates/wat_imports/src/lib.rt; do not edit.
-//! Import lists: a format of its own, over the parser of WebAssembly text, that nobody of the library had
-//! in mind.
+//! Import lists: a custom s-expression format, over the parser of the WebAssembly text format.
 //!
-//! A text is `(imports ENTRY*)`. An entry is `(entry STRING STRING ID? KIND NAME?)`: a place and a
-//! field in it, an identifier or none, `code N` or `pages N`, and `(@name STRING)` or none, which is
-//! shown where `name` is registered.
+//! A source is `(imports ENTRY*)`. An entry is `(entry STRING STRING ID? KIND NAME?)`: a module, a
+//! field of it, an optional identifier, `code N` or `pages N`, and an optional `(@name STRING)`,
+//! which is visible if `name` is registered.
 
 use wat_lex::shim::prelude::*;
 pub mod kw;
@@ -15,12 +14,12 @@ use wat_parser::proved::Error;
 use wat_parser::proved::parser::{Parse, Parser};
 use wat_parser::proved::token::{Id, NameAnnotation};
 
-/// What is imported.
+/// The kind of an import.
 #[derive(Debug, Clone, Copy, PartialEq, Eq)]
 pub enum Kind {
-    /// Code of a type.
+    /// Code, with the index of its type.
     Code(u32),
-    /// So many pages.
+    /// Memory, with its number of pages.
     Pages(u32),
 }
 
@@ -44,15 +43,15 @@ impl<'a> Parse<'a> for Kind {
 /// An entry of a list.
 #[derive(Debug)]
 pub struct Entry<'a> {
-    /// Where it comes from.
+    /// The name of the module.
     pub place: CowStr<'a>,
-    /// What it is called there.
+    /// The name of the field.
     pub field: CowStr<'a>,
-    /// What it is called here.
+    /// The identifier that the entry defines.
     pub id: Option<Id<'a>>,
-    /// What it is.
+    /// The kind.
     pub kind: Kind,
-    /// The name that an annotation gives it.
+    /// The name given by an annotation.
     pub name: Option<NameAnnotation<'a>>,
 }
 
@@ -62,7 +61,7 @@ impl<'a> Parse<'a> for Entry<'a> {
     }
 }
 
-/// What is within the parentheses of an entry.
+/// Parses the contents of an entry's parentheses.
 ///
 /// # Proved
 ///
@@ -76,7 +75,7 @@ fn inner<'a>(parser: &mut Parser<'a>) -> Result<Entry<'a>, Error> {
     details(parser)
 }
 
-/// What comes after the word of an entry.
+/// Parses an entry after its keyword.
 ///
 /// # Proved
 ///
@@ -91,7 +90,7 @@ fn details<'a>(parser: &mut Parser<'a>) -> Result<Entry<'a>, Error> {
     called(parser, place, field)
 }
 
-/// An identifier or none, and the rest, after the strings.
+/// Parses an entry after its two strings.
 ///
 /// # Proved
 ///
@@ -110,7 +109,7 @@ fn called<'a>(
     described(parser, place, field, id)
 }
 
-/// A kind, and a name or none, after what was read before.
+/// Parses an entry after its identifier.
 ///
 /// # Proved
 ///
@@ -141,7 +140,7 @@ fn described<'a>(
 /// A list of imports.
 #[derive(Debug)]
 pub struct Imports<'a> {
-    /// The entries, in their order.
+    /// The entries, in source order.
     pub entries: Vec<Entry<'a>>,
 }
 
@@ -151,7 +150,7 @@ impl<'a> Parse<'a> for Imports<'a> {
     }
 }
 
-/// What is within the parentheses of a list.
+/// Parses the contents of a list's parentheses.
 ///
 /// # Proved
 ///
@@ -168,7 +167,7 @@ fn list<'a>(parser: &mut Parser<'a>) -> Result<Imports<'a>, Error> {
     })
 }
 
-/// All entries before `)`.
+/// Parses all entries before `)`.
 ///
 /// # Proved
 ///

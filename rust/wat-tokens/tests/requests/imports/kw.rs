@@ -4,7 +4,7 @@
 use wat_lex::shim::prelude::*;
 use wat_parser::proved::token::{Keyword, Word};
 
-/// The word `imports`.
+/// The spelling of the keyword `imports`.
 #[derive(Clone, Copy, Debug)]
 pub struct Imports;
 
@@ -20,7 +20,7 @@ impl Word for Imports {
     }
 }
 
-/// The word `entry`.
+/// The spelling of the keyword `entry`.
 #[derive(Clone, Copy, Debug)]
 pub struct Entry;
 
@@ -36,7 +36,7 @@ impl Word for Entry {
     }
 }
 
-/// The word `code`.
+/// The spelling of the keyword `code`.
 #[derive(Clone, Copy, Debug)]
 pub struct Code;
 
@@ -52,7 +52,7 @@ impl Word for Code {
     }
 }
 
-/// The word `pages`.
+/// The spelling of the keyword `pages`.
 #[derive(Clone, Copy, Debug)]
 pub struct Pages;
 

@@ -1,9 +1,9 @@
 // Made by tools/erase from crates/wat_imports/src/laws.rt; do not edit.
-//! The law that joins what is read of a text with what the format spells.
+//! The theorem that relates the parser with the grammar of the format.
 
 use wat_lex::shim::prelude::*;
-/// A text is read as a list of these entries exactly where the rule of the format spells them with
-/// its tokens. The function does nothing: its contract is the law.
+/// Theorem (no effect): parsing a source returns these entries if and only if its significant
+/// tokens match the grammar with these entries.
 ///
 /// # Proved
 ///
