@@ -98,11 +98,7 @@ fn terms(parser: &mut Parser<'_>) -> Result<Vec<Term>, Error>
     parser.all_of::<Term>()
 }
 
-/// Parses a source as one sum.
-///
-/// # Errors
-///
-/// Returns a syntax error if the source does not match the grammar, and out of memory if an
+/// Parses a source as one sum. Returns an error if the source does not match the grammar, or if an
 /// allocation fails.
 pub fn read(alloc: Global, text: &str) -> Result<Sum, Error>
     requires { length text.now < 2 ^ 32 }
