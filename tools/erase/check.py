@@ -87,6 +87,24 @@ MADE = re.compile(
     r"{ core : : slice : : from_raw_parts(?P<mut>_mut)? \( (?P=slice) , (?P=slice)_len \) } ;|let (?P<handle>\w+) = Global ;"
 )
 
+# On some targets a `usize` has 32 bits. An integer above `u32::MAX`, and what is shifted by 32 bits or more, must have one of these types.
+WIDE_TYPES = {"u64", "i64", "u128", "i128"}
+INTEGER = re.compile(r"(?P<digits>0[box][0-9A-Fa-f_]+?|[0-9][0-9_]*?)_?(?P<type>[iu](?:8|16|32|64|128|size))?")
+OPERATORS = set("<>=!|&^+-*/%")
+# The functions with such an integer whose type the tokens before it do not show, each with the reason why it is wide.
+WIDE = {
+    ("crates/wat_floats/src/hexadecimal.rt", "with_digit"): "the field `count` is a u64",
+    ("crates/wat_floats/src/precision.rt", "exponent_bit"): "it returns a u64",
+    ("crates/wat_floats/src/precision.rt", "infinity"): "it returns a u64",
+    ("crates/wat_floats/src/precision.rt", "sign_bit"): "it returns a u64",
+    ("crates/wat_instructions/src/memory.rt", "number_of"): "`magnitude` returns a u64",
+    ("crates/wat_instructions/src/reading.rt", "index"): "the field of `Piece::Integer` is a u64",
+    ("crates/wat_instructions/src/reading.rt", "label_number"): "the field of `Piece::Integer` is a u64",
+    ("crates/wat_instructions/src/vector_arguments.rt", "add_lane"): "the parameter of `integer` is a u64",
+    ("crates/wat_lexer_parser/src/token/integers.rt", "parse"): "the parameter of `parse_signed` is a u64",
+    ("crates/wat_parser_c/src/numbers.rt", "half_of"): "it returns a u64",
+}
+
 
 def place(crate, seen_from):
     own = crate == seen_from or any({crate, seen_from} <= some for some in TOGETHER)
@@ -480,14 +498,71 @@ class Walk:
         return at == end - (is_return and tokens[end - 1].text == ";")
 
 
+def value(text):
+    """Returns the value and the suffix of an integer literal; 0 and `None` for any other token."""
+    found = INTEGER.fullmatch(text)
+    if not found:
+        return 0, None
+    digits = found["digits"].replace("_", "")
+    return int(digits, 0 if digits[1:2].isalpha() else 10), found["type"]
+
+
+def is_large(texts, at):
+    """Returns `True` if a literal is above `u32::MAX`, or shifts by 32 bits or more, and has no suffix of a wide type."""
+    number, suffix = value(texts[at])
+    is_shift = texts[at - 2 : at] in (["<", "<"], [">", ">"]) and number >= 32
+    return suffix not in WIDE_TYPES and (number > 0xFFFF_FFFF or is_shift)
+
+
+def is_wide(texts):
+    """Returns `True` if an integer after these tokens of a function has a wide type: that of the operand or the declaration before it."""
+    end = len(texts)
+    while end and (texts[end - 1] in OPERATORS or INTEGER.fullmatch(texts[end - 1])):
+        end -= 1
+    is_group = texts[end - 1 : end] == [")"]
+    before, last = texts[end - is_group - 2 : end - is_group] if end - is_group >= 2 else ("", "")
+    if last in WIDE_TYPES:
+        return before in ("as", ":")
+    return not is_group and before != "." and has_wide_type(" ".join(texts), re.escape(last))
+
+
+def has_wide_type(text, name):
+    """Returns `True` if these tokens declare the name with a wide type, or with a value that ends in a cast to one."""
+    wide = "|".join(sorted(WIDE_TYPES))
+    return re.search(rf"(?<!\S){name} : (?:{wide})(?!\S)|(?<!\S)let (?:mut )?{name} = [^;]* as (?:{wide}) ;", text) is not None
+
+
+def narrow_integers(made):
+    """Yields the integers that 32 bits do not hold and whose type may be a `usize`, each after the name of its function."""
+    tokens = [token for token in made if token.kind not in ("doc", "comment")]
+    texts, begin = [token.text for token in tokens], 0
+    for at, token in enumerate(tokens):
+        if token.text == "fn":
+            begin = at
+        elif is_large(texts, at) and not is_wide(texts[begin:at]):
+            yield texts[begin + 1], token
+
+
+def narrow_faults(made, name):
+    """Yields a fault for each integer that 32 bits may not hold and `WIDE` does not except, and for each exception that nothing needs."""
+    needed = set()
+    for function, token in narrow_integers(made):
+        needed.add((name, function))
+        if (name, function) not in WIDE:
+            yield f"{name}: line {token.line} of what was made: `{token.text}` may be a usize, which has 32 bits on some targets"
+    for _, function in sorted({entry for entry in WIDE if entry[0] == name} - needed):
+        yield f"{name}: the exception of {function} is not needed"
+
+
 def faults_of(source, made, crate, name):
+    walk = Walk(source, made, crate, name)
     try:
-        Walk(source, made, crate, name).check()
+        walk.check()
     except Fault as fault:
         return [str(fault)]
     except IndexError:
         return [f"{name}: a text ends too early"]
-    return []
+    return list(narrow_faults(walk.made, name))
 
 
 def made_today():
@@ -588,6 +663,18 @@ PLANTED = [
     ("a function of no pointer is unsafe", "wat_parser_c/src/version.rt", "pub extern", "pub unsafe extern"),
     ("a function has no C convention", "wat_parser_c/src/version.rt", 'extern "C" ', ""),
 ]
+# Integers that a `usize` of 32 bits does not hold, planted into sources: a file, what is there, and what is there instead.
+NARROW = [
+    ("a module's length is compared as a usize", "wat_modules/src/lib.rt", "(bytes.len() as u64) <", "bytes.len() <"),
+    ("a table's length is compared as a usize", "wat_fields_read/src/elements.rt", "elements.len() as u64 >=", "elements.len() >="),
+    ("a count of pages is compared as a usize", "wat_fields_read/src/segments.rt", "pages as u64 >=", "pages >="),
+    ("a cast is to a usize", "wat_fields_read/src/segments.rt", "pages as u64 >=", "pages as usize >="),
+    ("a constant is above u32::MAX", "wat_format/src/format.rt", "usize = 4_294_967_295", "usize = 4_294_967_296"),
+    ("a usize is shifted by 32 bits", "wat_format/src/format.rt", "usize = 4_294_967_295", "usize = 1 << 32"),
+    ("a literal has the suffix usize", "wat_format/src/format.rt", "usize = 4_294_967_295", "usize = 0x1_0000_0000_usize"),
+    ("a u64 is a usize", "wat_instructions/src/reading.rt", "fn signed_32(sign: Sign, size: u64)", "fn signed_32(sign: Sign, size: usize)"),
+    ("a sum is no u64", "wat_lex/src/lexer/scan/strings.rt", "* 16 + hex_digit(digit) as u64;", "* 16 + hex_digit(digit) as usize;"),
+]
 # What the sources do not have.
 OTHERS = "/// It is.\npub unsafe fn of(x: u8)\n    ensures { ⊤ }\n{\n    let one = (1,);\n    let two = (2);\n}\n"
 
@@ -603,6 +690,31 @@ def planted_faults(name, file, before, after):
         return None
     planted = made.replace(before, after, 1)
     return None if planted == made else faults_of(source, planted, crate, path)
+
+
+def faults_of_file(name, before="", after=""):
+    """The faults of what is made of a source, with a text of it replaced."""
+    source, crate = (erase.PROJECT / name).read_text(encoding="utf-8"), name.split("/")[1]
+    planted = source.replace(before, after, 1)
+    if before and planted == source:
+        return None
+    made = f"// Made by tools/erase from {name}; do not edit.\n" + erase.Eraser(planted, crate).erased()
+    return faults_of(planted, made, crate, name)
+
+
+def narrow_bugs():
+    """Integers that are planted into sources, and bugs of the list `WIDE`: an exception is not there, or one that nothing needs."""
+    for bug, file, before, after in NARROW:
+        faults = faults_of_file(f"crates/{file}", before, after)
+        yield bug, faults and all("may be a usize" in fault for fault in faults)
+    for entry, reason in list(WIDE.items()):
+        del WIDE[entry]
+        yield f"no exception of {entry[1]}", faults_of_file(entry[0])
+        WIDE[entry] = reason
+    unneeded = "crates/wat_words/src/lib.rt", "matches"
+    WIDE[unneeded] = "nothing"
+    yield "an exception that nothing needs", faults_of_file(unneeded[0])
+    del WIDE[unneeded]
 
 
 def bugs_of_eraser():
@@ -627,6 +739,7 @@ def bugs_of_eraser():
 
 def self_test():
     bugs = [(name, planted_faults(name, *rest)) for name, *rest in PLANTED]
+    bugs += narrow_bugs()
     bugs += bugs_of_eraser()
     unseen = [name for name, faults in bugs if not faults]
     for name in unseen:

@@ -259,7 +259,7 @@ fn table_with<'p, 'a>(
         (λ r. reading.table_with (label name.entry) (map text_of exports.entry.items) of (terminals_of all.entry) (expressions_of elements) (terminals_of rest.entry) ≡ Ok (field_of r.0 ∷ [], terminals_of r.1))
         (λ f. reading.table_with (label name.entry) (map text_of exports.entry.items) of (terminals_of all.entry) (expressions_of elements) (terminals_of rest.entry) ≡ Err (fault_of f)) }
 {
-    if elements.len() >= 0x1_0000_0000 {
+    if elements.len() as u64 >= 0x1_0000_0000 {
         return Err(Fault {
             kind: FaultKind::OutOfRange,
             left: all,

@@ -137,7 +137,7 @@ fn memory_of<'p, 'a>(
         (λ e. Faults (reading.memory_of (label name.entry) (map text_of exports.entry.items) (terminals_of all.entry) (together strings.entry.items) (terminals_of rest.entry)) e) }
 {
     let pages = pages_of(&strings)?;
-    if pages >= 0x1_0000_0000 {
+    if pages as u64 >= 0x1_0000_0000 {
         return Err(Refusal::Text(Fault {
             kind: FaultKind::OutOfRange,
             left: all,

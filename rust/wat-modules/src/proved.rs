@@ -124,7 +124,7 @@ fn fault_at(alloc: Global, text: &str, kind: FaultKind, left: usize) -> Error {
 /// ensures { Answers true (λ out. out.items) (fitted text.now bytes.items) result }
 /// ```
 fn fitting(alloc: Global, text: &str, bytes: Vec<u8>) -> Result<Vec<u8>, Error> {
-    if bytes.len() < 0x1_0000_0000 {
+    if (bytes.len() as u64) < 0x1_0000_0000 {
         return Ok(bytes);
     }
     let message = String::from_str(alloc, "module too long")?;

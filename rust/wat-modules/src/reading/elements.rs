@@ -284,7 +284,7 @@ fn table_with<'p, 'a>(
     elements: Elements,
     rest: Pieces<'p, 'a>,
 ) -> Result<(Field<'a>, Pieces<'p, 'a>), Fault<'p, 'a>> {
-    if elements.len() >= 0x1_0000_0000 {
+    if elements.len() as u64 >= 0x1_0000_0000 {
         return Err(Fault {
             kind: FaultKind::OutOfRange,
             left: all,

@@ -153,7 +153,7 @@ fn memory_of<'p, 'a>(
     rest: Pieces<'p, 'a>,
 ) -> Result<(Field<'a>, Pieces<'p, 'a>), Refusal<'p, 'a>> {
     let pages = pages_of(&strings)?;
-    if pages >= 0x1_0000_0000 {
+    if pages as u64 >= 0x1_0000_0000 {
         return Err(Refusal::Text(Fault {
             kind: FaultKind::OutOfRange,
             left: all,
