@@ -1,9 +1,10 @@
 #!/usr/bin/env bash
 # Builds the npm package, page/out/wat-lex, and the page over it: the folder page/out, for a server, and page/out/wat.html, one file that opens without
-# one. The module is made of the erased text by cargo, where its rustc has the target wasm32-unknown-unknown. Otherwise, and with BY=rattle, Rattle's
-# compiler makes it of the proved sources, and binaryen's wasm-opt has its memory be one of 32 bits. Needs python3.
+# one. cargo builds the module from rust/wat-page: rustup's, if its rustc has the target wasm32-unknown-unknown, otherwise Debian's, by
+# tools/cargo_with_std.sh. If neither is here, or with BY=rattle, Rattle's compiler makes it of the proved sources, without `format` and `types`, and
+# binaryen's wasm-opt lowers its memory to 32 bits. With BY=cargo that is an error. Needs python3.
 #
-#   WASM_CARGO=COMMAND  a cargo whose rustc has the target, where it is another
+#   WASM_CARGO=COMMAND  another cargo whose rustc has the target
 #
 # usage: page/build.sh
 set -euo pipefail
@@ -14,7 +15,7 @@ target=wasm32-unknown-unknown
 # Both print by what they made the module.
 by_cargo() {
     local folder=${CARGO_TARGET_DIR:-$PWD/../rust/target}/page command
-    read -ra command <<< "${WASM_CARGO:-cargo}"
+    read -ra command <<< "$cargo"
     (cd ../rust && CARGO_TARGET_DIR=$folder CARGO_PROFILE_RELEASE_STRIP=symbols "${command[@]}" build --quiet --locked --release --package wat-page --target "$target")
     install -m 644 "$folder/$target/release/wat_page.wasm" out/wat-lex/wat_lex.wasm
     echo "of rust/wat-page by $(grep -o 'rustc [0-9][^\\"]*)' "$folder/.rustc_info.json" | sort -u | tail -n 1)"
@@ -30,18 +31,30 @@ by_rattle() {
     echo "of crates/wat_page by Rattle's compiler, $(rt version), and $(wasm-opt --version)"
 }
 
+# wasm_cargo: a cargo for the target, nothing if there is none
+wasm_cargo() {
+    if [ -n "${WASM_CARGO:-}" ]; then
+        echo "$WASM_CARGO"
+    elif [ -d "$(rustc --print target-libdir --target "$target" 2> /dev/null)" ]; then
+        echo cargo
+    elif ../tools/cargo_with_std.sh --is-here 2> /dev/null; then
+        echo "$PWD/../tools/cargo_with_std.sh"
+    fi
+}
+
 # by: which of both makes the module
 by() {
-    if [ "${BY:-cargo}" = cargo ] && { [ -n "${WASM_CARGO:-}" ] || [ -d "$(rustc --print target-libdir --target "$target" 2> /dev/null)" ]; }; then
+    if [ "${BY:-cargo}" = cargo ] && [ -n "$cargo" ]; then
         echo cargo
-    elif command -v rt > /dev/null && command -v wasm-opt > /dev/null; then
+    elif [ "${BY:-rattle}" = rattle ] && command -v rt > /dev/null && command -v wasm-opt > /dev/null; then
         echo rattle
     else
-        echo "page/build.sh: no rustc for $target is here, and not both of rt and wasm-opt" >&2
+        echo "page/build.sh: no cargo for $target is here (docs/PAGE.md)" >&2
         return 1
     fi
 }
 
+cargo=$(wasm_cargo)
 maker=$(by)
 rm -rf out
 mkdir -p out/wat-lex

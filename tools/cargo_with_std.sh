@@ -1,0 +1,72 @@
+#!/usr/bin/env bash
+# Runs a cargo that builds the standard library from source, for targets of which Debian has no binary one. By default it is Debian's: cargo-web,
+# rustc-web and rust-web-src. Targets and what else they need: i686-unknown-linux-gnu gcc-multilib, wasm32-unknown-unknown lld-22, wasm32-wasip1 lld-22
+# and wasi-libc.
+#
+#   RUST_BIN=FOLDER       the folder of cargo and rustc, /usr/bin if it is not set
+#   CRATES_FOLDER=FOLDER  the crates that cargo takes, each in a folder of its own, if no registry is reachable and cargo's configuration has none
+#
+# usage: tools/cargo_with_std.sh COMMAND --target TARGET ..   as cargo
+#        tools/cargo_with_std.sh --is-here                    the status is 0 if the compiler and the sources are here
+set -euo pipefail
+shopt -s inherit_errexit
+bin=${RUST_BIN:-/usr/bin}
+library=$("$bin/rustc" --print sysroot)/lib/rustlib/src/rust/library
+export RUSTC=$bin/rustc RUSTDOC=$bin/rustdoc RUSTC_BOOTSTRAP=1
+
+die() {
+    echo "cargo_with_std.sh: $*" >&2
+    exit 1
+}
+
+# setting KEY: a string of cargo's configuration, nothing if it is not set
+setting() {
+    "$bin/cargo" -Z unstable-options config get --format json-value "$1" 2> /dev/null | sed 's/^"\(.*\)"$/\1/' || true
+}
+
+# crates_folder: the folder from which cargo takes crates, nothing if that is a registry
+crates_folder() {
+    local name
+    if [ -n "${CRATES_FOLDER:-}" ]; then
+        realpath "$CRATES_FOLDER"
+        return
+    fi
+    name=$(setting source.crates-io.replace-with)
+    [ -z "$name" ] || setting "source.$name.directory"
+}
+
+# joined FOLDER: a folder of links to the crates of FOLDER and to those that the standard library depends on. Its name stays as long as these do, so
+# that cargo builds them once.
+joined() {
+    local crates=("$library"/vendor/* "$1"/*) target=${CARGO_TARGET_DIR:-$(dirname "$0")/../rust/target} folder
+    mkdir -p "$target"
+    folder=$(realpath "$target")/crates-$(printf '%s\n' "${crates[@]}" | cksum | cut -d ' ' -f 1)
+    if [ ! -d "$folder" ]; then
+        mkdir "$folder.$$"
+        ln -sf "${crates[@]}" "$folder.$$/"
+        mv -T "$folder.$$" "$folder" 2> /dev/null || rm -r "$folder.$$"
+    fi
+    echo "$folder"
+}
+
+# linkers: the variables that name linkers of WebAssembly and the libraries of WASI
+linkers() {
+    local linker
+    linker=wasm-ld-$("$bin/rustc" -vV | sed -n 's/^LLVM version: \([0-9]*\).*/\1/p')
+    command -v "$linker" > /dev/null || return 0
+    : "${CARGO_TARGET_WASM32_UNKNOWN_UNKNOWN_LINKER:=$linker}" "${CARGO_TARGET_WASM32_WASIP1_LINKER:=$linker}"
+    export CARGO_TARGET_WASM32_UNKNOWN_UNKNOWN_LINKER CARGO_TARGET_WASM32_WASIP1_LINKER
+}
+
+[ -d "$library" ] || die "the sources of the standard library are not at $library; Debian's rust-web-src has them"
+[ "${1:-}" != --is-here ] || exit 0
+linkers
+options=()
+crates=$(crates_folder)
+if [ -n "$crates" ]; then
+    crates=$(joined "$crates")
+    options=(--offline --config 'source.crates-io.replace-with="joined"' --config "source.joined.directory=\"$crates\"")
+    # The folder's path is in none of the bytes that rustc writes.
+    export RUSTFLAGS="${RUSTFLAGS:-} --remap-path-prefix=$crates=crates"
+fi
+exec "$bin/cargo" -Z build-std=std,panic_abort "${options[@]}" "$@"
