@@ -51,9 +51,9 @@ export declare class Document implements Iterable<Token> {
   change(start: number, end: number, piece: string): void;
   /** Another text, or other flags. */
   replace(text: string, flags?: Flags): void;
-  /** The text laid out, or null where it has a fault. */
+  /** Returns the formatted text, or null if the text has a lexical error or memory runs out. */
   format(): string | null;
-  /** The bytes of a module of nothing but function types, as the standard has them, or null where the text is none. */
+  /** Returns the binary module, or null if the text is not a module of function types alone or memory runs out. */
   types(): Uint8Array | null;
   [Symbol.iterator](): Iterator<Token>;
 }
@@ -63,9 +63,9 @@ export declare class WatLex {
   /** A text that is edited. Each has a memory of its own, of some 20 MB or 11 times the text. */
   open(text?: string, flags?: Flags): Document;
   lex(text: string, flags?: Flags): { tokens: Token[]; fault: Fault | null };
-  /** The text laid out, or null where it has a fault. */
+  /** Returns the formatted text, or null if the text has a lexical error or memory runs out. */
   format(text: string): string | null;
-  /** The bytes of a module of nothing but function types, or null where the text is none. */
+  /** Returns the binary module, or null if the text is not a module of function types alone or memory runs out. */
   types(text: string): Uint8Array | null;
 }
 

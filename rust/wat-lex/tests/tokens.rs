@@ -1,6 +1,5 @@
 //! Tokens that are read one after another, and strings and texts that are long.
 
-use std::mem::size_of;
 use wat_lex::proved::lexer::{LexError, Lexer, Token, TokenKind};
 use wat_lex::shim::alloc::Global;
 
