@@ -49,7 +49,7 @@ joined() {
     echo "$folder"
 }
 
-# linkers: the variables that name linkers of WebAssembly and the libraries of WASI
+# linkers: the variables that name the linkers of WebAssembly
 linkers() {
     local linker
     linker=wasm-ld-$("$bin/rustc" -vV | sed -n 's/^LLVM version: \([0-9]*\).*/\1/p')
@@ -58,15 +58,25 @@ linkers() {
     export CARGO_TARGET_WASM32_UNKNOWN_UNKNOWN_LINKER CARGO_TARGET_WASM32_WASIP1_LINKER
 }
 
+# wasi_flags: the flags by which rustc links with Debian's wasi-libc. That has no pthread_join and pthread_detach, which std names and, as WASI has no
+# threads, never calls.
+wasi_flags() {
+    local folder=/usr/lib/wasm32-wasi
+    printf ' -C link-arg=%s' "$folder/crt1-command.o" --unresolved-symbols=ignore-all
+    echo " -C link-self-contained=no -L native=$folder"
+}
+
 [ -d "$library" ] || die "the sources of the standard library are not at $library; Debian's rust-web-src has them"
 [ "${1:-}" != --is-here ] || exit 0
 linkers
-options=()
+options=() flags=${RUSTFLAGS:-}
+[[ " $* " != *' wasm32-wasip1 '* ]] || flags+=$(wasi_flags)
 crates=$(crates_folder)
 if [ -n "$crates" ]; then
     crates=$(joined "$crates")
     options=(--offline --config 'source.crates-io.replace-with="joined"' --config "source.joined.directory=\"$crates\"")
     # The folder's path is in none of the bytes that rustc writes.
-    export RUSTFLAGS="${RUSTFLAGS:-} --remap-path-prefix=$crates=crates"
+    flags+=" --remap-path-prefix=$crates=crates"
 fi
+[ -z "$flags" ] || export RUSTFLAGS=$flags
 exec "$bin/cargo" -Z build-std=std,panic_abort "${options[@]}" "$@"

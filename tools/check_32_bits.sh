@@ -39,7 +39,7 @@ wasm() {
     : "${CARGO_TARGET_WASM32_WASIP1_RUNNER:=node --no-warnings $PWD/tools/wasi.mjs}"
     export CARGO_TARGET_WASM32_WASIP1_RUNNER
     local test=(test --locked --target wasm32-wasip1)
-    run wasm "${test[@]}" -p wat-lex --lib --tests "${without_threads[@]}"
+    run wasm "${test[@]}" -p wat-lex --lib --test agreement --test stored --test random --test shim --test traits --test refusals "${without_threads[@]}"
     run wasm "${test[@]}" -p wat-parser --lib --test answers --test floats
     run wasm "${test[@]}" -p wat-modules --lib --tests "${without_threads[@]}"
     run wasm "${test[@]}" -p wat-tokens --test requests
