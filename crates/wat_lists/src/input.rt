@@ -126,7 +126,8 @@ pub fn read_whole<R: Source>(alloc: Global, input: &mut R) -> Result<Vec<u8>, Ru
     let mut bytes = Vec::new(alloc);
     let mut piece = [0u8; PIECE];
     'pieces: loop {
-        let room = PIECE.min(LONGEST - bytes.len() + 1);
+        let left = LONGEST as u64 - bytes.len() as u64 + 1;
+        let room = left.min(PIECE as u64) as usize;
         match input.read(&mut piece[..room]) {
             Err(failed) => return Err(RunFailure::Read(failed)),
             Ok(0) => return Ok(bytes),

@@ -90,7 +90,11 @@ fn each_reply_has_a_line() {
         (Reply::Comment(10, 5), "comment 10..15\n"),
         (
             Reply::Comment(usize::MAX, u32::MAX),
-            "comment 18446744073709551615..18446744078004518910\n",
+            if cfg!(target_pointer_width = "64") {
+                "comment 18446744073709551615..18446744078004518910\n"
+            } else {
+                "comment 4294967295..8589934590\n"
+            },
         ),
         (Reply::Done, "done\n"),
         (Reply::Absent, "absent\n"),
