@@ -6,7 +6,7 @@ usage: tools/check_evidence.py [--self-test] [CRATES]
 It goes by the tokens of each source that is built into a library or program, and finds, outside the places that stand in its lists with a reason:
 values that mean a refusal; requests for memory whose size is no single item and no given text; requests whose refusal is not handed on, or
 whose room is not used; values that mean a failed call; and words that keep memory for good. Contracts, comments, strings
-and what comes after `#[cfg(test)]` are left out. docs/MEMORY.md says what it does not see. CRATES is the folder of the crates.
+and what comes after `#[cfg(test)]` are left out. docs/verification.md says what it does not see. CRATES is the folder of the crates.
 """
 import collections
 import dataclasses

@@ -5,7 +5,7 @@ tools/public_names.txt. Names that nobody asked for are no difference, but for v
 usage: tools/check_names.py [--self-test]
 
 Each difference is a line, and the status is then 1. Those that are known stand in the list too, each with its reason, and as a table in
-docs/DIFFERENCES.md; a known one that is none, or that is in one of the two alone, is a difference too.
+docs/compatibility.md; a known one that is none, or that is in one of the two alone, is a difference too.
 """
 import collections
 import re
@@ -15,7 +15,7 @@ import rattle_source
 from rattle_source import ROOT, generics_at, items_of, past_angles, past_group, past_head, split_at, tokens_of, uses_of, written
 
 NAMES = ROOT / "tools/public_names.txt"
-DIFFERENCES = ROOT / "docs/DIFFERENCES.md"
+DIFFERENCES = ROOT / "docs/compatibility.md"
 HEADING = "## From what was asked"
 DERIVED = {"Copy", "Clone", "Debug", "PartialOrd", "Ord", "PartialEq", "Eq", "Hash", "Default"}
 
@@ -559,8 +559,8 @@ def check(lines, blocks, document):
     yield from (f"known, and no difference: {it}" for it in known if it not in found)
     yield from (f"known twice: {it}" for it, count in collections.Counter(known).items() if count > 1)
     rows, wanted = table(document), [row(it) for it in blocks]
-    yield from (f"not in the table of DIFFERENCES.md: {it}" for it in wanted if it not in rows)
-    yield from (f"in the table of DIFFERENCES.md alone: {it}" for it in rows if it not in wanted)
+    yield from (f"not in the table of compatibility.md: {it}" for it in wanted if it not in rows)
+    yield from (f"in the table of compatibility.md alone: {it}" for it in rows if it not in wanted)
 
 
 # What is planted in a source, each as (file, what is there, what is put there, the beginning of a line that says it).
@@ -612,7 +612,7 @@ def self_test():
     block = [("is", "missing: a"), ("asked", "x"), ("here", "y"), ("reason", "z")]
     known = list(check(["module wat_lex::lexer"], [block], text))
     lists = [it.split(":")[0] for it in known]
-    if lists != ["known, and no difference", "not in the table of DIFFERENCES.md", "in the table of DIFFERENCES.md alone"]:
+    if lists != ["known, and no difference", "not in the table of compatibility.md", "in the table of compatibility.md alone"]:
         print(f"check_names.py: of two lists that differ it says {known}")
         missed.append(None)
     print(f"check_names.py: {len(PLANTED) + 1 - len(missed)} of {len(PLANTED) + 1} planted differences seen")

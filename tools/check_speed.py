@@ -1,7 +1,7 @@
 #!/usr/bin/env python3
 """Checks that docs/speed/calls.txt has a row for each public call of Rattle (tools/public_names.txt, and the
 libraries' sources), of the Rust crates and of C, and that each row
-has a figure which is in the data of docs/speed, or says why there is none; and that the figures of docs/SPEED.md's first table are of the data.
+has a figure which is in the data of docs/speed, or says why there is none; and that the figures of docs/benchmarks.md's first table are of the data.
 
 usage: tools/check_speed.py [--write | --self-test]
 
@@ -18,7 +18,7 @@ from rattle_source import ROOT, items_of, tokens_of, written
 
 DATA = ROOT / "docs/speed"
 CALLS = DATA / "calls.txt"
-SPEED = ROOT / "docs/SPEED.md"
+SPEED = ROOT / "docs/benchmarks.md"
 LIBRARIES = ("wat_lex", "wat_words", "wat_lexer_parser")
 CRATES = ("wat-lex", "wat-parser")
 TRAITS = {"Parse", "Peek", "Encode"}
@@ -132,7 +132,7 @@ def unknown_ratios(page, found):
     """The ratios of the page's first table that are in no data."""
     table = page.split("\n|---", 1)[1].split("\n\n")[0]
     known = {ratio for figure in found.values() for ratio in re.findall(r"\d+\.\d\d$", figure)}
-    return [f"docs/SPEED.md: {ratio} is in no data" for ratio in re.findall(r"\b\d+\.\d\d\b", table) if ratio not in known]
+    return [f"docs/benchmarks.md: {ratio} is in no data" for ratio in re.findall(r"\b\d+\.\d\d\b", table) if ratio not in known]
 
 
 def wanted_calls():

@@ -6,7 +6,7 @@ usage: tools/compare_api.py FOLDER     the folder has the crate's sources, as le
        tools/compare_api.py --self-test
 
 Lifetimes, names of parameters and `mut` are left out, and so is what a macro writes. Each name that is missing or differs is a line, and the status
-is then 1, but for those of the table in docs/DIFFERENCES.md, each of which has to be one. What these crates have beside the crate's names is none.
+is then 1, but for those of the table in docs/compatibility.md, each of which has to be one. What these crates have beside the crate's names is none.
 """
 import pathlib
 import re
@@ -26,7 +26,7 @@ OURS = {
     "error": {LEX / "error.rs": ("Error",)},
     "gensym": {PARSER / "gensym.rs": ()},
 }
-DIFFERENCES = ROOT / "docs/DIFFERENCES.md"
+DIFFERENCES = ROOT / "docs/compatibility.md"
 HEADING = "### Names and signatures"
 
 

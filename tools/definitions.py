@@ -2,8 +2,8 @@
 """Counts what a reader has to believe: the definitions that are named, and all those of specs/ that they name in turn.
 
 usage: tools/definitions.py NAME..      prints their files with lines and names, and the sum
-       tools/definitions.py --write     writes the numbers of docs/BELIEVE.md
-       tools/definitions.py --check     the status is 1 where docs/BELIEVE.md has other files or numbers, or a README lacks a file of specs/
+       tools/definitions.py --write     writes the numbers of docs/specification.md
+       tools/definitions.py --check     the status is 1 where docs/specification.md has other files or numbers, or a README lacks a file of specs/
        tools/definitions.py --self-test
 
 A NAME is a definition, as Rattle.wat_lex.specs.tokens.Tiling.MaximalTiling; or a source, as crates/wat_lex/src/lexer.rt, for all that the
@@ -23,7 +23,7 @@ import sys
 
 from rattle_source import CRATES, ROOT, items_of, past_group, tokens_of
 
-PAGE = ROOT / "docs/BELIEVE.md"
+PAGE = ROOT / "docs/specification.md"
 USE = re.compile(r"(?P<public>pub )?use (?P<module>[^\s{}]+?)(?:\.\{(?P<names>.*)\})?(?: as (?P<alias>\S+))?;?")
 MARKS = {"abbrev", "unfoldable", "pub", "pattern"}
 WORD = r"[^\s(){}.;,@\"«»\[\]]+"
@@ -340,7 +340,7 @@ def main():
     if words == ["--write"] and not faults:
         PAGE.write_text(new, encoding="utf-8")
     elif new != old:
-        faults.append("the numbers of docs/BELIEVE.md are not those of specs/; run tools/definitions.py --write")
+        faults.append("the numbers of docs/specification.md are not those of specs/; run tools/definitions.py --write")
     for fault in faults:
         print(f"definitions.py: {fault}")
     print(f"definitions.py: {len(TABLE.findall(new))} tables, {len(faults)} faults")

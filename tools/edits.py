@@ -1,5 +1,5 @@
 #!/usr/bin/env python3
-"""Lists, checks and tries the wrong bodies of edits/CRATE.txt. docs/PROOF.md says what they are, the head of each table how a record is written.
+"""Lists, checks and tries the wrong bodies of edits/CRATE.txt. docs/verification.md says what they are, the head of each table how a record is written.
 
   list        prints crate, name, functions, clause and input of each record, with tabs between them
   check       checks that each record is complete, that its names are those of the sources, and that it can be applied; and, by

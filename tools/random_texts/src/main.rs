@@ -128,7 +128,7 @@ impl Question {
     }
 }
 
-/// The types that a text is read as. Floating-point numbers are left out where `wast` may round otherwise, as docs/DIFFERENCES.md has it: of
+/// The types that a text is read as. Floating-point numbers are left out where `wast` may round otherwise, as docs/compatibility.md has it: of
 /// more than 8 hexadecimal digits, or of an exponent that may have no 32 bits.
 fn types_for(text: &str) -> usize {
     let is_rounded_otherwise = text.split("0x").skip(1).any(|number| {
