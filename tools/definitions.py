@@ -1,19 +1,23 @@
 #!/usr/bin/env python3
-"""Counts what a reader has to believe: the definitions that are named, and all those of specs/ that they name in turn.
+"""Counts the trusted definitions: those that a contract names, and all those of specs/ that they name in turn.
 
-usage: tools/definitions.py NAME..      prints their files with lines and names, and the sum
-       tools/definitions.py --write     writes the numbers of docs/specification.md
-       tools/definitions.py --check     the status is 1 where docs/specification.md has other files or numbers, or a README lacks a file of specs/
-       tools/definitions.py --self-test
+usage: tools/definitions.py NAME..      prints their files with line counts and names, and the sum
+       tools/definitions.py --write     writes the counts of docs/specification.md
+       tools/definitions.py --check     checks the page and the READMEs
+       tools/definitions.py --self-test shows that seeded faults are reported
 
-A NAME is a definition, as Rattle.wat_lex.specs.tokens.Tiling.MaximalTiling; or a source, as crates/wat_lex/src/lexer.rt, for all that the
-contracts of its public functions and its impls cite; or some functions of one, as crates/wat_lex/src/lexer.rt:scan,iter. A definition after
-a minus is not followed. Lines are counted without comments, imports and empty lines. What is not in specs/ ends a way: the types of the code,
-which specs/ see as `declared`, and the definitions of Rattle's library.
+A NAME is a definition, such as Rattle.wat_lex.specs.tokens.Tiling.MaximalTiling; or a source, such as crates/wat_lex/src/lexer.rt, for all that the
+contracts of its public functions and its impls cite; or some functions of a source, such as crates/wat_lex/src/lexer.rt:scan,iter. A definition, or
+all those of a module, after a minus sign are not followed. Lines are counted without comments, imports and empty lines. Types of the code, which specs/ import as
+`declared`, and definitions of Rattle's library are not followed either.
 
-On the page a table is between `<!-- definitions NAME.. -->` and `<!-- end -->`: a row for each file, in the order in which it is to be read, with
-its lines in the second column, and a last row for the sum. Each table has what the tables before it have not, and what they do not follow it does
-not follow either.
+A table of the page is between `<!-- definitions NAME.. -->` and `<!-- end -->`: a row for each file, in reading order, with its line count in the
+second column, and a last row with the sum. A table has only what the tables before it lack.
+
+--check exits with status 1 if a count is stale; if a table lacks a file or has one that adds nothing; if a README lacks a file of specs/; or if one
+of these promises is in no table of the page: each public function of a crates/*/src/laws.rt, each public function of the crates in LIBRARIES whose
+contract cites definitions, each function in the table of claims of docs/verification.md, and each function that include/wat.h declares, which the
+page must also name.
 """
 import dataclasses
 import functools
@@ -24,6 +28,11 @@ import sys
 from rattle_source import CRATES, ROOT, items_of, past_group, tokens_of
 
 PAGE = ROOT / "docs/specification.md"
+CLAIMS = ROOT / "docs/verification.md"
+HEADER = ROOT / "include/wat.h"
+C_SOURCES = CRATES / "wat_parser_c/src"
+# The crates whose public functions users call. Those of the other crates are stages of a library or of the program; the table of claims has their promises.
+LIBRARIES = ("wat_lex", "wat_words", "wat_floats", "wat_lexer_parser", "wat_types", "wat_modules", "wat_format")
 USE = re.compile(r"(?P<public>pub )?use (?P<module>[^\s{}]+?)(?:\.\{(?P<names>.*)\})?(?: as (?P<alias>\S+))?;?")
 MARKS = {"abbrev", "unfoldable", "pub", "pattern"}
 WORD = r"[^\s(){}.;,@\"«»\[\]]+"
@@ -211,16 +220,26 @@ def paths_of(tokens):
 
 
 @functools.cache
-def of_source(name):
-    """The definitions that the contracts of a source cite."""
-    path, _, wanted = name.partition(":")
+def read_source(path):
+    """The items of a source, and what its ghost imports name."""
     text = re.sub(r"#\[cfg\(test\)\]\s*mod \w+;", "", (ROOT / path).read_text(encoding="utf-8")).split("#[cfg(test)]")[0]
     module = Module()
     for use in re.findall(r"ghost (use [^;]*);", text):
         note_use(USE.fullmatch(" ".join(use.split())), module)
-    found = []
-    for tokens in cited(items_of(tokens_of(text)), set(filter(None, wanted.split(",")))):
-        found += looked_up(paths_of(tokens), module, "")
+    return items_of(tokens_of(text)), module
+
+
+def cited_by(path, wanted):
+    """What the contracts of a source cite: of the functions that are wanted, or of all public ones."""
+    items, module = read_source(path)
+    return [it for tokens in cited(items, wanted) for it in looked_up(paths_of(tokens), module, "")]
+
+
+@functools.cache
+def of_source(name):
+    """What the contracts of a source, or of some of its functions, cite."""
+    path, _, wanted = name.partition(":")
+    found = cited_by(path, set(filter(None, wanted.split(","))))
     if not found:
         sys.exit(f"definitions.py: {name} cites nothing")
     return found
@@ -230,9 +249,15 @@ def of_name(name):
     return of_source(name) if ".rt" in name else [find(*name.rsplit(".", 1))]
 
 
+def excluded(name):
+    """The definitions of a module, or the definition, that is not followed."""
+    module = read(name)
+    return list(module.definitions.values()) if module else [find(*name.rsplit(".", 1))]
+
+
 def all_of(names):
     """All definitions that are below some names, in the order in which they are met, and the paths of what is outside specs/."""
-    ends = [find(*it[1:].rsplit(".", 1)) for it in names if it.startswith("-")]
+    ends = [end for it in names if it.startswith("-") for end in excluded(it[1:])]
     left = [found for it in names if not it.startswith("-") for found in of_name(it)]
     met = dict.fromkeys(ends)
     while left:
@@ -300,7 +325,7 @@ def written(page):
 
 
 def unnamed():
-    """The files of specs/ with definitions that the README of their crate does not name, nor the room in which they are."""
+    """The files of specs/ with definitions that the README of their crate does not name, nor the folder that they are in."""
     for file in sorted(CRATES.glob("*/specs/**/*.antt")):
         crate = CRATES / file.relative_to(CRATES).parts[0]
         module = ".".join(("Rattle", crate.name, "specs", *file.relative_to(crate / "specs").with_suffix("").parts))
@@ -310,20 +335,126 @@ def unnamed():
             yield f"{file.relative_to(ROOT)} is not in the README of its crate"
 
 
+def functions_in(path):
+    """The public functions of a source, each with the names that its contract cites."""
+    text = (ROOT / path).read_text(encoding="utf-8").split("#[cfg(test)]\nmod tests {")[0]
+    items = items_of(tokens_of(text))
+    inner = [it for item in items if item.kind == "impl" and not item.trait for it in items_of(item.body)]
+    return [it.name for it in items + inner if it.kind == "fn" and it.public]
+
+
+def public_sources(crate):
+    """The sources of a crate's public modules, and of the private modules from which they export a name."""
+    left = [(CRATES / crate / "src/lib.rt", True)]
+    while left:
+        file, is_public = left.pop()
+        items = items_of(tokens_of(file.read_text(encoding="utf-8")))
+        exported = {it.text for item in items if item.kind == "use" and item.public for it in item.head}
+        folder = file.parent if file.name == "lib.rt" else file.with_suffix("")
+        for item in items:
+            if item.kind == "mod" and not item.body and not item.is_test:
+                left.append((folder / f"{item.name}.rt", is_public and (item.public or item.name in exported)))
+        if is_public:
+            yield file.relative_to(ROOT).as_posix()
+
+
+def theorems():
+    """The public functions of each laws.rt."""
+    for file in sorted(CRATES.glob("*/src/laws.rt")):
+        path = file.relative_to(ROOT).as_posix()
+        yield from ((path, name) for name in functions_in(path))
+
+
+def library_functions():
+    """The public functions of the libraries whose contracts cite definitions."""
+    for path in (path for crate in LIBRARIES for path in public_sources(crate)):
+        yield from ((path, name) for name in functions_in(path) if cites(path, name))
+
+
+@functools.cache
+def cites(path, name):
+    return any(isinstance(it, Definition) for it in cited_by(path, {name}))
+
+
+def exported_functions(header):
+    """The functions that the header declares, each with its source; those that it defines are not exported."""
+    sources = {name: file for file in sorted(C_SOURCES.glob("*.rt")) for name in re.findall(r'pub extern "C" fn (\w+)', file.read_text(encoding="utf-8"))}
+    for name in re.findall(r"^(?!static)[a-z].*?\b(wat_\w+)\(", header, re.M):
+        yield sources[name].relative_to(ROOT).as_posix() if name in sources else f"{C_SOURCES.relative_to(ROOT)}/", name
+
+
+def claimed_functions(claims):
+    """The functions in the table of claims, each with the sources of its crate that have such a public function."""
+    table = claims.partition("## Claims")[2].partition("\n## ")[0]
+    for crate, functions in re.findall(r"^\| [^|]+ \| `(\w+)` \| ([^|]+) \|", table, re.M):
+        sources = sorted(file.relative_to(ROOT).as_posix() for file in (CRATES / crate / "src").rglob("*.rt"))
+        for name in re.findall(r"`(?:\w+::)*(\w+)`", functions):
+            yield crate, name, [path for path in sources if re.search(rf"\bfn {name}\b", (ROOT / path).read_text(encoding="utf-8"))]
+
+
+def tabled(page):
+    """The sources of the page's tables, each with the functions that a table is about, or with all of them."""
+    found = {}
+    for match in TABLE.finditer(page):
+        for name in (it for it in match["names"].split() if ".rt" in it):
+            path, _, functions = name.partition(":")
+            found.setdefault(path, set()).update(functions.split(",") if functions else functions_in(path) + ["*"])
+    return found
+
+
+def is_tabled(found, path, name):
+    return bool({name, "*"} & found.get(path, set()))
+
+
+def unpromised(page, claims, header):
+    """The promises that are in no table of the page."""
+    found, text = tabled(page), re.sub(r"<!--.*?-->", "", page)
+    where = f"is in no table of {PAGE.relative_to(ROOT)}"
+    yield from (f"theorem {name} of {path} {where}" for path, name in theorems() if not is_tabled(found, path, name))
+    yield from (f"function {name} of {path} {where}" for path, name in library_functions() if not is_tabled(found, path, name))
+    for path, name in exported_functions(header):
+        if f"`{name}`" not in text:
+            yield f"C function {name} is not named in {PAGE.relative_to(ROOT)}"
+        if not path.endswith(".rt") or cites(path, name) and not is_tabled(found, path, name):
+            yield f"C function {name} {where}"
+    for crate, name, sources in claimed_functions(claims):
+        if not any(is_tabled(found, path, name) for path in sources):
+            yield f"claimed function {name} of {crate} {where}"
+
+
 def self_test():
-    """A number that is changed, a row that is left out and a name that is not followed are each seen."""
-    page = PAGE.read_text(encoding="utf-8")
+    """Shows that seeded faults are reported."""
+    page, claims, header = (file.read_text(encoding="utf-8") for file in (PAGE, CLAIMS, HEADER))
     rows = [it for it in page.splitlines(keepends=True) if ROW.fullmatch(it.rstrip("\n"))]
-    assert rows and written(page) == (page, []), "the page is not what the specs make of it"
+    assert rows and written(page) == (page, []), "the counts of the page are stale"
     for row in rows:
         match = ROW.fullmatch(row.rstrip("\n"))
-        other = page.replace(row, row.replace(f"|{match['lines']}|", "| 0 |"))
-        assert written(other)[0] == page != other, f"a number of {match['file']} is changed, and not seen"
-        assert written(page.replace(row, ""))[1], f"{match['file']} is left out, and not seen"
+        other = page.replace(row, row.replace(f"|{match['lines']}|", "| 0 |"), 1)
+        assert written(other)[0] == page != other, f"a changed count of {match['file']} is not reported"
+        assert written(page.replace(row, "", 1))[1], f"a missing row of {match['file']} is not reported"
     tiling = "Rattle.wat_lex.specs.tokens.Tiling.MaximalTiling"
     cut = all_of([tiling, "-Rattle.wat_lex.specs.tokens.Faults.FaultAt"])[0]
-    assert 0 < len(cut) < len(all_of([tiling])[0]), "a definition after a minus is followed"
-    print(f"definitions.py: each of {len(rows)} rows is missed where it is not there, and its number where it is another")
+    assert 0 < len(cut) < len(all_of([tiling])[0]), "a definition after a minus sign is followed"
+    seeded = self_test_of_promises(page, claims, header)
+    print(f"definitions.py: {2 * len(rows)} seeded faults in rows and {seeded} in promises are reported")
+
+
+def self_test_of_promises(page, claims, header):
+    """Shows that a promise is reported if the page loses its table or its name, or if it is new. Returns the number of seeded faults."""
+    assert not list(unpromised(page, claims, header)), "a promise is in no table"
+    seeded = 0
+    for path in tabled(page):
+        others = re.sub(rf" {re.escape(path)}(:\S+)?(?= )", "", page)
+        lost = [it for it in (*theorems(), *library_functions(), *exported_functions(header)) if it[0] == path and cites(*it)]
+        assert bool(lost) <= bool(list(unpromised(others, claims, header))), f"{path} is in no table, and its promises are not reported"
+        seeded += bool(lost)
+    for _, name in exported_functions(header):
+        assert list(unpromised(page.replace(f"`{name}`", ""), claims, header)), f"{name} is not named, and not reported"
+        seeded += 1
+    assert list(unpromised(page, claims, header + "\nsize_t wat_seeded(void);\n")), "an exported function without a source is not reported"
+    row = "## Claims\n\n| seeded | `wat_lex` | `Lexer::seeded` |\n"
+    assert list(unpromised(page, claims.replace("## Claims\n", row), header)), "a claim without a function is not reported"
+    return seeded + 2
 
 
 def main():
@@ -336,11 +467,12 @@ def main():
         return show(words)
     old = PAGE.read_text(encoding="utf-8")
     new, faults = written(old)
-    faults += unnamed() if words == ["--check"] else []
+    if words == ["--check"]:
+        faults += [*unnamed(), *unpromised(old, *(file.read_text(encoding="utf-8") for file in (CLAIMS, HEADER)))]
     if words == ["--write"] and not faults:
         PAGE.write_text(new, encoding="utf-8")
     elif new != old:
-        faults.append("the numbers of docs/specification.md are not those of specs/; run tools/definitions.py --write")
+        faults.append("the counts of docs/specification.md are stale; run tools/definitions.py --write")
     for fault in faults:
         print(f"definitions.py: {fault}")
     print(f"definitions.py: {len(TABLE.findall(new))} tables, {len(faults)} faults")
