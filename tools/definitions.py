@@ -256,6 +256,11 @@ def excluded(name):
 
 
 def all_of(names):
+    return reached(tuple(names))
+
+
+@functools.cache
+def reached(names):
     """All definitions that are below some names, in the order in which they are met, and the paths of what is outside specs/."""
     ends = [end for it in names if it.startswith("-") for end in excluded(it[1:])]
     left = [found for it in names if not it.startswith("-") for found in of_name(it)]
@@ -294,22 +299,27 @@ def show(names):
     print(f"{len(library):5} names of Rattle's library, operators aside: {' '.join(library)}")
 
 
-def summed(definitions, before):
-    """The last row of a table."""
-    every = definitions + before
-    row = f"| **together** | {lines_of(definitions)} | and {comments_of(definitions)} lines of comments"
-    return row + (f"; with the tables above {lines_of(every)} and {comments_of(every)} |\n" if before else " |\n")
+@functools.cache
+def added(tables):
+    """What the last of some tables adds to those before it: its definitions by file, and the last row of the table."""
+    if not tables:
+        return {}, [], ""
+    before = [it for n in range(1, len(tables)) for it in added(tables[:n])[1]]
+    ends = [it for names in tables for it in names.split() if it.startswith("-")]
+    seen = set(before)
+    new = [it for it in all_of(tables[-1].split() + ends)[0] if it not in seen]
+    row = f"| **together** | {lines_of(new)} | and {comments_of(new)} lines of comments"
+    every = new + before
+    return by_file(new), new, row + (f"; with the tables above {lines_of(every)} and {comments_of(every)} |\n" if before else " |\n")
 
 
 def written(page):
-    """The page with the numbers of today, and what is wrong with its files."""
-    before, ends, faults = [], [], []
+    """The page with its counts written again, and what is wrong with its files."""
+    tables, faults = [], []
 
     def table(match):
-        names = match["names"].split()
-        ends.extend(it for it in names if it.startswith("-"))
-        new = [it for it in all_of(names + ends)[0] if it not in before]
-        files, rows = by_file(new), []
+        tables.append(match["names"])
+        files, rows = dict(added(tuple(tables))[0]), []
         for line in match["rows"].splitlines():
             row = ROW.fullmatch(line)
             if row and row["file"] in files:
@@ -317,8 +327,7 @@ def written(page):
             elif row:
                 faults.append(f"{row['file']} is in a table and has nothing new there")
         faults.extend(f"{it} is missing in a table: {' '.join(of.name for of in those)}" for it, those in files.items())
-        rows.append(summed(new, before))
-        before.extend(new)
+        rows.append(added(tuple(tables))[2])
         return f"<!-- definitions {match['names']} -->\n{match['head']}{''.join(rows)}\n<!-- end -->"
 
     return TABLE.sub(table, page), faults
@@ -335,17 +344,19 @@ def unnamed():
             yield f"{file.relative_to(ROOT)} is not in the README of its crate"
 
 
+@functools.cache
 def functions_in(path):
-    """The public functions of a source, each with the names that its contract cites."""
+    """The public functions of a source."""
     text = (ROOT / path).read_text(encoding="utf-8").split("#[cfg(test)]\nmod tests {")[0]
     items = items_of(tokens_of(text))
     inner = [it for item in items if item.kind == "impl" and not item.trait for it in items_of(item.body)]
     return [it.name for it in items + inner if it.kind == "fn" and it.public]
 
 
+@functools.cache
 def public_sources(crate):
     """The sources of a crate's public modules, and of the private modules from which they export a name."""
-    left = [(CRATES / crate / "src/lib.rt", True)]
+    left, found = [(CRATES / crate / "src/lib.rt", True)], []
     while left:
         file, is_public = left.pop()
         items = items_of(tokens_of(file.read_text(encoding="utf-8")))
@@ -355,7 +366,8 @@ def public_sources(crate):
             if item.kind == "mod" and not item.body and not item.is_test:
                 left.append((folder / f"{item.name}.rt", is_public and (item.public or item.name in exported)))
         if is_public:
-            yield file.relative_to(ROOT).as_posix()
+            found.append(file.relative_to(ROOT).as_posix())
+    return found
 
 
 def theorems():
@@ -376,20 +388,32 @@ def cites(path, name):
     return any(isinstance(it, Definition) for it in cited_by(path, {name}))
 
 
+@functools.cache
+def c_sources():
+    """The source of each function that the C library exports."""
+    return {name: file for file in sorted(C_SOURCES.glob("*.rt")) for name in re.findall(r'pub extern "C" fn (\w+)', file.read_text(encoding="utf-8"))}
+
+
 def exported_functions(header):
     """The functions that the header declares, each with its source; those that it defines are not exported."""
-    sources = {name: file for file in sorted(C_SOURCES.glob("*.rt")) for name in re.findall(r'pub extern "C" fn (\w+)', file.read_text(encoding="utf-8"))}
+    sources = c_sources()
     for name in re.findall(r"^(?!static)[a-z].*?\b(wat_\w+)\(", header, re.M):
         yield sources[name].relative_to(ROOT).as_posix() if name in sources else f"{C_SOURCES.relative_to(ROOT)}/", name
 
 
+@functools.cache
+def sources_with(crate, name):
+    """The sources of a crate that have a function of this name."""
+    sources = sorted(file.relative_to(ROOT).as_posix() for file in (CRATES / crate / "src").rglob("*.rt"))
+    return [path for path in sources if re.search(rf"\bfn {name}\b", (ROOT / path).read_text(encoding="utf-8"))]
+
+
 def claimed_functions(claims):
-    """The functions in the table of claims, each with the sources of its crate that have such a public function."""
+    """The functions in the table of claims, each with the sources of its crate that have it."""
     table = claims.partition("## Claims")[2].partition("\n## ")[0]
     for crate, functions in re.findall(r"^\| [^|]+ \| `(\w+)` \| ([^|]+) \|", table, re.M):
-        sources = sorted(file.relative_to(ROOT).as_posix() for file in (CRATES / crate / "src").rglob("*.rt"))
         for name in re.findall(r"`(?:\w+::)*(\w+)`", functions):
-            yield crate, name, [path for path in sources if re.search(rf"\bfn {name}\b", (ROOT / path).read_text(encoding="utf-8"))]
+            yield crate, name, sources_with(crate, name)
 
 
 def tabled(page):
