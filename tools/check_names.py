@@ -16,7 +16,7 @@ from rattle_source import ROOT, generics_at, items_of, past_angles, past_group, 
 
 NAMES = ROOT / "tools/public_names.txt"
 DIFFERENCES = ROOT / "docs/compatibility.md"
-HEADING = "## From what was asked"
+HEADING = "## Requirements"
 DERIVED = {"Copy", "Clone", "Debug", "PartialOrd", "Ord", "PartialEq", "Eq", "Hash", "Default"}
 
 
