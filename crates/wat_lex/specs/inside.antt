@@ -1,4 +1,4 @@
--- What private functions of the lexer promise each other. No public contract names it.
+-- Definitions for private functions of the lexer. One public contract leads here: that of `Lexer::past_quoted_name`, to `ScannedStrings`.
 pub mod ScannedNumbers
 pub mod ScannedStrings
 pub mod StringParts

@@ -1,4 +1,5 @@
--- What private functions promise each other, and `Shown` as a function. No public contract names it.
+-- Definitions for private functions. Public contracts lead to two of them: to `ShownIn`, the visible token as a function, and to `RawTokens`, the tokens
+-- in the view of a `LazyBuffer`.
 pub mod ShownIn
 pub mod MapEntries
 pub mod Next
