@@ -18,10 +18,10 @@ trap 'rm -f "$log"' EXIT
 # WASI has neither threads nor processes.
 without_threads=(-- --skip a_refused_request_ends_the_program --skip no_depth_of_the_text_is_a_depth_of_the_stack)
 
-# run NAME WORD..: runs cargo in rust, and reports how many tests passed; the output is shown if it fails
+# run NAME WORD..: runs cargo in rust, and reports how many tests passed; the output is shown if it fails or has no test
 run() {
     local begun=$SECONDS
-    if ! (cd rust && "${cargo[@]}" "${@:2}" > "$log" 2>&1); then
+    if ! (cd rust && "${cargo[@]}" "${@:2}" > "$log" 2>&1) || ! grep -q '^test .* ok$' "$log"; then
         grep -vE '^ +(Compiling|Running|Finished)|^test .* ok$' "$log" || true
         echo "check_32_bits.sh: $1: FAILED: ${*:2}"
         exit 1
