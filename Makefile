@@ -1,24 +1,26 @@
-# The C library, with its header and a file for pkg-config. cargo builds it, as a static and a shared library, on each system that Rust has; with
-# BY=rattle it is the static library that Rattle's own compilers make, once, for x86-64 Linux: while it is there it is taken as it is.
+# Builds and installs the C library, with its header and its descriptions for pkg-config and CMake, and the program. cargo builds the library,
+# static and shared, on each system that Rust supports. BY=rattle installs the static library of Rattle's own compilers, for x86-64 Linux; once it
+# is built it is not built again.
 #
 #   make install PREFIX=/usr/local
 #   cc program.c $(pkg-config --cflags --libs wat)
 #
-# Without a registry CARGO names cargo with its options: CARGO='cargo --offline --config ..'.
+# Without a registry CARGO is cargo with its options: CARGO='cargo --offline --config ..'.
 #
-# The other targets are the entries to all that is checked here; `make help` lists them.
+# The other targets run the checks of the repository; `make help` lists them.
 #
-## make                the C library: an archive and a shared library
-## make install        both, header and wat.pc (PREFIX, DESTDIR; BY=rattle: by Rattle's own compilers)
-## make program        the program, rust/target/release/wat_tokens
-## make dist           the folder of a release (OUT; GATE_LOG=FILE; BY=rattle: archives by Rattle's compilers too)
-## make tests          the tests of the Rust packages
-## make checks         what takes a minute or two: edits, documents, names, the version, the erased text
-## make gate           rt ci: proves every crate, tries wrong bodies, runs tests and programs (LOG=FILE: with its log, for make dist)
-## make parts          the parts of all that CI checks: group, name, command
-## make part OF=NAME   runs one of them, or a group; all of them: .ci/run
-## make edits OF=NAME  tries the wrong bodies of a function, of a crate, or of this name
-## make readme         runs the commands of README.md and docs/COMMAND-LINE.md
+## make                  the C library: an archive and a shared library
+## make install          both, wat.h, and how pkg-config and CMake find them (PREFIX, DESTDIR; BY=rattle: by Rattle's own compilers)
+## make program          the program and the language server, in rust/target/release
+## make install-program  both, with a manual page and completions for bash, zsh and fish (PREFIX, DESTDIR)
+## make dist             a release, as a folder (OUT; GATE_LOG=FILE; BY=rattle: archives by Rattle's compilers too)
+## make tests            the tests of the Rust packages
+## make checks           what takes a minute or two: edits, documents, names, the version, the erased text
+## make gate             rt ci: proves every crate, tries wrong bodies, runs tests and programs (LOG=FILE: with its log, for make dist)
+## make parts            the parts of all that CI checks: group, name, command
+## make part OF=NAME     runs one of them, or a group; all of them: .ci/run
+## make edits OF=NAME    tries the wrong bodies of a function, of a crate, or of this name
+## make readme           runs the commands of README.md and docs/COMMAND-LINE.md
 
 PREFIX ?= /usr/local
 OUT ?= dist
@@ -28,10 +30,13 @@ override CARGO_TARGET_DIR := $(abspath $(CARGO_TARGET_DIR))
 export CARGO_TARGET_DIR
 version := $(shell sed -n 's/^version = "\(.*\)"/\1/p' rust/Cargo.toml)
 major := $(firstword $(subst ., ,$(version)))
+BINDIR ?= $(PREFIX)/bin
 includes := $(DESTDIR)$(PREFIX)/include
 libraries := $(DESTDIR)$(PREFIX)/lib
+programs := $(DESTDIR)$(BINDIR)
+share := $(DESTDIR)$(PREFIX)/share
 
-.PHONY: all install install-shared help program dist tests checks parts part gate edits readme
+.PHONY: all install install-shared install-descriptions install-program help program dist tests checks parts part gate edits readme
 ifeq ($(BY),rattle)
 
 folder := crates/wat_parser_c/out
@@ -49,8 +54,8 @@ else
 
 folder := $(CARGO_TARGET_DIR)/release
 archive := $(folder)/libwat_parser_c.a
-# What the archive takes of the system, as rustc writes when it makes it, but for what a C compiler takes by itself, and has for -static by another name.
-private = $(filter-out -lgcc_s,$(shell cat $(folder)/libwat_parser_c.libs))
+# The system's libraries that the archive needs, as rustc prints them, except the one that a C compiler adds itself, under another name with -static.
+PRIVATE = $(filter-out -lgcc_s,$(shell cat $(folder)/libwat_parser_c.libs))
 ifeq ($(shell uname -s),Darwin)
 built := libwat_parser_c.dylib
 shared := libwat.dylib
@@ -71,21 +76,47 @@ install-shared: all
 	install -d $(libraries)
 	install -m 755 $(folder)/$(built) $(libraries)/$(named)
 	ln -sf $(named) $(libraries)/$(shared)
+	@$(if $(DESTDIR),:,$(update_cache))
 
 endif
 
+# Adds the shared library to the cache of Linux's loader. Says what a program needs if the loader does not find it afterwards.
+define update_cache
+[ "$$(uname -s)" != Linux ] || { PATH=$$PATH:/sbin:/usr/sbin; \
+    [ "$$(id -u)" != 0 ] || ! command -v ldconfig > /dev/null || ldconfig; \
+    ldconfig -p 2> /dev/null | grep -q ' $(PREFIX)/lib/$(named)$$' \
+        || echo 'make install: a program finds the shared library with LD_LIBRARY_PATH=$(PREFIX)/lib, or if ldconfig knows that folder'; }
+endef
+
 install: all install-shared
-	install -d $(includes) $(libraries)/pkgconfig
-	install -m 644 include/wat.h $(includes)/
+	install -d $(libraries)
 	install -m 644 $(archive) $(libraries)/libwat.a
-	sed 's|@PREFIX@|$(PREFIX)|; s|@VERSION@|$(version)|; s|@PRIVATE@|$(private)|' include/wat.pc.in \
-	    > $(libraries)/pkgconfig/wat.pc
+	@$(MAKE) --no-print-directory install-descriptions
+
+# Installs the header, and the descriptions for pkg-config and CMake. PKG_PREFIX is the prefix as wat.pc has it.
+PKG_PREFIX ?= $(PREFIX)
+fill = sed 's|@PREFIX@|$(PKG_PREFIX)|; s|@VERSION@|$(version)|; s|@PRIVATE@|$(PRIVATE)|'
+install-descriptions:
+	install -d $(includes) $(libraries)/pkgconfig $(libraries)/cmake/wat
+	install -m 644 include/wat.h $(includes)/
+	$(fill) include/wat.pc.in > $(libraries)/pkgconfig/wat.pc
+	$(fill) include/watConfig.cmake.in > $(libraries)/cmake/wat/watConfig.cmake
+	$(fill) include/watConfigVersion.cmake.in > $(libraries)/cmake/wat/watConfigVersion.cmake
 
 help:
 	@sed -n 's/^## //p' Makefile
 
 program:
-	cd rust && $(CARGO) build --locked --release --package wat-tokens
+	cd rust && $(CARGO) build --locked --release --package wat-tokens --bins --example language_server
+
+install-program: program
+	install -d $(programs) $(share)/man/man1 $(share)/bash-completion/completions $(share)/zsh/site-functions $(share)/fish/vendor_completions.d
+	install -m 755 $(CARGO_TARGET_DIR)/release/wat_tokens $(programs)/
+	install -m 755 $(CARGO_TARGET_DIR)/release/examples/language_server $(programs)/wat_language_server
+	install -m 644 rust/wat-tokens/man/wat_tokens.1 $(share)/man/man1/
+	install -m 644 rust/wat-tokens/completions/wat_tokens.bash $(share)/bash-completion/completions/wat_tokens
+	install -m 644 rust/wat-tokens/completions/_wat_tokens $(share)/zsh/site-functions/
+	install -m 644 rust/wat-tokens/completions/wat_tokens.fish $(share)/fish/vendor_completions.d/
 
 dist:
 	tools/dist.sh $(OUT)

@@ -1,15 +1,17 @@
 #!/usr/bin/env bash
-# Uses a release as somebody does who has nothing but it: no clone, no `rt`, an empty home of cargo. A Rust project, the packages' own tests, a C project
-# with the shared and the static library, the program, a Node project, and the page in a browser. What can't be run here is left out, and says so.
+# Uses a release from scratch, with no clone, no `rt`, an empty home and an empty home of cargo: the commands of its README in an empty folder, the
+# packages' own tests, C programs, the program with its manual page and completions, a Node project, and the page in a browser. What can't be run
+# here is skipped, and reported.
 #
-#   CRATES_FOLDER=FOLDER  memchr, smallvec and unicode-width, each in a folder of its own, where no registry is at hand
-#   CHROMIUM=PROGRAM      the browser, `chromium` where it is not given
+#   CRATES_FOLDER=FOLDER  memchr, smallvec and unicode-width, each in a folder of its own: the Rust commands also run with these as the registry
+#   CHROMIUM=PROGRAM      the browser, `chromium` by default
 #
 # usage: tools/stranger.sh DIST
 set -euo pipefail
-room=$(mktemp -d)
-trap 'rm -rf "$room"' EXIT
-cp -r "${1:?usage: tools/stranger.sh DIST}" "$room/dist"
+work=$(mktemp -d)
+trap 'rm -rf "$work"' EXIT
+tools=$(cd "$(dirname "$0")" && pwd)
+archive=$(realpath "${1:?usage: tools/stranger.sh DIST}"/wat-*.tar.gz)
 crates_folder=${CRATES_FOLDER:+$(realpath "$CRATES_FOLDER")}
 chromium=$(command -v "${CHROMIUM:-chromium}" || true)
 
@@ -26,17 +28,17 @@ has() {
     command -v "$1" > /dev/null
 }
 
-# timed WHAT MOST COMMAND..: runs a command, which has to end within so many seconds
+# timed WHAT MOST COMMAND..: runs a command, which must end within MOST seconds
 timed() {
     local what=$1 most=$2 begun=${EPOCHREALTIME/./} seconds
     shift 2
-    "$@" > "$room/log" 2>&1 || fail "$what: $(tail -n 20 "$room/log")"
+    "$@" > "$work/log" 2>&1 || fail "$what: $(tail -n 20 "$work/log")"
     seconds=$(((${EPOCHREALTIME/./} - begun) / 100000))
     say "$what: $((seconds / 10)).$((seconds % 10)) s"
     [ "$seconds" -lt "$((10 * most))" ] || fail "$what takes $most s or more"
 }
 
-# expect WHAT WANTED COMMAND..: a command prints this
+# expect WHAT WANTED COMMAND..: checks what a command prints
 expect() {
     local what=$1 wanted=$2 said
     shift 2
@@ -45,87 +47,56 @@ expect() {
     say "$what: as wanted"
 }
 
-# A path without `rt`, and homes with nothing in them.
+# leave: sets a path without `rt`, and empty homes; only the release's file and README are in the current folder
 leave() {
     local name
     export RUSTUP_HOME=${RUSTUP_HOME:-$HOME/.rustup}
-    mkdir "$room/bin" "$room/home"
+    mkdir "$work/bin" "$work/home" "$work/empty"
     for name in cargo rustc rustdoc node npm; do
-        ! has "$name" || ln -s "$(command -v "$name")" "$room/bin/$name"
+        ! has "$name" || ln -s "$(command -v "$name")" "$work/bin/$name"
     done
-    export PATH=$room/bin:/usr/bin:/bin HOME=$room/home CARGO_HOME=$room/home/cargo
+    export PATH=$work/bin:/usr/bin:/bin HOME=$work/home CARGO_HOME=$work/home/cargo CARGO_NET_OFFLINE=true
     unset CARGO_TARGET_DIR RUSTFLAGS CRATES_FOLDER
     ! has rt || fail 'rt is on the path'
-    cd "$room"
-    (cd dist && sha256sum --quiet --check SHA256SUMS) && say "$(wc -l < dist/SHA256SUMS) sums are right"
+    cd "$work/empty"
+    cp "$archive" .
+    tar -xzf "$archive" -C "$work"
+    release=$(basename "$archive" .tar.gz)
+    readme=$work/$release/README.md
 }
 
-# A home of cargo, where a folder has the crates that a registry has.
-cargo_home() {
-    mkdir -p "$CARGO_HOME"
-    [ -z "$crates_folder" ] || printf '[source.crates-io]\nreplace-with = "folder"\n[source.folder]\ndirectory = "%s"\n[net]\noffline = true\n' \
-        "$crates_folder" > "$CARGO_HOME/config.toml"
+# pages: the commands of README in the empty folder, and the links of all documents
+pages() {
+    "$tools/release_pages.py" check "$work/$release"
+    "$tools/run_page.py" "$readme" || fail 'a command of README is wrong'
+    say "$(wc -l < "$release/SHA256SUMS") sums are right"
 }
 
-rust_project() {
-    local crate
-    cargo_home
-    for crate in dist/crates/*.crate; do
-        tar -xzf "$crate"
-    done
-    cargo new --quiet --vcs none project
-    # One of the packages names the other as a registry has it.
-    printf '\n[patch.crates-io]\nwat-lex = { path = "../%s" }\n' wat-lex-* >> project/Cargo.toml
-    (cd project && cargo add --quiet --path ../wat-lex-* && cargo add --quiet --path ../wat-parser-*) > log 2>&1 || fail "cargo add: $(cat log)"
-    cat > project/src/main.rs << 'RUST'
-use wat_parser::custom_keyword;
-use wat_parser::parser::{self, Parse, ParseBuffer, Parser, Result};
-
-custom_keyword!(point);
-
-struct Point(i32, i32);
-
-impl<'a> Parse<'a> for Point {
-    fn parse(parser: Parser<'a>) -> Result<Self> {
-        parser.parens(|group| {
-            group.parse::<point>()?;
-            Ok(Point(group.parse()?, group.parse()?))
-        })
-    }
+# with_registry: README's Rust commands where crates come from a registry, as a project with other dependencies has them
+with_registry() {
+    [ -n "$crates_folder" ] || { say 'Rust with a registry: skipped: CRATES_FOLDER is not set' && return; }
+    mkdir -p "$work/registry/home"
+    printf '[source.crates-io]\nreplace-with = "folder"\n[source.folder]\ndirectory = "%s"\n' "$crates_folder" > "$work/registry/home/config.toml"
+    cp -r "$release" "$work/registry/"
+    rm -rf "$work/registry/$release/rust/.cargo" "$work/registry/$release/rust/vendor"
+    (cd "$work/registry" && CARGO_HOME=$work/registry/home "$tools/run_page.py" --section Rust --without " --config $release/rust/.cargo/config.toml" "$readme") \
+        || fail 'a command of README is wrong with a registry'
 }
 
-fn main() -> Result<()> {
-    let Point(x, y) = parser::parse(&ParseBuffer::new("(point 3 (; east ;) -0x4)")?)?;
-    let tokens = wat_lex::Lexer::new("(func $f)").iter(0).count();
-    let error = wat_lex::Lexer::new("\"\\q\"").parse(&mut 0).unwrap_err();
-    println!("{x} {y} {tokens} {}", error.message());
-    Ok(())
-}
-RUST
-    timed 'Rust: first build for release' 60 cargo build --quiet --release --manifest-path project/Cargo.toml
-    timed 'Rust: first build for debugging' 60 cargo build --quiet --manifest-path project/Cargo.toml
-    expect 'Rust: a program' "3 -4 5 invalid string escape 'q'" project/target/release/project
-}
-
-# The tests that the packages have in them, and the program as a package.
+# rust_packages: the tests that the packages contain, a build for debugging, and the installed program
 rust_packages() {
-    local lex parser modules
-    lex=$(echo wat-lex-*) parser=$(echo wat-parser-*) modules=$(echo wat-modules-*)
-    export CARGO_TARGET_DIR=$room/target
-    local patch=(--config "patch.crates-io.wat-lex.path='$room/$lex'" --config "patch.crates-io.wat-parser.path='$room/$parser'")
-    timed "Rust: tests of $lex" 300 cargo test --quiet --manifest-path "$lex/Cargo.toml"
-    timed "Rust: tests of $parser" 300 cargo test --quiet "${patch[@]:0:2}" --manifest-path "$parser/Cargo.toml"
-    timed "Rust: tests of $modules" 300 cargo test --quiet "${patch[@]}" --manifest-path "$modules/Cargo.toml"
-    patch+=(--config "patch.crates-io.wat-modules.path='$room/$modules'")
-    timed 'Rust: cargo install of the program' 120 cargo install --quiet "${patch[@]}" --path wat-tokens-*
+    (cd "$release/rust" && CARGO_TARGET_DIR=$work/target timed "the packages' own tests" 300 cargo test --quiet --locked --workspace)
+    say "$(awk '/^test result: / { passed += $4 } END { print passed " tests passed" }' "$work/log")"
+    timed 'Rust: first build for debugging' 60 cargo build --quiet --manifest-path hello/Cargo.toml --config "$release/rust/.cargo/config.toml"
     expect 'Rust: the program that cargo installs' $'0..1 LParen\n1..2 Keyword\n2..3 RParen' "$CARGO_HOME/bin/wat_tokens" < <(printf '(a)')
 }
 
+# c_project: a C program with strict warnings, and linked with -static
 c_project() {
     local folder flags
-    folder=$(echo dist/c/"$(uname -m)"-*)
-    [ -d "$folder" ] || { say "C is left out, as the release has no library for this machine" && return; }
-    cat > identifiers.c << 'C'
+    folder=$(echo "$release/c/$(uname -m)"-*)
+    [ -d "$folder" ] || { say 'C: skipped: the release has no library for this machine' && return; }
+    cat > version.c << 'C'
 #include "wat.h"
 
 #include <stdio.h>
@@ -135,37 +106,134 @@ int main(void) {
     struct wat_token tokens[32] = {{0, 0, {0, 0, 0, 0}}};
     const size_t len = sizeof text - 1;
     const struct wat_filled filled = wat_fill((const uint8_t *)text, len, 0, false, false, tokens, 32);
-    for (size_t i = 0; i < filled.count; i++) {
-        if (tokens[i].kind.code == WAT_ID) {
-            printf("%zu %.*s\n", tokens[i].offset, (int)tokens[i].len, text + tokens[i].offset);
-        }
-    }
+    printf("%zu\n", filled.count);
     return wat_version() == WAT_VERSION && filled.why == WAT_END ? 0 : 1;
 }
 C
     export PKG_CONFIG_PATH=$folder/lib/pkgconfig
     read -ra flags < <(pkg-config --cflags --libs wat)
-    timed 'C: shared, by pkg-config' 20 cc -std=c99 -Wall -Wextra -Wpedantic -Werror -o shared identifiers.c "${flags[@]}"
-    expect 'C: a program with the shared library' $'6 $f\n15 $g' env LD_LIBRARY_PATH="$folder/lib" ./shared
+    timed 'C: shared, by pkg-config' 20 cc -std=c99 -Wall -Wextra -Wpedantic -Werror -o shared version.c "${flags[@]}"
+    expect 'C: a program with the shared library' 10 env LD_LIBRARY_PATH="$folder/lib" ./shared
     read -ra flags < <(pkg-config --static --cflags --libs wat)
-    timed 'C: static, by pkg-config' 20 cc -std=c99 -static -o static identifiers.c "${flags[@]}"
-    expect 'C: a program with the static library' $'6 $f\n15 $g' ./static
-    timed 'C: one archive, nothing named beside it' 20 cc -std=c99 -o one -I"$folder/include" identifiers.c "$folder/lib/libwat.a"
-    expect 'C: a program with one archive' $'6 $f\n15 $g' ./one
+    timed 'C: static, by pkg-config' 20 cc -std=c99 -static -o static version.c "${flags[@]}"
+    expect 'C: a program with the static library' 10 ./static
+    ! has cmake || cmake_libraries "$PWD/$folder"
 }
 
+# cmake_libraries FOLDER: both libraries by their CMake targets, and a version that must not be found
+cmake_libraries() {
+    local name
+    mkdir cmake
+    cat > cmake/CMakeLists.txt << CMAKE
+cmake_minimum_required(VERSION 3.13)
+project(versions C)
+find_package(wat \${WANTED} REQUIRED)
+foreach(name static shared)
+    add_executable(by_\${name} ../version.c)
+    target_link_libraries(by_\${name} wat::\${name})
+endforeach()
+CMAKE
+    timed 'CMake: configures' 60 cmake -S cmake -B cmake/built -DCMAKE_PREFIX_PATH="$1" -DWANTED="${release#wat-}"
+    timed 'CMake: builds' 60 cmake --build cmake/built
+    for name in static shared; do
+        expect "CMake: a program with wat::$name" 10 "cmake/built/by_$name"
+    done
+    for name in 0.0.1 0.9 1.0; do
+        ! cmake -S cmake -B cmake/refused -DCMAKE_PREFIX_PATH="$1" -DWANTED="$name" > "$work/log" 2>&1 || fail "CMake accepts version $name"
+    done
+    say 'CMake: versions 0.0.1, 0.9 and 1.0 are not found'
+}
+
+# the_program: what README's copy of the program and of `share` offers
 the_program() {
-    local program
-    program=$(echo dist/bin/"$(uname -m)"-*/wat_tokens)
-    [ -x "$program" ] || { say "the program is left out, as the release has none for this machine" && return; }
-    expect 'the program' $'(module\n  (func $f))' "$program" fmt < <(printf '(module\n( func $f ) )')
+    local program=$HOME/.local/bin/wat_tokens share=$HOME/.local/share header body
+    [ -x "$program" ] && "$program" --version > "$work/log" || { say 'the program: skipped: the release has none for this machine' && return; }
+    body='{"jsonrpc":"2.0","method":"exit"}'
+    header="Content-Length: ${#body}"
+    printf '%s\r\n\r\n%s' "$header" "$body" | "$HOME/.local/bin/wat_language_server" && fail 'the language server: exits with status 0 without a shutdown'
+    [ "${PIPESTATUS[1]}" = 1 ] && say 'the language server: ends as its protocol says'
+    described "$program" "$share"
+    completed "$share"
+    if has man; then
+        MANPATH=$share/man man --warnings wat_tokens > "$work/man" 2> "$work/log" && [ ! -s "$work/log" ] || fail "the manual page: $(cat "$work/log")"
+        say "the manual page: $(wc -l < "$work/man") lines, no warning"
+    fi
 }
 
+# described PROGRAM SHARE: each option and command of --help is in the manual page and in the completions of each shell
+described() {
+    local words word file count=0
+    words=$("$1" --help | grep -oE '^  ([a-z]{3,}|-[^ ]+( [A-Z]+)?|-h, --help) ' | grep -oE -- '--[a-z-]+|^  [a-z]+' | grep -vE '^  (look|take|comment|reg|unreg|parens)')
+    for word in $words; do
+        for file in man/man1/wat_tokens.1 bash-completion/completions/wat_tokens zsh/site-functions/_wat_tokens fish/vendor_completions.d/wat_tokens.fish; do
+            sed 's/\\-/-/g; s/-l \([a-z-]*\)/--\1/g' "$2/$file" | grep -qw -e "$word" || fail "$file has no $word"
+            count=$((count + 1))
+        done
+    done
+    [ "$count" -ge 40 ] || fail "--help: only $count words were compared"
+    say "manual page and completions: $((count / 4)) words of --help are in each"
+}
+
+# completions: what is typed, and the one completion that each shell must offer
+completions() {
+    cat << 'ROWS'
+wat_tokens m|module
+wat_tokens --js|--json
+wat_tokens fmt --d|--diff
+wat_tokens fmt --check a.wat --js|--json
+wat_tokens play un|unreg=
+ROWS
+}
+
+# by_bash SHARE LINE: prints what bash offers for a line
+by_bash() {
+    # shellcheck disable=SC2016
+    bash -c 'source "$1"; read -ra COMP_WORDS <<< "$2"; COMP_CWORD=$((${#COMP_WORDS[@]} - 1)); _wat_tokens; printf "%s\n" "${COMPREPLY[@]}"' \
+        bash "$1/bash-completion/completions/wat_tokens" "$2"
+}
+
+# by_fish SHARE LINE: prints what fish offers for a line
+by_fish() {
+    # shellcheck disable=SC2016
+    fish --no-config -c 'source $argv[1]; complete -C $argv[2]' "$1/fish/vendor_completions.d/wat_tokens.fish" "$2" | cut -f 1
+}
+
+# by_zsh SHARE LINE: prints what zsh makes of a line and a TAB, in a terminal
+by_zsh() {
+    # shellcheck disable=SC2016
+    zsh -f -c '
+        zmodload zsh/zpty
+        zpty shell zsh -f -i
+        zpty -w shell "PS1=; fpath=($1 \$fpath); autoload -U compinit; compinit -D -u; print re\"\"ady"
+        zpty -r shell said "*ready*"
+        zpty -n -w shell "$2"$'"'\\t'"'
+        sleep 1
+        zpty -n -w shell $'"'\\x01print -r -- [\"\\x05]\"\\n'"'
+        zpty -r -m shell said "*\[*\]*"
+        print -r -- $said' zsh "$1/zsh/site-functions" "$2"
+}
+
+# completed SHARE: compares the completions of each shell that is here
+completed() {
+    local shell line wanted count
+    for shell in bash fish; do
+        has "$shell" || { say "completions for $shell: skipped: no $shell" && continue; }
+        count=0
+        while IFS='|' read -r line wanted; do
+            expect "$shell: $line" "$wanted" "by_$shell" "$1" "$line" > "$work/log" || fail "$(cat "$work/log")"
+            count=$((count + 1))
+        done < <(completions)
+        say "completions for $shell: $count as wanted"
+    done
+    ! has zsh || { zsh -n "$1/zsh/site-functions/_wat_tokens" && say 'completions for zsh: no syntax error'; }
+}
+
+# node_project: a program over the npm package
 node_project() {
-    mkdir node
-    printf '{ "name": "project", "private": true, "type": "module" }\n' > node/package.json
-    timed 'Node: npm install' 60 npm install --silent --offline --no-audit --no-fund --prefix node dist/npm/wat-lex-*.tgz
-    cat > node/main.js << 'JS'
+    mkdir node_project
+    printf '{ "name": "project", "private": true, "type": "module" }\n' > node_project/package.json
+    timed 'Node: npm install' 60 npm install --silent --offline --no-audit --no-fund --prefix node_project "./$release"/npm/wat-lex-*.tgz
+    cat > node_project/main.js << 'JS'
 import { load, loadSync } from 'wat-lex';
 
 const { tokens, fault } = loadSync().lex('(func "é\u{1f600}" $f)');
@@ -178,44 +246,46 @@ document.change(16, 17, '\\q');
 const { start, line, column, message } = document.fault;
 console.log(start, line, column, message);
 JS
-    local read=$'0..1 LParen 1..5 Keyword 6..11 String 12..14 Id 14..15 RParen null\n$foo' made=$'\n"(module\\n  (func \\"é\\" $foo))\\n" 14'
+    local read=$'0..1 LParen 1..5 Keyword 6..11 String 12..14 Id 14..15 RParen null\n$foo' formatted=$'\n"(module\\n  (func \\"é\\" $foo))\\n" 14'
     local faulty=$'\n17 1 9 invalid string escape \'q\''
-    expect 'Node: a program, no flag' "$read$faulty" node node/main.js
-    if grep -qa wat_page_room node/node_modules/wat-lex/wat_lex.wasm; then
-        expect 'Node: a layout and the bytes of types' "$read$made$faulty" node node/main.js made
+    expect 'Node: a program, no flag' "$read$faulty" node node_project/main.js
+    if grep -qa wat_page_room node_project/node_modules/wat-lex/wat_lex.wasm; then
+        expect 'Node: formatted text and the binary of types' "$read$formatted$faulty" node node_project/main.js formatted
     else
-        say "Node: layouts and bytes of types are left out, as the package's module is that of Rattle's compiler"
+        say "Node: formatted text and binaries of types: skipped: the package's module is that of Rattle's compiler"
     fi
 }
 
-# The page from the disk, in two widths: its first text is read to its end.
+# the_page: the page from the disk, in two widths, whose first text is read to its end
 the_page() {
     local width said
     for width in 360 1200; do
-        said=$("$chromium" --headless --no-sandbox --disable-gpu --disable-dev-shm-usage --no-first-run --user-data-dir="$room/profile" \
-            --window-size="$width,900" --virtual-time-budget=20000 --dump-dom "file://$room/dist/page/wat.html" 2> "$room/log") || fail "the page: $(cat "$room/log")"
+        said=$("$chromium" --headless --no-sandbox --disable-gpu --disable-dev-shm-usage --no-first-run --user-data-dir="$work/profile" \
+            --window-size="$width,900" --virtual-time-budget=20000 --dump-dom "file://$PWD/$release/page/wat.html" 2> "$work/log") || fail "the page: $(cat "$work/log")"
         grep -q 'data-ready="yes"' <<< "$said" && grep -q '>No fault\.<' <<< "$said" && grep -q 'class="Keyword"' <<< "$said" \
             || fail "the page, $width pixels: $(grep -o '<span id="report".*' <<< "$said" | head -c 400)"
         say "the page in $("$chromium" --version 2> /dev/null), $width pixels: read, in colours"
     done
 }
 
-# part WHAT FILES COMMAND PROGRAM..: runs a part where the release has what it is about, and its programs are here
+# part WHAT FILES COMMAND PROGRAM..: runs a part if the release has its files, and its programs are here
 part() {
     local what=$1 files=$2 command=$3 name
     shift 3
-    compgen -G "$files" > "$room/found" || { say "$what: left out, as the release has no $files" && return; }
+    compgen -G "$files" > "$work/found" || { say "$what: skipped: the release has no $files" && return; }
     for name in "$@"; do
-        [ -n "$name" ] && has "$name" || { say "$what: left out, as ${name:-no browser} is not here" && return; }
+        [ -n "$name" ] && has "$name" || { say "$what: skipped: no ${name:-browser}" && return; }
     done
     "$command"
 }
 
 leave
-part 'Rust' 'dist/crates/*.crate' rust_project cargo
-part "the packages' own tests" 'dist/crates/*.crate' rust_packages cargo
-part 'C' 'dist/c/*' c_project cc pkg-config
-part 'the program' 'dist/bin/*' the_program
-part 'Node' 'dist/npm/*.tgz' node_project node npm
-part 'the page' 'dist/page/wat.html' the_page "$chromium"
+has cargo || fail 'no cargo'
+pages
+with_registry
+part "the packages' own tests" "$release/rust/Cargo.toml" rust_packages cargo
+part 'C' "$release/c/*/lib" c_project cc pkg-config
+part 'the program' "$release/bin/*" the_program
+part 'Node' "$release/npm/*.tgz" node_project node npm
+part 'the page' "$release/page/wat.html" the_page "$chromium"
 say "all ran as wanted, in $SECONDS s"

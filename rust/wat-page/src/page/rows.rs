@@ -11,7 +11,7 @@ use wat_lex::proved::lexer::{Lexer, Token};
 pub struct Row {
     /// Where the token ends, in bytes from the text's start.
     pub end: u32,
-    /// The [number](wat_lex::lexer::TokenKind::number) of its kind, 1 to 15.
+    /// Code of its kind, 1 to 15, as `TokenKind::number` returns it.
     pub kind: u32,
 }
 

@@ -1,0 +1,84 @@
+#!/usr/bin/env python3
+"""Runs the commands of a page in the current folder, in their order, and compares what they print.
+
+usage: tools/run_page.py [--section HEADING] [--without TEXT] PAGE
+
+Each code block `sh` is a script for bash. Its standard output must be the block `text` after it, if there is one, and its status must be 0. A block
+after the line `<!-- as FILE -->` is written to that file. A block after the line `<!-- needs NAME.. -->` is skipped unless each name is a command
+on the path or a file. `--section` runs the blocks of one section, `--without` deletes a text from all commands first. The status is 1 if a command
+fails or prints something else, or if no command ran.
+"""
+import argparse
+import pathlib
+import re
+import shutil
+import subprocess
+import sys
+import time
+
+BLOCK = re.compile(r"^(?:<!-- (?P<note>as|needs) (?P<names>.*) -->\n)?```(?P<language>\w*)\n(?P<body>.*?)^```$", re.S | re.M)
+LIMIT = 180
+
+
+def section(text, heading):
+    """Returns the section of a heading, up to the next heading of any level."""
+    found = re.search(rf"^#+ {re.escape(heading)}\n(.*?)(?=^#+ |\Z)", text, re.S | re.M)
+    return found[1]
+
+
+def missing(names):
+    """Returns the names that are neither a command nor a file."""
+    return [name for name in names if not shutil.which(name) and not pathlib.Path(name).exists()]
+
+
+def save(name, body):
+    """Writes a block to the file that the page names."""
+    path = pathlib.Path(name)
+    path.parent.mkdir(parents=True, exist_ok=True)
+    path.write_text(body, encoding="utf-8")
+
+
+def run(script, wanted):
+    """Runs a script and reports it. Returns `True` if it printed `wanted`, or anything if that is `None`, with status 0."""
+    begun = time.monotonic()
+    try:
+        done = subprocess.run(["bash", "-euo", "pipefail", "-c", script], capture_output=True, text=True, timeout=LIMIT, stdin=subprocess.DEVNULL)
+    except subprocess.TimeoutExpired:
+        print(f"run_page.py: not done after {LIMIT} s:\n{script}")
+        return False
+    right = done.returncode == 0 and wanted in (None, done.stdout)
+    print(f"run_page.py: {'as wanted' if right else 'WRONG'}, {time.monotonic() - begun:.1f} s: {script.strip()}")
+    if not right:
+        print(f"status {done.returncode}\n{done.stdout}{done.stderr}")
+    return right
+
+
+def results(text, without):
+    """Yields the result of each command: whether it was right, or `None` if it was skipped."""
+    blocks = list(BLOCK.finditer(text))
+    for block, after in zip(blocks, blocks[1:] + [None]):
+        lacking = missing(block["names"].split()) if block["note"] == "needs" else []
+        if block["note"] == "as":
+            save(block["names"], block["body"])
+        elif block["language"] == "sh" and lacking:
+            print(f"run_page.py: skipped, without {', '.join(lacking)}: {block['body'].strip()}")
+            yield None
+        elif block["language"] == "sh":
+            wanted = after["body"] if after and after["language"] == "text" else None
+            yield run(block["body"].replace(without, "") if without else block["body"], wanted)
+
+
+def main():
+    arguments = argparse.ArgumentParser()
+    arguments.add_argument("page", type=pathlib.Path)
+    arguments.add_argument("--section")
+    arguments.add_argument("--without")
+    asked = arguments.parse_args()
+    text = asked.page.read_text(encoding="utf-8")
+    found = list(results(section(text, asked.section) if asked.section else text, asked.without))
+    print(f"run_page.py: {asked.page.name}: {found.count(True)} commands as wanted, {found.count(False)} wrong, {found.count(None)} skipped")
+    return found.count(False) > 0 or found.count(True) == 0
+
+
+if __name__ == "__main__":
+    sys.exit(main())
