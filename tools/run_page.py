@@ -1,12 +1,12 @@
 #!/usr/bin/env python3
 """Runs the commands of a page in the current folder, in their order, and compares what they print.
 
-usage: tools/run_page.py [--section HEADING] [--without TEXT] PAGE
+usage: tools/run_page.py [--section HEADING] [--without FILE] PAGE
 
 Each code block `sh` is a script for bash. Its standard output must be the block `text` after it, if there is one, and its status must be 0. A block
 after the line `<!-- as FILE -->` is written to that file. A block after the line `<!-- needs NAME.. -->` is skipped unless each name is a command
-on the path or a file. `--section` runs the blocks of one section, `--without` deletes a text from all commands first. The status is 1 if a command
-fails or prints something else, or if no command ran.
+on the path or a file. `--section` runs the blocks of one section, `--without` does not write FILE. Each block starts in the current folder. The status
+is 1 if a command fails or prints something else, or if no command ran.
 """
 import argparse
 import pathlib
@@ -16,8 +16,8 @@ import subprocess
 import sys
 import time
 
-BLOCK = re.compile(r"^(?:<!-- (?P<note>as|needs) (?P<names>.*) -->\n)?```(?P<language>\w*)\n(?P<body>.*?)^```$", re.S | re.M)
-LIMIT = 180
+BLOCK = re.compile(r"^(?:<!-- (?P<note>as|needs) (?P<names>[^\n]*) -->\n)?```(?P<language>\w*)\n(?P<body>.*?)^```$", re.S | re.M)
+LIMIT = 600
 
 
 def section(text, heading):
@@ -58,14 +58,14 @@ def results(text, without):
     blocks = list(BLOCK.finditer(text))
     for block, after in zip(blocks, blocks[1:] + [None]):
         lacking = missing(block["names"].split()) if block["note"] == "needs" else []
-        if block["note"] == "as":
+        if block["note"] == "as" and block["names"] != without:
             save(block["names"], block["body"])
         elif block["language"] == "sh" and lacking:
             print(f"run_page.py: skipped, without {', '.join(lacking)}: {block['body'].strip()}")
             yield None
-        elif block["language"] == "sh":
+        elif block["language"] == "sh" and block["note"] != "as":
             wanted = after["body"] if after and after["language"] == "text" else None
-            yield run(block["body"].replace(without, "") if without else block["body"], wanted)
+            yield run(block["body"], wanted)
 
 
 def main():

@@ -51,7 +51,7 @@ expect() {
 leave() {
     local name
     export RUSTUP_HOME=${RUSTUP_HOME:-$HOME/.rustup}
-    mkdir "$work/bin" "$work/home" "$work/empty"
+    mkdir "$work/bin" "$work/home" "$work/empty" "$work/nothing"
     for name in cargo rustc rustdoc node npm; do
         ! has "$name" || ln -s "$(command -v "$name")" "$work/bin/$name"
     done
@@ -75,11 +75,12 @@ pages() {
 # with_registry: README's Rust commands where crates come from a registry, as a project with other dependencies has them
 with_registry() {
     [ -n "$crates_folder" ] || { say 'Rust with a registry: skipped: CRATES_FOLDER is not set' && return; }
-    mkdir -p "$work/registry/home"
-    printf '[source.crates-io]\nreplace-with = "folder"\n[source.folder]\ndirectory = "%s"\n' "$crates_folder" > "$work/registry/home/config.toml"
-    cp -r "$release" "$work/registry/"
-    rm -rf "$work/registry/$release/rust/.cargo" "$work/registry/$release/rust/vendor"
-    (cd "$work/registry" && CARGO_HOME=$work/registry/home "$tools/run_page.py" --section Rust --without " --config $release/rust/.cargo/config.toml" "$readme") \
+    local registry=$work/registry
+    mkdir -p "$registry/home"
+    printf '[source.crates-io]\nreplace-with = "folder"\n[source.folder]\ndirectory = "%s"\n' "$crates_folder" > "$registry/home/config.toml"
+    cp -r "$release" "$registry/"
+    rm -rf "$registry/$release/rust/.cargo" "$registry/$release/rust/vendor"
+    (cd "$registry" && CARGO_HOME=$registry/home "$tools/run_page.py" --section Rust --without hello/.cargo/config.toml "$readme") \
         || fail 'a command of README is wrong with a registry'
 }
 
@@ -87,7 +88,7 @@ with_registry() {
 rust_packages() {
     (cd "$release/rust" && CARGO_TARGET_DIR=$work/target timed "the packages' own tests" 300 cargo test --quiet --locked --workspace)
     say "$(awk '/^test result: / { passed += $4 } END { print passed " tests passed" }' "$work/log")"
-    timed 'Rust: first build for debugging' 60 cargo build --quiet --manifest-path hello/Cargo.toml --config "$release/rust/.cargo/config.toml"
+    (cd hello && timed 'Rust: first build for debugging' 60 cargo build --quiet)
     expect 'Rust: the program that cargo installs' $'0..1 LParen\n1..2 Keyword\n2..3 RParen' "$CARGO_HOME/bin/wat_tokens" < <(printf '(a)')
 }
 
@@ -198,34 +199,32 @@ by_fish() {
     fish --no-config -c 'source $argv[1]; complete -C $argv[2]' "$1/fish/vendor_completions.d/wat_tokens.fish" "$2" | cut -f 1
 }
 
-# by_zsh SHARE LINE: prints what zsh makes of a line and a TAB, in a terminal
+# by_zsh SHARE LINE: prints what zsh makes of a line after a TAB, in a terminal of its own
 by_zsh() {
-    # shellcheck disable=SC2016
-    zsh -f -c '
-        zmodload zsh/zpty
-        zpty shell zsh -f -i
-        zpty -w shell "PS1=; fpath=($1 \$fpath); autoload -U compinit; compinit -D -u; print re\"\"ady"
-        zpty -r shell said "*ready*"
-        zpty -n -w shell "$2"$'"'\\t'"'
-        sleep 1
-        zpty -n -w shell $'"'\\x01print -r -- [\"\\x05]\"\\n'"'
-        zpty -r -m shell said "*\[*\]*"
-        print -r -- $said' zsh "$1/zsh/site-functions" "$2"
+    cat > "$work/complete.zsh" << 'ZSH'
+zmodload zsh/zpty
+zpty shell zsh -f -i
+zpty -w shell "PS1=''; fpath=($1 \$fpath); autoload -U compinit; compinit -D -u; print re''ady"
+zpty -r -m shell said "*ready*"
+zpty -w -n shell "$2"$'\t'
+zpty -w -n shell $'\x01print -r -- \'[\x05]\'\n'
+zpty -r -m shell said "*\[*\]*\[*\]*"
+print -r -- "$said"
+ZSH
+    timeout 60 zsh -f "$work/complete.zsh" "$1/zsh/site-functions" "$2" | sed -n 's/^\[wat_tokens.* \(.*\)\].*/\1/p'
 }
 
-# completed SHARE: compares the completions of each shell that is here
+# completed SHARE: compares the completions of each shell that is here, in a folder with no files
 completed() {
-    local shell line wanted count
-    for shell in bash fish; do
+    local shell line wanted said
+    for shell in bash fish zsh; do
         has "$shell" || { say "completions for $shell: skipped: no $shell" && continue; }
-        count=0
         while IFS='|' read -r line wanted; do
-            expect "$shell: $line" "$wanted" "by_$shell" "$1" "$line" > "$work/log" || fail "$(cat "$work/log")"
-            count=$((count + 1))
+            said=$(cd "$work/nothing" && "by_$shell" "$1" "$line" < /dev/null) || fail "$shell, $line: no completion"
+            [ "$said" = "$wanted" ] || fail "$shell, $line: $said"
         done < <(completions)
-        say "completions for $shell: $count as wanted"
+        say "completions for $shell: $(completions | wc -l) as wanted"
     done
-    ! has zsh || { zsh -n "$1/zsh/site-functions/_wat_tokens" && say 'completions for zsh: no syntax error'; }
 }
 
 # node_project: a program over the npm package
