@@ -1,4 +1,4 @@
-/* Each function of wat.h once, with answers from outside. Prints what is wrong, and how many answers were compared.
+/* Calls each function of wat.h and compares its results with stored ones. Prints each wrong result, and the number of results compared.
  *
  * usage: answers */
 #include "wat.h"
@@ -6,7 +6,7 @@
 #include <stdio.h>
 #include <string.h>
 
-enum { ROOM = 128 };
+enum { CAPACITY = 128 };
 
 static unsigned compared, wrong;
 
@@ -22,48 +22,48 @@ static const uint8_t *bytes_of(const char *text) {
     return (const uint8_t *)text;
 }
 
-/* The first row of a text that begins with a token that counts. */
+/* Returns the first row of a text that begins with a significant token. */
 static struct wat_row first_row(const char *text) {
     struct wat_row row = {0, 0, {0, 0, false, false}, 0};
     wat_rows(bytes_of(text), strlen(text), 0, false, false, &row, 1);
     return row;
 }
 
-/* What the reader of this name answers at the start of a text. */
-static struct wat_answer answer(const char *reader, const char *text, uint8_t *out, size_t room) {
+/* Returns the result of a reader at the start of a text. */
+static struct wat_answer answer(const char *reader, const char *text, uint8_t *out, size_t capacity) {
     const uint8_t *bytes = bytes_of(text);
     size_t len = strlen(text);
     struct wat_row row = first_row(text);
     struct wat_answer none = {0, UINT32_MAX};
     switch (reader[0]) {
     case 'f':
-        return wat_fault(bytes, len, 0, false, false, out, room);
+        return wat_fault(bytes, len, 0, false, false, out, capacity);
     case 's':
-        return wat_string(bytes, len, 0, false, false, out, room);
+        return wat_string(bytes, len, 0, false, false, out, capacity);
     case 'S':
-        return wat_string_of(bytes, len, &row, out, room);
+        return wat_string_of(bytes, len, &row, out, capacity);
     case 'n':
-        return wat_name(bytes, len, 0, false, false, out, room);
+        return wat_name(bytes, len, 0, false, false, out, capacity);
     case 'N':
-        return wat_name_of(bytes, len, &row, out, room);
+        return wat_name_of(bytes, len, &row, out, capacity);
     case 'w':
-        return wat_name_fault(bytes, len, 0, false, false, out, room);
+        return wat_name_fault(bytes, len, 0, false, false, out, capacity);
     case 'i':
-        return wat_integer(bytes, len, 0, false, false, out, room);
+        return wat_integer(bytes, len, 0, false, false, out, capacity);
     case 'I':
-        return wat_digits_of(bytes, len, &row, out, room);
+        return wat_digits_of(bytes, len, &row, out, capacity);
     case 'p':
-        return wat_float(bytes, len, 0, false, false, (uint32_t)(reader[1] - '0'), out, room);
+        return wat_float(bytes, len, 0, false, false, (uint32_t)(reader[1] - '0'), out, capacity);
     case 'P':
-        return wat_float_of(bytes, len, &row, (uint32_t)(reader[1] - '0'), out, room);
+        return wat_float_of(bytes, len, &row, (uint32_t)(reader[1] - '0'), out, capacity);
     default:
         return none;
     }
 }
 
-/* The reader gives these bytes where the buffer has room for them, and else none. */
+/* Checks that a reader writes these bytes if the buffer is long enough, and nothing otherwise. */
 static void gives(const char *reader, const char *text, const char *wanted) {
-    uint8_t out[ROOM] = {0}, shorter[ROOM];
+    uint8_t out[CAPACITY] = {0}, shorter[CAPACITY];
     size_t len = strlen(wanted), i;
     struct wat_answer given = answer(reader, text, out, len);
     expect(given.needed == len && given.status == WAT_GIVEN, reader, text);
@@ -71,14 +71,14 @@ static void gives(const char *reader, const char *text, const char *wanted) {
     memset(shorter, '#', sizeof shorter);
     given = answer(reader, text, shorter, len == 0 ? 0 : len - 1);
     expect(given.needed == len && given.status == WAT_GIVEN, reader, text);
-    for (i = 0; len > 0 && i < ROOM; i++) {
+    for (i = 0; len > 0 && i < CAPACITY; i++) {
         expect(shorter[i] == '#', reader, text);
     }
 }
 
 static void refuses(const char *reader, const char *text, uint32_t status) {
-    uint8_t out[ROOM] = {0};
-    struct wat_answer given = answer(reader, text, out, ROOM);
+    uint8_t out[CAPACITY] = {0};
+    struct wat_answer given = answer(reader, text, out, CAPACITY);
     expect(given.needed == 0 && given.status == status, reader, text);
 }
 
@@ -111,7 +111,7 @@ static bool is_row(struct wat_token token, size_t offset, uint32_t len, uint8_t 
            !token.kind.has_underscores && !token.kind.hex;
 }
 
-/* Raw tokens, and where they stop. */
+/* Checks raw tokens, and where they stop. */
 static void tokens(void) {
     static const char text[] = "(1 \xc2\x80";
     struct wat_token rows[4] = {{0, 0, {0, 0, false, false}}};
@@ -131,7 +131,7 @@ static void tokens(void) {
     expect(wat_is_text(bytes_of(text), 5) && !wat_is_text(bytes_of("\xff"), 1), "wat_is_text", text);
 }
 
-/* Where reading goes on after a token, the text's end, and what each fault covers. */
+/* Checks where lexing resumes after a token, at the end of the text, and after each lexical error. */
 static void covers(void) {
     static const struct {
         const char *text;
@@ -167,7 +167,7 @@ static bool is_at(struct wat_position position, size_t line, size_t column) {
     return position.line == line && position.column == column;
 }
 
-/* Line feeds of a text, and lines and columns by them. */
+/* Checks the line feeds of a text, and lines and columns from them. */
 static void lines(void) {
     static const char text[] = "a\n\xc3\xa9\xf0\x9f\x98\x80" "b\nc"; /* U+00E9, U+1F600 */
     static const struct {
@@ -189,7 +189,7 @@ static bool looks(struct wat_look look, uint32_t row, uint32_t status) {
     return look.row == row && look.status == status;
 }
 
-/* Rows of tokens that count, and what is shown of them. */
+/* Checks rows of significant tokens, and which are visible. */
 static void shown(void) {
     static const char text[] = "(a (@b \")\" (c)) d) (@";
     static const size_t end = 1;
@@ -223,7 +223,7 @@ static bool is_number(const char *text, uint32_t bits, bool is_signed, uint64_t 
     return number.value == value && number.status == status;
 }
 
-/* Words, integers and comments. */
+/* Checks words, integers and comments. */
 static void values(void) {
     expect(is_word(word_of("\"ab\""), 1, 2, WAT_GIVEN) && is_word(word_of("$x"), 1, 1, WAT_GIVEN), "wat_word", "\"ab\", $x");
     expect(is_word(word_of("@\"x\""), 2, 1, WAT_GIVEN) && is_word(word_of("\"\\61\""), 0, 0, WAT_ESCAPED), "wat_word", "@\"x\"");
@@ -238,19 +238,19 @@ static void values(void) {
 }
 
 static bool prints(const char *file, const char *wanted) {
-    uint8_t out[ROOM] = {0};
-    struct wat_answer given = wat_print(bytes_of("a b"), 3, 2, bytes_of("no such word"), 12, bytes_of(file), strlen(file), out, ROOM);
+    uint8_t out[CAPACITY] = {0};
+    struct wat_answer given = wat_print(bytes_of("a b"), 3, 2, bytes_of("no such word"), 12, bytes_of(file), strlen(file), out, CAPACITY);
     return given.needed == strlen(wanted) && given.status == WAT_GIVEN && memcmp(out, wanted, given.needed) == 0;
 }
 
-/* Errors, messages, names and the version. */
+/* Checks printed errors, messages, names and the version. */
 static void messages(void) {
-    uint8_t out[ROOM] = {0};
-    struct wat_answer given = wat_message(WAT_UNEXPECTED, 0x80, 0, out, ROOM);
+    uint8_t out[CAPACITY] = {0};
+    struct wat_answer given = wat_message(WAT_UNEXPECTED, 0x80, 0, out, CAPACITY);
     expect(prints("", "no such word\n     --> <anon>:1:3\n      |\n    1 | a b\n      |   ^"), "wat_print", "a b");
     expect(prints("x.wat", "no such word\n     --> x.wat:1:3\n      |\n    1 | a b\n      |   ^"), "wat_print", "a b");
     expect(given.needed == 29 && memcmp(out, "unexpected character '\\u{80}'", 29) == 0, "wat_message", "102");
-    expect(wat_message(0, 0, 0, out, ROOM).status == WAT_OTHER, "wat_message", "0");
+    expect(wat_message(0, 0, 0, out, CAPACITY).status == WAT_OTHER, "wat_message", "0");
     expect(strcmp(wat_kind_name(WAT_NAN), "Float") == 0 && wat_kind_name(WAT_OPENS_AT)[0] == '\0', "wat_kind_name", "13, 16");
     expect(strcmp(wat_fault_name(WAT_EMPTY_ID), "EmptyId") == 0 && wat_fault_name(100)[0] == '\0', "wat_fault_name", "114, 100");
     expect(wat_version() == WAT_VERSION, "wat_version", WAT_VERSION_TEXT);
@@ -264,6 +264,6 @@ int main(void) {
     shown();
     values();
     messages();
-    printf("answers: %u answers compared, %u wrong\n", compared, wrong);
+    printf("answers: %u results compared, %u wrong\n", compared, wrong);
     return wrong == 0 ? 0 : 1;
 }

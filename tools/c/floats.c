@@ -1,6 +1,6 @@
-/* Prints floating-point numbers, hexadecimal and decimal, each with the bits that `strtof` and `strtod` read, or `-` where they read
- * infinity: a line for each. Many lie at midpoints, among the subnormal numbers, and about the greatest ones. In place of a hexadecimal one
- * that is subnormal comes `?`: the GNU C library rounds some of them the wrong way (its bug 30220).
+/* Prints hexadecimal and decimal floating-point numbers, one a line, each with the bits that `strtof` and `strtod` read, or `-` if they read
+ * infinity. Many are midpoints, subnormal numbers, or close to the greatest numbers. For a subnormal hexadecimal number it prints `?`, since the
+ * GNU C library rounds some of them incorrectly (its bug 30220).
  *
  * usage: floats COUNT
  */
@@ -12,7 +12,7 @@
 
 static uint64_t state = 0x9e3779b97f4a7c15u;
 
-/* A number below another, the same on each run. */
+/* Returns a pseudorandom number below `bound`, from a fixed seed. */
 static uint64_t below(uint64_t bound) {
     state ^= state << 13;
     state ^= state >> 7;
@@ -20,7 +20,7 @@ static uint64_t below(uint64_t bound) {
     return (state >> 11) % bound;
 }
 
-/* An exponent about an edge of one of the formats, or any. */
+/* Returns an exponent close to a limit of one of the formats, or any exponent. */
 static int exponent(int hex) {
     static const int binary[] = {0, 127, -126, -149, 1023, -1022, -1074};
     static const int decimal[] = {0, 38, -38, -45, 308, -308, -324};
@@ -28,7 +28,7 @@ static int exponent(int hex) {
     return edge + (int)below(hex ? 160 : 40) - (hex ? 80 : 20);
 }
 
-/* Digits, most of them the least or the greatest, so that they lie at midpoints. */
+/* Writes digits, most of them the least or the greatest, so that the number is close to a midpoint. */
 static void put_digits(char *text, int hex, size_t count) {
     size_t same = below(count + 1);
     int digit = (int)below(3) == 0 ? (hex ? 15 : 9) : 0;
@@ -39,17 +39,17 @@ static void put_digits(char *text, int hex, size_t count) {
     text[count] = 0;
 }
 
-static void put_number(char *text, size_t room) {
+static void put_number(char *text, size_t capacity) {
     char integral[32], fractional[64];
     int hex = (int)below(2);
     put_digits(integral, hex, 1 + below(20));
     put_digits(fractional, hex, below(40));
-    /* The point moves the exponent back to where the edge was. */
+    /* The point moves the exponent back to the limit. */
     int moved = (int)strlen(integral) * (hex ? 4 : 1);
-    snprintf(text, room, "%s%s%s.%s%c%d", below(2) ? "-" : "", hex ? "0x" : "", integral, fractional, hex ? 'p' : 'e', exponent(hex) - moved);
+    snprintf(text, capacity, "%s%s%s.%s%c%d", below(2) ? "-" : "", hex ? "0x" : "", integral, fractional, hex ? 'p' : 'e', exponent(hex) - moved);
 }
 
-/* Prints the bits of what was read. */
+/* Prints the bits of the number that was read. */
 static void print_bits(int hex, int class, uint64_t bits) {
     if (class == FP_INFINITE) printf(" -");
     else if (hex && class == FP_SUBNORMAL) printf(" ?");

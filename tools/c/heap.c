@@ -1,5 +1,5 @@
-/* The three functions by which an archive of Rattle's compilers asks for memory, over the C library's. The kit has them for x86-64 alone. A block is
- * aligned as `malloc` does it; a request for nothing is one for `align` bytes. */
+/* The three functions with which an archive of Rattle's compilers allocates, over those of the C library. The toolchain has them for x86-64 alone.
+ * Blocks have the alignment of `malloc`. An allocation of 0 bytes allocates `align` bytes. */
 #include <stdlib.h>
 
 struct answer {

@@ -1,26 +1,26 @@
-/* Lists the raw tokens of standard input as wat_tokens does: a line for each token, and the fault on standard error with status 1. */
+/* Lists the raw tokens of standard input as wat_tokens does: a line for each token, and a lexical error on standard error with status 1. */
 #include "wat.h"
 
 #include <stdio.h>
 #include <stdlib.h>
 #include <string.h>
 
-enum { ROOM = 1024 };
+enum { CAPACITY = 1024 };
 
-static int refuse(const char *why) {
+static int fail(const char *why) {
     fprintf(stderr, "list: %s\n", why);
     return 2;
 }
 
-/* All of standard input; NULL where there is no memory, or a read fails. */
+/* Reads all of standard input. Returns NULL if an allocation or a read fails. */
 static uint8_t *read_all(size_t *len) {
-    size_t room = 4096, read = 0;
-    uint8_t *text = malloc(room);
+    size_t capacity = 4096, read = 0;
+    uint8_t *text = malloc(capacity);
     *len = 0;
-    while (text != NULL && (read = fread(text + *len, 1, room - *len, stdin)) > 0) {
+    while (text != NULL && (read = fread(text + *len, 1, capacity - *len, stdin)) > 0) {
         *len += read;
-        if (*len == room) {
-            uint8_t *more = realloc(text, room *= 2);
+        if (*len == capacity) {
+            uint8_t *more = realloc(text, capacity *= 2);
             if (more == NULL) {
                 free(text);
             }
@@ -34,12 +34,12 @@ static uint8_t *read_all(size_t *len) {
     return text;
 }
 
-/* Prints what the fault at a place prints, by a buffer of the length that the first call tells. */
+/* Prints the lexical error at an offset, with a buffer of the length that a first call returns. */
 static int print_fault(const uint8_t *text, size_t len, size_t pos) {
     uint8_t none = 0, *shown;
     struct wat_answer answer = wat_fault(text, len, pos, false, false, &none, 0);
     if (answer.status != WAT_GIVEN || (shown = calloc(answer.needed + 1, 1)) == NULL) {
-        return refuse("no fault to print");
+        return fail("no error to print");
     }
     answer = wat_fault(text, len, pos, false, false, shown, answer.needed);
     fwrite(shown, 1, answer.needed, stderr);
@@ -49,20 +49,20 @@ static int print_fault(const uint8_t *text, size_t len, size_t pos) {
 }
 
 int main(void) {
-    static struct wat_token tokens[ROOM];
+    static struct wat_token tokens[CAPACITY];
     struct wat_filled filled = {0, 0, WAT_FULL};
     size_t len = 0, i;
     int status = 0;
     uint8_t *text = read_all(&len);
     if (text == NULL) {
-        return refuse("no input");
+        return fail("no input");
     }
     if (!wat_is_text(text, len)) {
         free(text);
-        return refuse("input is not UTF-8, or too long");
+        return fail("input is not UTF-8, or too long");
     }
     while (filled.why == WAT_FULL) {
-        filled = wat_fill(text, len, filled.at, false, false, tokens, ROOM);
+        filled = wat_fill(text, len, filled.at, false, false, tokens, CAPACITY);
         for (i = 0; i < filled.count; i++) {
             printf("%zu..%zu %s\n", tokens[i].offset, tokens[i].offset + tokens[i].len, wat_kind_name(tokens[i].kind.code));
         }

@@ -1,5 +1,5 @@
-/* Calls each function of wat.h at each token of texts and of mutants of them, with buffers of no room, of a byte too few and of just enough,
- * and sees that the answers agree with each other. It is to be run under the address and undefined-behaviour sanitizers.
+/* Calls each function of wat.h at each token of texts and of mutated texts, with buffers of capacity 0, of one byte too few and of the length needed,
+ * and checks that the results agree with each other. Run it under the address and undefined-behavior sanitizers.
  *
  * usage: readers MUTANTS FILE.. */
 #include "wat.h"
@@ -9,8 +9,8 @@
 #include <stdlib.h>
 #include <string.h>
 
-/* A byte of a buffer before a call, which is a `bool` too. */
-enum { ROOM = 7, READERS = 9, UNTOUCHED = 1 };
+/* The bytes of a buffer before a call, which must also be valid as a `bool`. */
+enum { CAPACITY = 7, READERS = 9, UNTOUCHED = 1 };
 
 static unsigned long long texts, tokens_seen, faults_seen, values_seen, wrong;
 static uint64_t seed = 88172645463325252u;
@@ -29,41 +29,41 @@ static void expect(bool holds, const char *what, size_t pos) {
     }
 }
 
-static void *room_of(size_t bytes) {
-    void *room = malloc(bytes == 0 ? 1 : bytes);
-    if (room == NULL) {
+static void *block_of(size_t bytes) {
+    void *block = malloc(bytes == 0 ? 1 : bytes);
+    if (block == NULL) {
         fputs("readers: no memory\n", stderr);
         exit(2);
     }
-    memset(room, UNTOUCHED, bytes == 0 ? 1 : bytes);
-    return room;
+    memset(block, UNTOUCHED, bytes == 0 ? 1 : bytes);
+    return block;
 }
 
-/* A text, and the flags under which it is read. */
+/* A text, and the settings for lexing it. */
 struct setting {
     const uint8_t *text;
     size_t len;
     bool allow, strict;
 };
 
-static struct wat_answer read_by(unsigned reader, struct setting s, size_t pos, uint8_t *out, size_t room) {
+static struct wat_answer read_by(unsigned reader, struct setting s, size_t pos, uint8_t *out, size_t capacity) {
     switch (reader) {
     case 0:
-        return wat_fault(s.text, s.len, pos, s.allow, s.strict, out, room);
+        return wat_fault(s.text, s.len, pos, s.allow, s.strict, out, capacity);
     case 1:
-        return wat_string(s.text, s.len, pos, s.allow, s.strict, out, room);
+        return wat_string(s.text, s.len, pos, s.allow, s.strict, out, capacity);
     case 2:
-        return wat_name(s.text, s.len, pos, s.allow, s.strict, out, room);
+        return wat_name(s.text, s.len, pos, s.allow, s.strict, out, capacity);
     case 3:
-        return wat_name_fault(s.text, s.len, pos, s.allow, s.strict, out, room);
+        return wat_name_fault(s.text, s.len, pos, s.allow, s.strict, out, capacity);
     case 4:
-        return wat_integer(s.text, s.len, pos, s.allow, s.strict, out, room);
+        return wat_integer(s.text, s.len, pos, s.allow, s.strict, out, capacity);
     default:
-        return wat_float(s.text, s.len, pos, s.allow, s.strict, reader - 5, out, room);
+        return wat_float(s.text, s.len, pos, s.allow, s.strict, reader - 5, out, capacity);
     }
 }
 
-/* The row of a token that counts. */
+/* Returns the row of a significant token. */
 static struct wat_row row_of(struct setting s, struct wat_token token) {
     struct wat_row row = {0, 0, {0, 0, false, false}, 0};
     row.offset = (uint32_t)token.offset;
@@ -75,25 +75,25 @@ static struct wat_row row_of(struct setting s, struct wat_token token) {
     return row;
 }
 
-/* The readers from 1 on, but for that of a name's fault, by row. */
-static struct wat_answer read_row(unsigned reader, struct setting s, const struct wat_row *row, uint8_t *out, size_t room) {
+/* Calls the reader of a row that corresponds to a reader at an offset, from 1 on; there is none for the error of a name. */
+static struct wat_answer read_row(unsigned reader, struct setting s, const struct wat_row *row, uint8_t *out, size_t capacity) {
     switch (reader) {
     case 1:
-        return wat_string_of(s.text, s.len, row, out, room);
+        return wat_string_of(s.text, s.len, row, out, capacity);
     case 2:
-        return wat_name_of(s.text, s.len, row, out, room);
+        return wat_name_of(s.text, s.len, row, out, capacity);
     case 4:
-        return wat_digits_of(s.text, s.len, row, out, room);
+        return wat_digits_of(s.text, s.len, row, out, capacity);
     default:
-        return wat_float_of(s.text, s.len, row, reader - 5, out, room);
+        return wat_float_of(s.text, s.len, row, reader - 5, out, capacity);
     }
 }
 
-/* What a reader answers by row is what it answers at the place. */
+/* Checks that a reader returns the same result for a row as at its offset. */
 static void compare_readers(unsigned reader, struct setting s, const struct wat_row *row) {
     uint8_t none = 0;
     struct wat_answer first = read_by(reader, s, row->offset, &none, 0);
-    uint8_t *at_place = room_of(first.needed), *by_row = room_of(first.needed);
+    uint8_t *at_place = block_of(first.needed), *by_row = block_of(first.needed);
     struct wat_answer given = read_row(reader, s, row, by_row, first.needed);
     read_by(reader, s, row->offset, at_place, first.needed);
     expect(given.needed == first.needed && given.status == first.status, "a reader answers otherwise by row", row->offset);
@@ -102,11 +102,11 @@ static void compare_readers(unsigned reader, struct setting s, const struct wat_
     free(by_row);
 }
 
-/* Where a value is, is what the readers give, where no escape is in it. */
+/* Checks that the bytes at the offset of a value are those that the readers write, if the value has no escape. */
 static void compare_word(struct setting s, const struct wat_row *row) {
     unsigned reader = row->kind.code == WAT_STRING ? 1 : 2;
     struct wat_word word = wat_word(s.text, s.len, row);
-    uint8_t *value = room_of(row->len);
+    uint8_t *value = block_of(row->len);
     struct wat_answer given = read_row(reader, s, row, value, row->len);
     switch (word.status) {
     case WAT_GIVEN:
@@ -124,7 +124,7 @@ static void compare_word(struct setting s, const struct wat_row *row) {
     free(value);
 }
 
-/* An integer's values, by its digits in words of C. */
+/* Checks the values of an integer against its digits, with the arithmetic of C. */
 static void compare_integer(struct setting s, const struct wat_row *row) {
     static const uint32_t widths[] = {8, 16, 32, 64, 0, 7, 65};
     char digits[80] = "";
@@ -149,7 +149,7 @@ static void compare_integer(struct setting s, const struct wat_row *row) {
     }
 }
 
-/* A row of a token, by every function. */
+/* Calls every function that takes one row. */
 static void look_by_row(struct setting s, struct wat_found found) {
     struct wat_row row = row_of(s, found.token);
     uint8_t code = found.token.kind.code, none = 0;
@@ -172,7 +172,7 @@ static void look_by_row(struct setting s, struct wat_found found) {
     }
 }
 
-/* The comment at a place is what is there, or after white space. */
+/* Checks that the comment at an offset is the token there, or the one after whitespace. */
 static void look_for_comment(struct setting s, size_t pos, struct wat_found found) {
     struct wat_word word = wat_comment(s.text, s.len, pos, s.allow, s.strict);
     if (found.token.kind.code == WAT_WHITESPACE) {
@@ -185,11 +185,11 @@ static void look_for_comment(struct setting s, size_t pos, struct wat_found foun
     }
 }
 
-/* What is printed of a fault's message is what the fault prints, with the name of a file in place of `<anon>`. */
+/* Checks that printing the message of a lexical error prints the error, with the name of a file in place of `<anon>`. */
 static void print_error(struct setting s, size_t offset, const uint8_t *message, size_t len, const uint8_t *whole, size_t whole_len) {
     static const uint8_t name[] = "a longer name", anonymous[] = "<anon>";
     size_t named_len = whole_len + sizeof name - sizeof anonymous, at = len;
-    uint8_t *plain = room_of(whole_len), *named = room_of(named_len);
+    uint8_t *plain = block_of(whole_len), *named = block_of(named_len);
     struct wat_answer first = wat_print(s.text, s.len, offset, message, len, anonymous, 0, plain, whole_len);
     expect(first.status == WAT_GIVEN && first.needed == whole_len && memcmp(plain, whole, whole_len) == 0, "an error is printed otherwise", offset);
     first = wat_print(s.text, s.len, offset, message, 2, anonymous, 0, plain, whole_len - len + 2);
@@ -207,12 +207,12 @@ static void print_error(struct setting s, size_t offset, const uint8_t *message,
     free(named);
 }
 
-/* What a fault prints begins with its message. */
+/* Checks that a printed lexical error begins with its message. */
 static void read_message(struct setting s, size_t pos, struct wat_found found) {
     uint8_t none = 0;
     struct wat_answer first = wat_message(found.fault, found.found, found.wanted, &none, 0);
     struct wat_answer shown = wat_fault(s.text, s.len, pos, s.allow, s.strict, &none, 0);
-    uint8_t *message = room_of(first.needed), *whole = room_of(shown.needed);
+    uint8_t *message = block_of(first.needed), *whole = block_of(shown.needed);
     wat_message(found.fault, found.found, found.wanted, message, first.needed);
     wat_fault(s.text, s.len, pos, s.allow, s.strict, whole, shown.needed);
     expect(first.status == WAT_GIVEN && first.needed > 0 && first.needed < shown.needed, "a fault has no message", pos);
@@ -222,7 +222,7 @@ static void read_message(struct setting s, size_t pos, struct wat_found found) {
     free(whole);
 }
 
-/* Whether the reader reads what is there; all others answer WAT_OTHER. */
+/* Returns `true` if the reader reads tokens of this kind; all others must return WAT_OTHER. */
 static bool may_read(unsigned reader, struct wat_found found) {
     uint8_t code = found.token.kind.code;
     switch (reader) {
@@ -243,14 +243,14 @@ static bool may_read(unsigned reader, struct wat_found found) {
 static void read_value(unsigned reader, struct setting s, size_t pos) {
     uint8_t none = 0;
     struct wat_answer first = read_by(reader, s, pos, &none, 0);
-    uint8_t *exact = room_of(first.needed), *shorter;
+    uint8_t *exact = block_of(first.needed), *shorter;
     struct wat_answer given = read_by(reader, s, pos, exact, first.needed);
     size_t i;
     expect(given.needed == first.needed && given.status == first.status, "two answers differ", pos);
     expect(first.status == WAT_GIVEN || first.needed == 0, "a length without bytes", pos);
     expect(first.status != WAT_OTHER && first.status != WAT_NO_MEMORY, "a token is not read", pos);
     if (first.needed > 0) {
-        shorter = room_of(first.needed - 1);
+        shorter = block_of(first.needed - 1);
         given = read_by(reader, s, pos, shorter, first.needed - 1);
         expect(given.needed == first.needed && given.status == WAT_GIVEN, "a shorter buffer changes the answer", pos);
         for (i = 0; i + 1 < first.needed; i++) {
@@ -267,7 +267,7 @@ static bool are_same(struct wat_token a, struct wat_token b) {
            a.kind.has_underscores == b.kind.has_underscores && a.kind.hex == b.kind.hex;
 }
 
-/* Reading goes on at the end of a token, and after a fault at a place that is past where it is reported, or there. */
+/* Checks that lexing resumes at the end of a token, and after a lexical error at a char boundary that is not before the error. */
 static void look_after(struct setting s, size_t pos, struct wat_found found) {
     size_t next = wat_resume(s.text, s.len, pos, s.allow, s.strict);
     expect(wat_is_place(s.text, s.len, next), "reading goes on at no place", pos);
@@ -278,7 +278,7 @@ static void look_after(struct setting s, size_t pos, struct wat_found found) {
     }
 }
 
-/* What is at a place, by every function. */
+/* Calls every function at an offset. */
 static struct wat_found look(struct setting s, size_t pos) {
     struct wat_found found = wat_scan(s.text, s.len, pos, s.allow, s.strict);
     struct wat_token token = wat_token_at(s.text, s.len, pos, s.allow, s.strict);
@@ -306,14 +306,14 @@ static struct wat_found look(struct setting s, size_t pos) {
     return found;
 }
 
-/* Reads a text by rows, and each row once more by itself. */
+/* Reads a text by rows, and then each row alone. */
 static void read_text(struct setting s) {
-    struct wat_token *rows = room_of(ROOM * sizeof *rows);
+    struct wat_token *rows = block_of(CAPACITY * sizeof *rows);
     struct wat_filled filled = {0, 0, WAT_FULL};
     size_t at = 0, i;
     while (filled.why == WAT_FULL) {
-        filled = wat_fill(s.text, s.len, at, s.allow, s.strict, rows, ROOM);
-        expect(filled.count <= ROOM && (filled.why == WAT_FULL) == (filled.count == ROOM), "the count of rows", at);
+        filled = wat_fill(s.text, s.len, at, s.allow, s.strict, rows, CAPACITY);
+        expect(filled.count <= CAPACITY && (filled.why == WAT_FULL) == (filled.count == CAPACITY), "the count of rows", at);
         for (i = 0; i < filled.count; i++) {
             struct wat_found found = look(s, at);
             expect(rows[i].offset == at && rows[i].len > 0, "a row is not after the last", at);
@@ -333,22 +333,22 @@ static void read_text(struct setting s) {
     texts++;
 }
 
-/* The rows of a text, in a block of their own number, so that a read past them is seen. */
+/* Returns the rows of a text, in a block of exactly their size, so that a sanitizer reports a read after them. */
 struct rows {
     struct wat_row *rows;
     size_t count;
     uint32_t why;
 };
 
-/* Fills rows in pieces, which lie end to end. */
+/* Fills rows in several calls, and checks that they are consecutive. */
 static struct rows rows_of(struct setting s) {
     struct rows all = {NULL, 0, WAT_FULL};
-    struct wat_row *piece = room_of(ROOM * sizeof *piece);
+    struct wat_row *piece = block_of(CAPACITY * sizeof *piece);
     size_t at = 0;
     while (all.why == WAT_FULL) {
-        struct wat_filled filled = wat_rows(s.text, s.len, at, s.allow, s.strict, piece, ROOM);
-        struct wat_row *more = room_of((all.count + filled.count) * sizeof *more);
-        expect(filled.count <= ROOM && (filled.why == WAT_FULL) == (filled.count == ROOM), "the count of rows that count", at);
+        struct wat_filled filled = wat_rows(s.text, s.len, at, s.allow, s.strict, piece, CAPACITY);
+        struct wat_row *more = block_of((all.count + filled.count) * sizeof *more);
+        expect(filled.count <= CAPACITY && (filled.why == WAT_FULL) == (filled.count == CAPACITY), "the count of rows that count", at);
         expect(filled.at >= at, "rows go back", at);
         if (all.count > 0) {
             memcpy(more, all.rows, all.count * sizeof *more);
@@ -367,7 +367,7 @@ static struct rows rows_of(struct setting s) {
     return all;
 }
 
-/* Each row is the token that is there, and a `)` closes the group that is open after the rows which link to it. */
+/* Checks that each row is the token at its offset, and that each `)` closes the group that is open after the rows that link to it. */
 static void compare_rows(struct setting s, struct rows all) {
     size_t i, link;
     for (i = 0; i < all.count; i++) {
@@ -383,10 +383,10 @@ static void compare_rows(struct setting s, struct rows all) {
     expect(wat_after(all.rows, all.count, 0) == 0, "after no row", 0);
 }
 
-/* Looks at each row, under these names. */
+/* Peeks at each row, under these names. */
 static void look_at_rows(struct setting s, struct rows all, const char *names, const size_t *ends, size_t count) {
     size_t place, len = strlen(names);
-    uint8_t *own = room_of(len);
+    uint8_t *own = block_of(len);
     memcpy(own, names, len);
     for (place = 0; place <= all.count; place++) {
         struct wat_look look = wat_shown(s.text, s.len, all.rows, all.count, all.why, place, own, len, ends, count);
@@ -401,16 +401,16 @@ static void look_at_rows(struct setting s, struct rows all, const char *names, c
     free(own);
 }
 
-/* What is printed of a message at each byte, with and without a name. */
+/* Prints a message at each byte, with and without a file's name. */
 static void print_at(struct setting s, size_t offset, const char *message, const char *file) {
-    uint8_t *text = room_of(strlen(message) + strlen(file)), none = 0, *out;
+    uint8_t *text = block_of(strlen(message) + strlen(file)), none = 0, *out;
     struct wat_answer first, given;
     size_t long_message = strlen(message), long_file = strlen(file);
     memcpy(text, message, long_message);
     memcpy(text + long_message, file, long_file);
     first = wat_print(s.text, s.len, offset, text, long_message, text + long_message, long_file, &none, 0);
     expect(first.status == WAT_GIVEN && first.needed > long_message, "an error prints less than its message", offset);
-    out = room_of(first.needed);
+    out = block_of(first.needed);
     given = wat_print(s.text, s.len, offset, text, long_message, text + long_message, long_file, out, first.needed);
     expect(given.status == WAT_GIVEN && given.needed == first.needed, "an error prints otherwise", offset);
     expect(memcmp(out, message, long_message) == 0, "an error does not begin with its message", offset);
@@ -430,11 +430,11 @@ static void read_rows(struct setting s) {
     free(all.rows);
 }
 
-/* Lines and columns by the line feeds of the text, of each byte. */
+/* Checks the line and column of each byte, with the line feeds of the text. */
 static void read_lines(struct setting s) {
     struct wat_position wanted = {0, 0}, found, wide;
     size_t none = 0, count = wat_line_feeds(s.text, s.len, &none, 0), units = 0, offset;
-    size_t *feeds = room_of(count * sizeof *feeds);
+    size_t *feeds = block_of(count * sizeof *feeds);
     expect(wat_line_feeds(s.text, s.len, feeds, count) == count, "another count of line feeds", 0);
     for (offset = 0; offset <= s.len; offset++) {
         found = wat_line_column_by(s.text, s.len, feeds, count, offset);
@@ -455,9 +455,9 @@ static void read_lines(struct setting s) {
     free(feeds);
 }
 
-/* The bytes in a block of their own size, so that a read past them is seen. */
+/* Copies bytes to a block of exactly their size, so that a sanitizer reports a read after them. */
 static void read_bytes(const uint8_t *bytes, size_t len) {
-    uint8_t *text = room_of(len);
+    uint8_t *text = block_of(len);
     unsigned flags;
     memcpy(text, bytes, len);
     if (wat_is_text(text, len)) {
@@ -477,14 +477,14 @@ static void read_bytes(const uint8_t *bytes, size_t len) {
     free(text);
 }
 
-/* Pieces of the format, which mutants are made with. */
+/* Lexemes from which mutated texts are generated. */
 static const char *const pieces[] = {"(;",  ";)",     ";;", "\n",   "\"",        "\\",        "\\u{1_0}", "\\u{d800}", "\\61",
                                      "$",   "$\"a\"", "@",  "@\"",  "0x",        "1_0",       "-0x1.8p-3", "nan:0x7f", "+inf",
                                      "1e5", "_",      ",",  "\xe2\x80\xae", "\xc3\xa9", "\xf0\x9f\x98\x80", "\t",  "(@a)",  ""};
 
-/* A few bytes of the text are replaced, taken out, or come after another piece. */
+/* Mutates a text: replaces or deletes a few bytes, or inserts a lexeme before them. */
 static void mutate(const uint8_t *bytes, size_t len) {
-    uint8_t *mutant = room_of(len + 64);
+    uint8_t *mutant = block_of(len + 64);
     unsigned turns = 1 + (unsigned)(next_random() % 4);
     memcpy(mutant, bytes, len);
     while (turns-- > 0) {
@@ -503,7 +503,7 @@ static void mutate(const uint8_t *bytes, size_t len) {
 
 static uint8_t *read_file(const char *name, size_t *len) {
     FILE *file = fopen(name, "rb");
-    uint8_t *bytes = room_of(1 << 20);
+    uint8_t *bytes = block_of(1 << 20);
     if (file == NULL) {
         fprintf(stderr, "readers: %s cannot be read\n", name);
         exit(2);

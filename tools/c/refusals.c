@@ -1,16 +1,16 @@
-/* Makes one call of wat.h, by its number, and prints what it answers. Nothing else here asks for memory, so that tools/refuse_requests.c, loaded in
- * front, counts and refuses the requests of the call alone. Without a number it prints how many calls there are.
+/* Makes one call of wat.h, chosen by its index, and prints the result. Nothing else here allocates, so that a preloaded tools/refuse_requests.c
+ * counts the allocations of that call alone, and makes one of them fail. Without an index it prints the number of calls.
  *
- * usage: refusals [NUMBER] */
+ * usage: refusals [INDEX] */
 #include "wat.h"
 
 #include <stdio.h>
 #include <stdlib.h>
 #include <string.h>
 
-enum { ROOM = 128, UNTOUCHED = '#' };
+enum { CAPACITY = 128, UNTOUCHED = '#' };
 
-/* A call at the start of a text, and whether it may ask for memory. */
+/* A call at the start of a text; `asks` if it may allocate. */
 struct call {
     const char *function, *text;
     bool asks;
@@ -53,16 +53,16 @@ static bool is_call(const char *function, const char *name) {
     return strlen(name) == len && memcmp(function, name, len) == 0;
 }
 
-/* The rows of a text, linked. */
-static struct wat_filled rows_of(const uint8_t *text, size_t len, struct wat_row *rows, size_t room) {
+/* Fills the rows of a text, and links them. */
+static struct wat_filled rows_of(const uint8_t *text, size_t len, struct wat_row *rows, size_t capacity) {
     struct wat_filled filled;
-    memset(rows, 0, room * sizeof *rows);
-    filled = wat_rows(text, len, 0, false, false, rows, room);
+    memset(rows, 0, capacity * sizeof *rows);
+    filled = wat_rows(text, len, 0, false, false, rows, capacity);
     wat_links(rows, filled.count);
     return filled;
 }
 
-/* The answer of a call that has no buffer, its place in `needed`. */
+/* Returns the result of a call that has no buffer, with its offset as `needed`. */
 static struct wat_answer without_buffer(const char *f, const uint8_t *text, size_t len, const struct wat_row *rows, struct wat_filled filled) {
     static const size_t end = 1;
     struct wat_answer answer = {0, UINT32_MAX};
@@ -82,50 +82,50 @@ static struct wat_answer without_buffer(const char *f, const uint8_t *text, size
     return answer;
 }
 
-/* The answer of a reader of a row. */
+/* Returns the result of a reader of a row. */
 static struct wat_answer read_row(const char *f, const uint8_t *text, size_t len, const struct wat_row *row, uint8_t *out) {
     uint32_t part = (uint32_t)(f[strlen(f) - 1] - '0');
     if (is_call(f, "wat_string_of")) {
-        return wat_string_of(text, len, row, out, ROOM);
+        return wat_string_of(text, len, row, out, CAPACITY);
     }
     if (is_call(f, "wat_name_of")) {
-        return wat_name_of(text, len, row, out, ROOM);
+        return wat_name_of(text, len, row, out, CAPACITY);
     }
     if (is_call(f, "wat_digits_of")) {
-        return wat_digits_of(text, len, row, out, ROOM);
+        return wat_digits_of(text, len, row, out, CAPACITY);
     }
-    return wat_float_of(text, len, row, part, out, ROOM);
+    return wat_float_of(text, len, row, part, out, CAPACITY);
 }
 
-/* The answer of a reader at a place. */
+/* Returns the result of a reader at an offset. */
 static struct wat_answer read_text(const char *f, const uint8_t *text, size_t len, uint8_t *out) {
     uint32_t part = (uint32_t)(f[strlen(f) - 1] - '0');
     if (is_call(f, "wat_string")) {
-        return wat_string(text, len, 0, false, false, out, ROOM);
+        return wat_string(text, len, 0, false, false, out, CAPACITY);
     }
     if (is_call(f, "wat_name")) {
-        return wat_name(text, len, 0, false, false, out, ROOM);
+        return wat_name(text, len, 0, false, false, out, CAPACITY);
     }
     if (is_call(f, "wat_name_fault")) {
-        return wat_name_fault(text, len, 0, false, false, out, ROOM);
+        return wat_name_fault(text, len, 0, false, false, out, CAPACITY);
     }
     if (is_call(f, "wat_integer")) {
-        return wat_integer(text, len, 0, false, false, out, ROOM);
+        return wat_integer(text, len, 0, false, false, out, CAPACITY);
     }
     if (is_call(f, "wat_float")) {
-        return wat_float(text, len, 0, false, false, part, out, ROOM);
+        return wat_float(text, len, 0, false, false, part, out, CAPACITY);
     }
-    return wat_fault(text, len, 0, false, false, out, ROOM);
+    return wat_fault(text, len, 0, false, false, out, CAPACITY);
 }
 
-/* The answer of a call that prints: with the name of a file where one follows the function's. */
+/* Returns the result of a call that prints, with the name of a file if one follows the function's name. */
 static struct wat_answer print(const char *f, const uint8_t *text, size_t len, uint8_t *out) {
     const char *file = f + strcspn(f, " ");
     file += *file == ' ';
     if (is_call(f, "wat_message")) {
-        return wat_message(WAT_UNEXPECTED, text[0], 0, out, ROOM);
+        return wat_message(WAT_UNEXPECTED, text[0], 0, out, CAPACITY);
     }
-    return wat_print(text, len, 0, (const uint8_t *)"expected a keyword", 18, (const uint8_t *)file, strlen(file), out, ROOM);
+    return wat_print(text, len, 0, (const uint8_t *)"expected a keyword", 18, (const uint8_t *)file, strlen(file), out, CAPACITY);
 }
 
 static struct wat_answer make(const struct call *call, uint8_t *out) {
@@ -149,7 +149,7 @@ static struct wat_answer make(const struct call *call, uint8_t *out) {
 int main(int argc, char **argv) {
     static char buffer[BUFSIZ];
     size_t count = sizeof calls / sizeof *calls, number = argc > 1 ? strtoul(argv[1], NULL, 10) : count, touched = 0, i;
-    uint8_t out[ROOM];
+    uint8_t out[CAPACITY];
     struct wat_answer answer;
     setvbuf(stdout, buffer, _IOFBF, sizeof buffer);
     if (number >= count) {
@@ -158,7 +158,7 @@ int main(int argc, char **argv) {
     }
     memset(out, UNTOUCHED, sizeof out);
     answer = make(&calls[number], out);
-    for (i = 0; i < ROOM; i++) {
+    for (i = 0; i < CAPACITY; i++) {
         touched += out[i] != UNTOUCHED;
     }
     printf("%s, %s, %s: %zu, status %u, %zu bytes written\n", calls[number].asks ? "asks" : "does not ask", calls[number].function,

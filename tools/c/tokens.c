@@ -1,6 +1,6 @@
-/* Compares `wat_token_at_inline` with `wat_token_at`, and sees that it calls that function where it says so and nowhere else: of texts of one byte, of
- * all pairs of a character of one byte and one of each first byte, and of three bytes that begin, end or continue tokens of one byte, at each place,
- * under all settings. It is C and C++.
+/* Compares `wat_token_at_inline` with `wat_token_at`, and checks that it calls that function for the tokens that wat.h says, and for no others. The
+ * texts are of one byte; of all pairs of a one-byte character and a character of each first byte; and of three bytes that begin, end or continue
+ * one-byte tokens. Each is tried at each offset, under all settings. It is C and C++.
  *
  * usage: tokens */
 #define wat_token_at wat_token_at_counted /* the header's function calls this one */
@@ -32,7 +32,7 @@ static bool are_same(struct wat_token a, struct wat_token b) {
            a.kind.has_underscores == b.kind.has_underscores && a.kind.hex == b.kind.hex;
 }
 
-/* Whether a token is to be found without a call. */
+/* Returns `true` if a token must be found without a call. */
 static bool is_short(const uint8_t *text, size_t len, struct wat_token token) {
     return token.len == 1 && token.offset + 1 < len && text[token.offset] != '\0' && strchr("(),;[]{} \t\n\r", text[token.offset]) != NULL;
 }
@@ -54,7 +54,7 @@ static void compare(const uint8_t *text, size_t len, size_t pos, bool allow, boo
     }
 }
 
-/* Compares at each place of a text, which a sanitizer sees to its last byte. */
+/* Compares at each offset of a text, in a block that a sanitizer guards to its last byte. */
 static void compare_all(const uint8_t *bytes, size_t len) {
     uint8_t *text = (uint8_t *)malloc(len);
     unsigned settings;
@@ -71,7 +71,7 @@ static void compare_all(const uint8_t *bytes, size_t len) {
     free(text);
 }
 
-/* A character with this first byte, and its length: 0 where none has it. */
+/* Writes a character with this first byte, and returns its length, or 0 if there is none. */
 static size_t character(unsigned first, uint8_t *out) {
     size_t len = first < 0x80 ? 1 : first < 0xc2 ? 0 : first < 0xe0 ? 2 : first < 0xf0 ? 3 : first < 0xf5 ? 4 : 0;
     /* (the second byte of U+0800 and of U+10000 is the least that begins a character so) */
@@ -114,6 +114,6 @@ int main(void) {
         pairs(first);
     }
     triples();
-    printf("tokens: %llu places compared, %llu tokens found inline, %llu wrong\n", places, found_inline, wrong);
+    printf("tokens: %llu offsets compared, %llu tokens found inline, %llu wrong\n", places, found_inline, wrong);
     return wrong == 0 && found_inline > 0 ? 0 : 1;
 }
