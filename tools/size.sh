@@ -1,16 +1,16 @@
 #!/usr/bin/env bash
-# Counts what the repository consists of, at a commit.
+# Prints the size of each part of the repository at a commit.
 #
 # usage: tools/size.sh [COMMIT]
 set -eu -o pipefail
 cd "$(dirname "$0")/.."
 commit=$(git rev-parse "${1:-HEAD}")
-room=$(mktemp -d)
-trap 'rm -rf "$room"' EXIT
-git archive "$commit" | tar -x -C "$room"
-cd "$room"
+work=$(mktemp -d)
+trap 'rm -rf "$work"' EXIT
+git archive "$commit" | tar -x -C "$work"
+cd "$work"
 
-# row WHAT COUNT
+# row WHAT COUNT: prints one line of the table
 row() {
     printf '%-46s %8d\n' "$1" "$2"
 }
@@ -23,21 +23,21 @@ row 'crates' "$(find crates -mindepth 1 -maxdepth 1 -type d | wc -l)"
 row 'lines of Rattle' "$(lines crates -path '*/src/*' -name '*.rt')"
 row 'lines of definitions' "$(lines crates -path '*/specs/*')"
 row 'lines of proofs' "$(lines crates -path '*/proofs/*')"
-row 'lines of Rust written by hand' "$(find rust -name '*.rs' -print0 | xargs -0 grep -L 'Made by tools/erase' | xargs cat | wc -l)"
-row 'lines of Rust made of the proved text' "$(find rust -name '*.rs' -print0 | xargs -0 grep -l 'Made by tools/erase' | xargs -r cat | wc -l)"
-row 'files of edits' "$(find edits crates/*/must-fail -type f | wc -l)"
+row 'lines of hand-written Rust' "$(find rust -name '*.rs' -print0 | xargs -0 grep -L 'Made by tools/erase' | xargs cat | wc -l)"
+row 'lines of Rust generated from proved sources' "$(find rust -name '*.rs' -print0 | xargs -0 grep -l 'Made by tools/erase' | xargs -r cat | wc -l)"
+row 'files of mutants' "$(find edits crates/*/must-fail -type f | wc -l)"
 row 'tools' "$(find tools -mindepth 1 -maxdepth 1 | wc -l)"
 row 'words of documents, README and docs' "$(cat ./*.md docs/*.md | wc -w)"
 row 'words of the READMEs of crates and packages' "$(find crates rust -name README.md -print0 | xargs -0 -r cat | wc -w)"
 row 'lines of README' "$(wc -l < README.md)"
 
-# words WHAT PATTERN FOLDER..: how often the words that we write no more are in the files of a name
+# words WHAT PATTERN FOLDER..: counts the words that the style no longer allows in the files of a name
 words() {
     row "$1" "$(find "${@:3}" -type f -name "$2" -print0 | xargs -0 -r cat | grep -aowE 'behind|told|stands|anew' | wc -l)"
 }
 
 words "'behind', 'told', 'stands', 'anew' in documents" '*.md' ./*.md docs
-words 'the same in .rt' '*.rt' crates
-words 'the same in .antt' '*.antt' crates
-words 'the same in tools' '*' tools
-words 'the same in page' '*' page
+words 'these words in .rt' '*.rt' crates
+words 'these words in .antt' '*.antt' crates
+words 'these words in tools' '*' tools
+words 'these words in page' '*' page
