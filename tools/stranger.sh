@@ -161,18 +161,27 @@ the_program() {
     fi
 }
 
-# described PROGRAM SHARE: each option and command of --help is in the manual page and in the completions of each shell
+# help_words PROGRAM: prints the commands and options of --help
+help_words() {
+    "$1" --help | awk '
+        /^[a-z]/ { wanted = /^(commands|options)/ }
+        wanted && /^  [a-z]/ { print $1 }
+        wanted && /^  -/ { for (i = 1; i <= NF && i <= 2; i++) if ($i ~ /^--?[a-zA-Z]/) { sub(/,$/, "", $i); print $i } }'
+}
+
+# described PROGRAM SHARE: checks that the manual page and the completions of each shell have each command and option of --help
 described() {
-    local words word file count=0
-    words=$("$1" --help | grep -oE '^  ([a-z]{3,}|-[^ ]+( [A-Z]+)?|-h, --help) ' | grep -oE -- '--[a-z-]+|^  [a-z]+' | grep -vE '^  (look|take|comment|reg|unreg|parens)')
+    local words word file
+    words=$(help_words "$1")
+    for word in list sig play blank types module fmt --json --file --help --version; do
+        grep -qx -e "$word" <<< "$words" || fail "--help has no $word"
+    done
     for word in $words; do
         for file in man/man1/wat_tokens.1 bash-completion/completions/wat_tokens zsh/site-functions/_wat_tokens fish/vendor_completions.d/wat_tokens.fish; do
-            sed 's/\\-/-/g; s/-l \([a-z-]*\)/--\1/g' "$2/$file" | grep -qw -e "$word" || fail "$file has no $word"
-            count=$((count + 1))
+            sed 's/\\-/-/g; s/ -s \([a-zA-Z]\)/ -\1/g; s/ -l \([a-z-]*\)/ --\1/g' "$2/$file" | grep -q -e "[^a-z-]$word\([^a-z-]\|$\)" || fail "$file has no $word"
         done
     done
-    [ "$count" -ge 40 ] || fail "--help: only $count words were compared"
-    say "manual page and completions: $((count / 4)) words of --help are in each"
+    say "manual page and completions: each has the $(wc -w <<< "$words") words of --help"
 }
 
 # completions: what is typed, and the one completion that each shell must offer
@@ -208,10 +217,10 @@ zpty -w shell "PS1=''; fpath=($1 \$fpath); autoload -U compinit; compinit -D -u;
 zpty -r -m shell said "*ready*"
 zpty -w -n shell "$2"$'\t'
 zpty -w -n shell $'\x01print -r -- \'[\x05]\'\n'
-zpty -r -m shell said "*\[*\]*\[*\]*"
+zpty -r -m shell said $'*\n\\[wat_tokens*\\]*'
 print -r -- "$said"
 ZSH
-    timeout 60 zsh -f "$work/complete.zsh" "$1/zsh/site-functions" "$2" | sed -n 's/^\[wat_tokens.* \(.*\)\].*/\1/p'
+    timeout 60 zsh -f "$work/complete.zsh" "$1/zsh/site-functions" "$2" | sed -n "s/^\[wat_tokens.* \([^ ]*\) *\].*/\1/p"
 }
 
 # completed SHARE: compares the completions of each shell that is here, in a folder with no files
