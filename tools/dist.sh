@@ -251,12 +251,13 @@ rattle_libraries() {
 
 # makes_module: succeeds if page/build.sh can build the module without proving the libraries first
 makes_module() {
-    [ -n "${WASM_CARGO:-}" ] || [ -d "$(rustc --print target-libdir --target wasm32-unknown-unknown)" ] && return
+    [ -n "${WASM_CARGO:-}" ] || [ -d "$(rustc --print target-libdir --target wasm32-unknown-unknown)" ] \
+        || tools/cargo_with_std.sh --is-here 2> /dev/null && return
     if has rt && has wasm-opt && { [ "${BY:-}" = rattle ] || [ -e "$top/crates/wat_page/out/libwat_page.a" ]; }; then
         take_proofs wat_lex wat_page
         return
     fi
-    skip 'the npm package and the page' 'rustc has no target wasm32-unknown-unknown, and page/build.sh has not been run with rt and wasm-opt'
+    skip 'the npm package and the page' 'no cargo for wasm32-unknown-unknown, and page/build.sh has not been run with rt and wasm-opt'
     return 1
 }
 
@@ -293,6 +294,7 @@ third_parties() {
 proof() {
     local logic
     logic=$(sed -n 's/.*`rt version` prints `\([^`]*\)`.*/\1/p' README.md)
+    [ -n "$logic" ] || die 'README.md does not say what `rt version` prints'
     {
         printf 'wat %s, commit %s of %s\nproved sources: crates, git tree %s, for the toolchain whose `rt version` prints `%s`\n' \
             "$version" "$commit" "$(git log -1 --format=%cI)" "$(git rev-parse HEAD:crates)" "$logic"

@@ -56,6 +56,7 @@ leave() {
         ! has "$name" || ln -s "$(command -v "$name")" "$work/bin/$name"
     done
     export PATH=$work/bin:/usr/bin:/bin HOME=$work/home CARGO_HOME=$work/home/cargo CARGO_NET_OFFLINE=true
+    export npm_config_offline=true npm_config_audit=false npm_config_fund=false npm_config_update_notifier=false
     unset CARGO_TARGET_DIR RUSTFLAGS CRATES_FOLDER
     ! has rt || fail 'rt is on the path'
     cd "$work/empty"
