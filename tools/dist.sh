@@ -130,7 +130,7 @@ workspace() {
     cp rust/Cargo.toml rust/Cargo.lock "$made/rust/"
     mkdir "$made/rust/.cargo"
     printf '[source.crates-io]\nreplace-with = "vendor"\n[source.vendor]\ndirectory = "vendor"\n' > "$made/rust/.cargo/config.toml"
-    record "$made/rust" -- "the sources of rust; in rust/vendor the crates of Cargo.lock as they are published"
+    record "$made/rust" -- "the sources of rust; in rust/vendor the crates of Cargo.lock, as cargo vendor copies them"
 }
 
 crates() {
