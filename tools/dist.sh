@@ -118,13 +118,13 @@ package() {
 
 # workspace_files NAME: prints the files of a package of the workspace
 workspace_files() {
-    (cd rust && cargo package --list --package "$1" 2> /dev/null) | grep -vxE 'Cargo\.lock|Cargo\.toml\.orig|\.cargo_vcs_info\.json' | sed "s|^|$1/|"
+    (cd rust && cargo package --quiet --list --package "$1") | grep -vxE 'Cargo\.lock|Cargo\.toml\.orig|\.cargo_vcs_info\.json' | sed "s|^|$1/|"
 }
 
 # workspace: writes the packages as a workspace whose crates are in `vendor`, so that each can be named by its path, with no registry
 workspace() {
     local name
-    for name in wat-c wat-lex wat-modules wat-page wat-parser wat-tokens; do
+    for name in $(sed -n '/^members/s/[^"]*"\([^"]*\)"[^"]*/\1 /gp' rust/Cargo.toml); do
         workspace_files "$name" | tar -C rust -cf - -T - | tar -C "$made/rust" -xf -
     done
     cp rust/Cargo.toml rust/Cargo.lock "$made/rust/"
