@@ -16,10 +16,10 @@
 ## make dist             a release, as a folder (OUT; GATE_LOG=FILE; BY=rattle: archives by Rattle's compilers too)
 ## make tests            the tests of the Rust packages
 ## make checks           what takes a minute or two: edits, documents, names, the version, the erased text
-## make gate             rt ci: proves every crate, tries wrong bodies, runs tests and programs (LOG=FILE: with its log, for make dist)
+## make gate             rt ci: proves every crate, tries mutants, runs tests and programs (LOG=FILE: with its log, for make dist)
 ## make parts            the parts of all that CI checks: group, name, command
 ## make part OF=NAME     runs one of them, or a group; all of them: .ci/run
-## make edits OF=NAME    tries the wrong bodies of a function, of a crate, or of this name
+## make edits OF=NAME    tries the mutants of a function, of a crate, or of this name
 ## make readme           runs the commands of README.md and docs/COMMAND-LINE.md
 
 PREFIX ?= /usr/local

@@ -86,7 +86,8 @@ def write(dist, target, version):
     for source, page in pages.items():
         page.write_text(relink(dist, source, page, source.read_text(encoding="utf-8")), encoding="utf-8")
     readme = dist / "README.md"
-    text = VERSION.sub(rf"\g<1>{version}", readme.read_text(encoding="utf-8")).replace("TARGET", target)
+    text = VERSION.sub(rf"\g<1>{version}", readme.read_text(encoding="utf-8"))
+    text = re.sub(r"(?<=/)TARGET\b", target, text)
     readme.write_text(text + sizes(dist), encoding="utf-8")
 
 

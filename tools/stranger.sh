@@ -141,7 +141,7 @@ CMAKE
         expect "CMake: a program with wat::$name" 10 "cmake/built/by_$name"
     done
     for name in 0.0.1 0.9 1.0; do
-        ! cmake -S cmake -B cmake/refused -DCMAKE_PREFIX_PATH="$1" -DWANTED="$name" > "$work/log" 2>&1 || fail "CMake accepts version $name"
+        ! cmake -S cmake -B cmake/rejected -DCMAKE_PREFIX_PATH="$1" -DWANTED="$name" > "$work/log" 2>&1 || fail "CMake accepts version $name"
     done
     say 'CMake: versions 0.0.1, 0.9 and 1.0 are not found'
 }
