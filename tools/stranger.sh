@@ -79,7 +79,7 @@ with_registry() {
     local registry=$work/registry
     mkdir -p "$registry/home"
     printf '[source.crates-io]\nreplace-with = "folder"\n[source.folder]\ndirectory = "%s"\n' "$crates_folder" > "$registry/home/config.toml"
-    cp -r "$release" "$registry/"
+    tar -xzf "$archive" -C "$registry"
     rm -rf "$registry/$release/rust/.cargo" "$registry/$release/rust/vendor"
     (cd "$registry" && CARGO_HOME=$registry/home "$tools/run_page.py" --section Rust --without hello/.cargo/config.toml "$readme") \
         || fail 'a command of README is wrong with a registry'
