@@ -165,7 +165,7 @@ the_program() {
 # help_words PROGRAM: prints the commands and options of --help
 help_words() {
     "$1" --help | awk '
-        /^[a-z]/ { wanted = /^(commands|options)/ }
+        /^[A-Za-z]/ { wanted = tolower($0) ~ /^(commands|options)/ }
         wanted && /^  [a-z]/ { print $1 }
         wanted && /^  -/ { for (i = 1; i <= NF && i <= 2; i++) if ($i ~ /^--?[a-zA-Z]/) { sub(/,$/, "", $i); print $i } }'
 }
