@@ -28,14 +28,15 @@ has() {
     command -v "$1" > /dev/null
 }
 
-# timed WHAT MOST COMMAND..: runs a command, which must end within MOST seconds
+# timed WHAT MOST COMMAND..: runs a command, which may use MOST seconds of processor time
 timed() {
-    local what=$1 most=$2 begun=${EPOCHREALTIME/./} seconds
+    local what=$1 most=$2 seconds user system status=0 TIMEFORMAT='%0R %0U %0S'
     shift 2
-    "$@" > "$work/log" 2>&1 || fail "$what: $(tail -n 20 "$work/log")"
-    seconds=$(((${EPOCHREALTIME/./} - begun) / 100000))
-    say "$what: $((seconds / 10)).$((seconds % 10)) s"
-    [ "$seconds" -lt "$((10 * most))" ] || fail "$what takes $most s or more"
+    { time "$@" > "$work/log" 2>&1 || status=$?; } 2> "$work/times"
+    [ "$status" = 0 ] || fail "$what: $(tail -n 20 "$work/log")"
+    read -r seconds user system < "$work/times"
+    say "$what: $seconds s, $((user + system)) s of processor time"
+    [ "$((user + system))" -lt "$most" ] || fail "$what takes $most s of processor time or more"
 }
 
 # expect WHAT WANTED COMMAND..: checks what a command prints
