@@ -74,7 +74,8 @@ pages() {
     say "$(wc -l < "$release/SHA256SUMS") sums are right"
 }
 
-# with_registry: README's Rust commands where crates come from a registry, as a project with other dependencies has them
+# with_registry: README's Rust commands with crates from a registry, as a project with other dependencies has them; only the crates' source is another,
+# so nothing is optimized
 with_registry() {
     [ -n "$crates_folder" ] || { say 'Rust with a registry: skipped: CRATES_FOLDER is not set' && return; }
     local registry=$work/registry
@@ -82,7 +83,7 @@ with_registry() {
     printf '[source.crates-io]\nreplace-with = "folder"\n[source.folder]\ndirectory = "%s"\n' "$crates_folder" > "$registry/home/config.toml"
     tar -xzf "$archive" -C "$registry"
     rm -rf "$registry/$release/rust/.cargo" "$registry/$release/rust/vendor"
-    (cd "$registry" && CARGO_HOME=$registry/home "$tools/run_page.py" --section Rust --without hello/.cargo/config.toml "$readme") \
+    (cd "$registry" && CARGO_PROFILE_RELEASE_LTO=off CARGO_PROFILE_RELEASE_OPT_LEVEL=0 CARGO_HOME=$registry/home "$tools/run_page.py" --section Rust --without hello/.cargo/config.toml "$readme") \
         || fail 'a command of README is wrong with a registry'
 }
 
