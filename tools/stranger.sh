@@ -83,8 +83,11 @@ with_registry() {
     printf '[source.crates-io]\nreplace-with = "folder"\n[source.folder]\ndirectory = "%s"\n' "$crates_folder" > "$registry/home/config.toml"
     tar -xzf "$archive" -C "$registry"
     rm -rf "$registry/$release/rust/.cargo" "$registry/$release/rust/vendor"
-    (cd "$registry" && CARGO_PROFILE_RELEASE_LTO=off CARGO_PROFILE_RELEASE_OPT_LEVEL=0 CARGO_HOME=$registry/home "$tools/run_page.py" --section Rust --without hello/.cargo/config.toml "$readme") \
-        || fail 'a command of README is wrong with a registry'
+    (
+        cd "$registry"
+        export CARGO_HOME=$registry/home CARGO_PROFILE_RELEASE_LTO=off CARGO_PROFILE_RELEASE_OPT_LEVEL=0
+        "$tools/run_page.py" --section Rust --without hello/.cargo/config.toml "$readme"
+    ) || fail 'a command of README is wrong with a registry'
 }
 
 # rust_packages: the tests that the packages contain, a build for debugging, and the installed program
