@@ -9,9 +9,11 @@ on the path or a file. `--section` runs the blocks of one section, `--without` d
 is 1 if a command fails or prints something else, or if no command ran.
 """
 import argparse
+import os
 import pathlib
 import re
 import shutil
+import signal
 import subprocess
 import sys
 import time
@@ -38,18 +40,31 @@ def save(name, body):
     path.write_text(body, encoding="utf-8")
 
 
+def output(script):
+    """Runs a script. Returns its status and what it printed, or ends all its processes and returns `None` if it takes too long."""
+    command = ["bash", "-euo", "pipefail", "-c", script]
+    begun = subprocess.Popen(command, stdin=subprocess.DEVNULL, stdout=subprocess.PIPE, stderr=subprocess.PIPE, text=True, process_group=0)
+    try:
+        printed, errors = begun.communicate(timeout=LIMIT)
+    except subprocess.TimeoutExpired:
+        os.killpg(begun.pid, signal.SIGKILL)
+        begun.communicate()
+        return None
+    return begun.returncode, printed, errors
+
+
 def run(script, wanted):
     """Runs a script and reports it. Returns `True` if it printed `wanted`, or anything if that is `None`, with status 0."""
     begun = time.monotonic()
-    try:
-        done = subprocess.run(["bash", "-euo", "pipefail", "-c", script], capture_output=True, text=True, timeout=LIMIT, stdin=subprocess.DEVNULL)
-    except subprocess.TimeoutExpired:
-        print(f"run_page.py: not done after {LIMIT} s:\n{script}")
+    done = output(script)
+    if done is None:
+        print(f"run_page.py: not done after {LIMIT} s: {script.strip()}")
         return False
-    right = done.returncode == 0 and wanted in (None, done.stdout)
-    print(f"run_page.py: {'as wanted' if right else 'WRONG'}, {time.monotonic() - begun:.1f} s: {script.strip()}")
+    status, printed, errors = done
+    right = status == 0 and wanted in (None, printed)
+    print(f"run_page.py: {'as wanted' if right else 'WRONG'}, {time.monotonic() - begun:.1f} s: {script.strip()}", flush=True)
     if not right:
-        print(f"status {done.returncode}\n{done.stdout}{done.stderr}")
+        print(f"status {status}\n{printed}{errors}", flush=True)
     return right
 
 
