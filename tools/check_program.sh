@@ -51,6 +51,16 @@ fault() {
     fault_in "$1" '<anon>' "${@:2}"
 }
 
+# headed NAME LINES..: the lists of several files, each after its name
+headed() {
+    local gap=''
+    while [ $# -gt 0 ]; do
+        printf '%s==> %s <==\\n%s' "$gap" "$1" "$2"
+        gap='\n'
+        shift 2
+    done
+}
+
 # json_fault OFFSET MESSAGE LINE COLUMN: the line of a fault as JSON; the message as it is in the string
 json_fault() {
     printf '{"offset":%s,"fault":"%s","line":%s,"column":%s}\\n' "$@"
@@ -358,10 +368,10 @@ expect 'a file in a folder' 0 "$word" '' "$program" ./a < /dev/null
 expect 'a file named as a command' 0 "$word" '' "$program" ./sig < /dev/null
 expect 'a file named as an option' 0 "$word" '' "$program" ./-dash < /dev/null
 expect 'a command, though a file is named so' 0 '' '' "$program" sig < /dev/null
-expect 'files' 0 "$word$word$word" '' "$program" a - a < <(printf x)
-expect 'files after dashes' 0 "$word$word" '' "$program" list -- sig -dash < /dev/null
-expect 'a file with a fault' 1 "$word$word" "$bad" "$program" bad a < /dev/null
-expect 'no such file' 2 "$word$word" "wat_tokens: none: open failed: no such file or directory\n$bad" "$program" a none bad < /dev/null
+expect 'files' 0 "$(headed a "$word" '<stdin>' "$word" a "$word")" '' "$program" a - a < <(printf x)
+expect 'files after dashes' 0 "$(headed sig "$word" -dash "$word")" '' "$program" list -- sig -dash < /dev/null
+expect 'a file with a fault' 1 "$(headed bad "$word" a "$word")" "$bad" "$program" bad a < /dev/null
+expect 'no such file' 2 "$(headed a "$word" bad "$word")" "wat_tokens: none: open failed: no such file or directory\n$bad" "$program" a none bad < /dev/null
 expect 'no such file, by its point' 2 '' 'wat_tokens: none.wat: open failed: no such file or directory\n' "$program" none.wat < /dev/null
 expect 'no such file, by its folder' 2 '' 'wat_tokens: none/x: open failed: no such file or directory\n' "$program" none/x < /dev/null
 expect 'list, no such file' 2 '' 'wat_tokens: none: open failed: no such file or directory\n' "$program" list none < /dev/null
@@ -373,28 +383,67 @@ expect 'a folder as a file' 2 '' 'wat_tokens: folder: read failed: is a director
 expect 'a byte order mark' 1 '' "$(fault_in "unexpected character '\\\\u{feff}'" mark 1 $'\ufeff' '')the text begins with a byte order mark, which has to go\n" \
     "$program" mark < /dev/null
 output=/dev/full expect 'a file, no room' 2 '' 'wat_tokens: a: write failed: no space left on device\n' "$program" a < /dev/null
-output=/dev/full expect 'a second file, no room' 2 '' 'wat_tokens: a: write failed: no space left on device\n' "$program" empty a < /dev/null
+output=/dev/full expect 'a second file, no room' 2 '' 'wat_tokens: empty: write failed: no space left on device\n' "$program" empty a < /dev/null
 output=/dev/full expect 'blank, a file, no room' 2 '' 'wat_tokens: a: write failed: no space left on device\n' "$program" blank a < /dev/null
 unread 'a file' 0 '' "$program" a < /dev/null
 unread 'blank, a file' 0 '' "$program" blank a < /dev/null
 unread 'sig, a file' 0 '' "$program" --file a sig < /dev/null
 mkfifo once
 printf x > once &
-expect 'a file that can be opened once' 0 "$word$word" '' timeout 10 "$program" list once a < /dev/null
+expect 'a file that can be opened once' 0 "$(headed once "$word" a "$word")" '' timeout 10 "$program" list once a < /dev/null
 rm once
 
 # files of sig and play, and of any command
-expect 'sig, files' 0 "$word$word" '' "$program" --file a --file sig sig name < /dev/null
+expect 'sig, files' 0 "$(headed a "$word" sig "$word")" '' "$program" --file a --file sig sig name < /dev/null
 expect 'sig, a file and names' 0 '0..1 LParen\n1..3 Annotation\n4..5 Integer\n' '' "$program" --file open sig a -- < /dev/null
 expect 'sig, a file, options' 0 "$word" '' "$program" --allow-confusing --file a --strict-underscores sig < /dev/null
-expect 'sig, no such file' 2 "$word" 'wat_tokens: none: open failed: no such file or directory\n' "$program" --file none --file a sig < /dev/null
+expect 'sig, no such file' 2 "$(headed a "$word")" 'wat_tokens: none: open failed: no such file or directory\n' "$program" --file none --file a sig < /dev/null
 expect 'sig, open annotation' 1 '' 'open: unclosed annotation at byte offset 1\n' "$program" --file open sig < /dev/null
 expect 'sig, a file that is not UTF-8' 2 '' 'wat_tokens: bytes: input is not UTF-8 at byte 2\n' "$program" --file bytes sig < /dev/null
 expect 'sig, a file named as an option' 0 "$word" '' "$program" --file -dash sig < /dev/null
 expect 'play, a file' 0 "$word" '' "$program" --file a play look < /dev/null
 expect 'play, no such file' 2 '' 'wat_tokens: none: open failed: no such file or directory\n' "$program" --file none play look < /dev/null
-expect 'list, files by the option' 0 "$word$word" '' "$program" --file a --file sig list < /dev/null
+expect 'list, files by the option' 0 "$(headed a "$word" sig "$word")" '' "$program" --file a --file sig list < /dev/null
 expect 'blank, a file by the option' 0 x '' "$program" --file a blank < /dev/null
+
+# the bytes of a module in a file of their own: it is written where the text compiles, and else stays as it is
+# expect_module NAME STATUS ERRORS TEXT WORDS..: what the words come to, of which the module goes to the file `made`, over a text
+expect_module() {
+    local name=$1 status=$2 errors=$3 text=$4
+    shift 4
+    expect "$name" "$status" '' "$errors" "$program" "$@" < <(printf %s "$text")
+    printf '%b' "$module" > "$room/wanted_output"
+    cp made "$room/output"
+    compare output "$name"
+}
+module='\0asm\01\0\0\0'
+printf '(module)' > module.wat
+expect_module 'module, into a file' 0 '' '' module module.wat -o made
+module='\0asm\01\0\0\0\01\04\01`\0\0'
+expect_module 'types, into a file that is there' 0 '' '(module (type (func)))' types --output made
+expect_module 'module, into a file, refused' 1 "$(fault_in 'unknown keyword' '<stdin>' 10 '(module (frob))' '         ')" '(module (frob))' -o made module
+expect_module 'module, into a file, no such file' 2 'wat_tokens: none: open failed: no such file or directory\n' '' module none -o made
+expect_module 'module, into a file, no UTF-8' 2 'wat_tokens: bytes: input is not UTF-8 at byte 2\n' '' module -o made bytes
+expect 'module, into a folder' 2 '' 'wat_tokens: folder: write failed: is a directory\n' "$program" module module.wat -o folder < /dev/null
+expect 'module, into no folder' 2 '' 'wat_tokens: none/made: write failed: no such file or directory\n' "$program" module module.wat -o none/made < /dev/null
+expect 'module, into a file, no room' 2 '' 'wat_tokens: /dev/full: write failed: no space left on device\n' "$program" module module.wat -o /dev/full < /dev/null
+rm made module.wat
+
+# terminal WORDS..: runs the program on a module, with a terminal as standard output and as standard error
+terminal() {
+    printf '(module)' | python3 -c '
+import os, pty, subprocess, sys
+reader, writer = pty.openpty()
+done = subprocess.run(sys.argv[1:], stdout=writer, stderr=writer, check=False)
+os.close(writer)
+sys.stdout.buffer.write(os.read(reader, 1000))
+sys.exit(done.returncode)' "$program" "$@"
+}
+terminal_line='wat_tokens: standard output is a terminal; -o FILE writes to a file\r\n'
+expect 'module, to a terminal' 2 "$terminal_line" '' terminal module
+expect 'types, to a terminal' 2 "$terminal_line" '' terminal types -
+expect 'module, to a terminal by its name' 0 '\0asm\01\0\0\0' '' terminal module -o -
+expect 'blank, to a terminal' 0 '(module)' '' terminal blank
 
 # standard input by its name
 expect 'standard input, named' 0 "$word" '' "$program" - < <(printf x)
@@ -425,12 +474,15 @@ printf '(@a 1' > "$name"
 expect 'control characters of a name, sig' 1 '' "$name_shown: unclosed annotation at byte offset 1\n" "$program" --file "$name" sig < /dev/null
 expect 'control characters of a name, no such file' 2 '' "wat_tokens: none$name_shown: open failed: no such file or directory\n" \
     "$program" "none$name" < /dev/null
+expect 'control characters of a name, a head' 1 "$(headed a "$word" "$name_shown" '')" "$name_shown: unclosed annotation at byte offset 1\n" \
+    "$program" --file a --file "$name" sig < /dev/null
 long=$(printf 'n%.0s' {1..200})
 printf 'x(;' > "$long"
 expect 'a long name' 1 "$word" "$(fault_in 'unterminated block comment' "$long" 2 'x(;' ' ')" "$program" "$long" < /dev/null
 
 # files as JSON: the name comes first where there are several files, and in each fault
 expect 'json, a file' 0 "$(json 0 1 Keyword x 1 1)" '' "$program" --json a < /dev/null
+expect 'json, an option after a file' 0 "$(json 0 1 Keyword x 1 1)" '' "$program" a --json < /dev/null
 expect_json_fault 'json, a file with a fault' "$(json 0 1 Keyword x 1 1)" "$(json_fault 1 'unterminated block comment' 1 2)" "$bad" \
     "$program" --json bad < /dev/null
 expect_json_fault 'json, files, the last with a fault' "$(json_in a 0 1 Keyword x 1 1)$(json_in bad 0 1 Keyword x 1 1)" \
@@ -457,8 +509,10 @@ case $help in
 esac
 expect 'help' 0 "$help\n" '' "$program" --help < /dev/null
 expect 'help, short' 0 "$help\n" '' "$program" -h sig < /dev/null
+expect 'help, a word' 0 "$help\n" '' "$program" help < /dev/null
 version=$(sed -n 's/^version = "\(.*\)"/\1/p' rust/Cargo.toml)
 expect 'version' 0 "wat_tokens $version, of wast 263.0.0\n" '' "$program" --version < /dev/null
+expect 'version, short' 0 "wat_tokens $version, of wast 263.0.0\n" '' "$program" -V < /dev/null
 output=/dev/full expect 'help, no room' 2 '' 'wat_tokens: write failed\n' "$program" --help < /dev/null
 
 # expect_wrong COMPLAINT WORDS..: words beyond those that were asked for, and what is said of them
@@ -469,17 +523,22 @@ expect_wrong() {
 }
 # wrong words of the commands beyond those that were asked for
 wrong_words_beyond() {
-    expect_wrong '--allow-confusing comes too late' blank --allow-confusing
-    expect_wrong '--strict-underscores comes too late' types --strict-underscores
-    expect_wrong '--json comes too late' list --json
     expect_wrong '--help comes too late' --allow-confusing --help
+    expect_wrong '-V comes too late' list -V
+    expect_wrong '-o has no name after it' module -o
+    expect_wrong '-o is given twice' module -o a.wasm --output b.wasm
+    expect_wrong '-o goes with module and types alone' list -o a.wasm
+    expect_wrong '--check, --write and --diff go with fmt alone' list --check
+    expect_wrong 'fmt takes one of --check, --write and --diff' fmt --check --write
     expect_wrong '--json is given twice' --json --json
+    expect_wrong '--json is given twice' --json list --json
     expect_wrong '--json is given twice' --json --allow-confusing --json
     expect_wrong '--file has no name after it' --file
     expect_wrong 'unknown option: --x' list --x
     expect_wrong 'no such command or file: foo' --json foo
     expect_wrong 'types and module take no flags' --allow-confusing types
     expect_wrong 'types and module take no flags' --strict-underscores module
+    expect_wrong 'types and module take no flags' types --strict-underscores
     expect_wrong '--json goes with list and sig alone' --json types
     expect_wrong '--json goes with list and sig alone' --json blank
     expect_wrong '--json goes with list and sig alone' --json play look

@@ -5,24 +5,25 @@ use Rattle.std.proofs.Math.Seq.{take-append_seam}
 use Rattle.std.proofs.lemmas.Bool.{eqb-true}
 use Rattle.std.proofs.lemmas.List.{append-nil, nil_from_length}
 use Rattle.std.specs.Option.{option_map}
-use Rattle.std.specs.Prelude.{max, nat_eq, string_bytes, Option, Some, None, IsSome, IfSome, is_some}
+use Rattle.std.specs.Prelude.{◌||◌, max, nat_eq, string_bytes, Option, Some, None, IsSome, IfSome, is_some}
 use Rattle.wat_lines.specs.declared.failed.Failed.{Failed}
-use Rattle.wat_options.specs.Options.{Word}
+use Rattle.wat_options.specs.Arguments.{Word}
 use Rattle.wat_options.specs.OptionSteps.{IsNext}
 use Rattle.wat_commands.specs.Outcomes.{status}
-use Rattle.wat_commands.specs.Responses.{Layer, LaidOutEach, Runner, RanEach, RanFiles, worst}
+use Rattle.wat_commands.specs.Responses.{Layer, LaidOutEach, Runner, RanEach, RanFiles, begun, was_opened, worst}
 use Rattle.wat_commands.specs.Responses.LaidOutEach.{no_file, one_more}
 use Rattle.wat_commands.specs.Responses.RanEach.{none, more}
 use Rattle.wat_commands.specs.declared.outcome.Outcome.{Outcome}
 
 -- those of the files were run that are not left
-pub record RanSoFar {I T : Type 0} (run : Runner I T) (failure : T → Option Failed) (files left : List Word) (inputs inputs' : I) (output output' : T) (exit : ℕ) : Type 0 where
+pub record RanSoFar {I T : Type 0} (run : Bool → Runner I T) (failure : T → Option Failed) (files left : List Word) (inputs inputs' : I) (output output' : T) (opened : Bool) (exit : ℕ) : Type 0 where
   pub done : List Word
   pub outcomes : List Outcome
   pub ran : RanEach run failure done outcomes inputs inputs' output output'
   pub all : files ≡ done ++ left
   pub count : length outcomes ≡ length done
   pub greatest : exit ≡ worst outcomes
+  pub first : opened ≡ begun outcomes
 
 max_assoc : (a b c : ℕ) → max a (max b c) ≡ max (max a b) c
 max_assoc a b c =
@@ -34,26 +35,40 @@ worst_more : (before : List Outcome) (outcome : Outcome) → worst (before ++ ou
 worst_more [] outcome = max_comm (status true outcome) 0
 worst_more (other ∷ before) outcome = ap (max (status true other)) (worst_more before outcome) ∙ max_assoc (status true other) (worst before) (status true outcome)
 
-pub none_ran : {I T : Type 0} (run : Runner I T) (failure : T → Option Failed) (files : List Word) (inputs : I) (output : T) → RanSoFar run failure files files inputs inputs output output 0
-none_ran run failure files inputs output = record { done = []; outcomes = []; ran = none inputs output; all = refl; count = refl; greatest = refl }
+begun_more : (before : List Outcome) (outcome : Outcome) → begun (before ++ outcome ∷ []) ≡ begun before || was_opened outcome
+begun_more [] outcome = or_false (was_opened outcome)
+  where
+    or_false : (b : Bool) → b || false ≡ b
+    or_false true = refl
+    or_false false = refl
+begun_more (other ∷ before) outcome = more (was_opened other) (begun (before ++ outcome ∷ [])) (begun before) (was_opened outcome) (begun_more before outcome)
+  where
+    more : (b all left right : Bool) → all ≡ left || right → b || all ≡ (b || left) || right
+    more true all left right e = refl
+    more false all left right e = e
+
+pub none_ran : {I T : Type 0} (run : Bool → Runner I T) (failure : T → Option Failed) (files : List Word) (inputs : I) (output : T) → RanSoFar run failure files files inputs inputs output output false 0
+none_ran run failure files inputs output = record { done = []; outcomes = []; ran = none inputs output; all = refl; count = refl; greatest = refl; first = refl }
 
 next_done : (files done left left' : List Word) (word : Word) → files ≡ done ++ left → left ≡ word ∷ left' → files ≡ (done ++ word ∷ []) ++ left'
 next_done files done left left' word e f = e ∙ ap (λ x. done ++ x) f ∙ sym (append_assoc done (word ∷ []) left')
 
 -- one file more
-pub one_more_ran : {I T : Type 0} (run : Runner I T) (failure : T → Option Failed) (files left left' : List Word) (name : List ℕ) (inputs between inputs' : I) (output within output' : T) (outcome : Outcome) (greatest greatest' exit : ℕ) → IsNext left name left' → RanSoFar run failure files left inputs between output within greatest → failure within ≡ None
-    → run name between inputs' within output' outcome → exit ≡ status true outcome → greatest' ≡ max greatest exit → RanSoFar run failure files left' inputs inputs' output output' greatest'
-one_more_ran run failure files left left' name inputs between inputs' output within output' outcome greatest greatest' exit next h f r x e = record {
+pub one_more_ran : {I T : Type 0} (run : Bool → Runner I T) (failure : T → Option Failed) (files left left' : List Word) (name : List ℕ) (inputs between inputs' : I) (output within output' : T) (outcome : Outcome) (opened opened' : Bool) (greatest greatest' exit : ℕ) → IsNext left name left' → RanSoFar run failure files left inputs between output within opened greatest → failure within ≡ None
+    → run opened name between inputs' within output' outcome → opened' ≡ opened || was_opened outcome → exit ≡ status true outcome → greatest' ≡ max greatest exit → RanSoFar run failure files left' inputs inputs' output output' opened' greatest'
+one_more_ran run failure files left left' name inputs between inputs' output within output' outcome opened opened' greatest greatest' exit next h f r b x e = record {
   done = h.done ++ next.word ∷ [];
   outcomes = h.outcomes ++ outcome ∷ [];
-  ran = more h.done (h.done ++ next.word ∷ []) next.word h.outcomes (h.outcomes ++ outcome ∷ []) outcome inputs between inputs' output within output' refl refl h.ran f (subst (λ n. run n between inputs' within output' outcome) (sym next.text) r);
+  ran = more h.done (h.done ++ next.word ∷ []) next.word h.outcomes (h.outcomes ++ outcome ∷ []) outcome inputs between inputs' output within output' refl refl h.ran f
+      (subst (λ o. run o (string_bytes next.word) between inputs' within output' outcome) h.first (subst (λ n. run opened n between inputs' within output' outcome) (sym next.text) r));
   all = next_done files h.done left left' next.word h.all next.all;
   count = length-append h.outcomes (outcome ∷ []) ∙ ap (λ m. m + 1) h.count ∙ sym (length-append h.done (next.word ∷ []));
   greatest = e ∙ ap (max greatest) x ∙ ap (λ m. max m (status true outcome)) h.greatest ∙ sym (worst_more h.outcomes outcome);
+  first = b ∙ ap (λ o. o || was_opened outcome) h.first ∙ sym (begun_more h.outcomes outcome);
 }
 
-pub all_ran : {I T : Type 0} (run : Runner I T) (failure : T → Option Failed) (files left : List Word) (inputs inputs' : I) (output output' : T) (greatest : ℕ) → RanSoFar run failure files left inputs inputs' output output' greatest → (left ≡ []) ⊎ IsSome (failure output') → RanFiles run failure files inputs inputs' output output' greatest
-all_ran run failure files left inputs inputs' output output' greatest h whole = record {
+pub all_ran : {I T : Type 0} (run : Bool → Runner I T) (failure : T → Option Failed) (files left : List Word) (inputs inputs' : I) (output output' : T) (opened : Bool) (greatest : ℕ) → RanSoFar run failure files left inputs inputs' output output' opened greatest → (left ≡ []) ⊎ IsSome (failure output') → RanFiles run failure files inputs inputs' output output' greatest
+all_ran run failure files left inputs inputs' output output' opened greatest h whole = record {
   outcomes = h.outcomes;
   ran = subst (λ fs. RanEach run failure fs h.outcomes inputs inputs' output output') (sym (ap (λ n. take n files) h.count ∙ ap (take (length h.done)) h.all ∙ take-append_seam h.done left)) h.ran;
   whole = elim whole [ inl e ↦ inl (h.count ∙ sym (ap length (h.all ∙ ap (λ x. h.done ++ x) e ∙ append-nil h.done))) | inr f ↦ inr f ];

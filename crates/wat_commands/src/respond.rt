@@ -1,5 +1,5 @@
 //! What the program answers to the words of its command line.
-ghost use Rattle.std.specs.Prelude.{◌≡◌, ◌⊎◌, ℕ, List, Bool, Option, None, IfSome, MatchResult, IsTrue, is_some};
+ghost use Rattle.std.specs.Prelude.{◌≡◌, ◌⊎◌, ℕ, List, Bool, Option, None, IfOk, IfSome, MatchResult, IsTrue, is_some};
 ghost use Rattle.std.specs.Prelude.{nat_lt, length};
 ghost use Rattle.std.specs.Option.{option_map};
 ghost use Rattle.wat_options.specs.Options.{file_names};
@@ -7,17 +7,20 @@ ghost use Rattle.wat_commands.specs.Outcomes.{exit_code, status};
 ghost use Rattle.wat_commands.specs.Printed.{task_prints};
 ghost use Rattle.wat_commands.specs.Responses.{Found, Gives, Fails, IsMeant, IsNotMeant, name_of};
 ghost use Rattle.wat_commands.specs.Responses.{Acted, LaidOutAll, LaidOutEach, RanFile, RanFileOf};
-ghost use Rattle.wat_commands.specs.Responses.{RanAll, RanFiles, RanWith, Responded, Says, label};
+ghost use Rattle.wat_commands.specs.Responses.{RanAll, RanFiles, RanInto, Responded, Says, label};
+ghost use Rattle.wat_commands.specs.Responses.{head, first_file, is_binary, is_plain_list, target_file};
+ghost use Rattle.wat_commands.specs.Responses.{Headed, Unheaded, was_opened};
 ghost use Rattle.wat_options.specs.declared.options.Mode.{Mode};
 ghost use Rattle.wat_lex.specs.declared.lexer.settings.Settings.{Settings};
 
 use crate::outcome::{Exit, Outcome, carry_out};
 use crate::run::RunFailure;
-use std::alloc::Global;
+use std::alloc::{AllocError, Global};
 use std::io;
 use wat_lex::lexer::Settings;
 use wat_lines::ends::{Failed, Sink, Source};
-use wat_options::complaint::complaint_of;
+use wat_lists::named::Shown;
+use wat_options::complaint::{Complaint, complaint_of};
 use wat_options::help::{help, version};
 use wat_options::options::{Command, FileNames, Mode, Task, file_in_question, read_words};
 
@@ -25,11 +28,19 @@ use wat_options::options::{Command, FileNames, Mode, Task, file_in_question, rea
 pub trait Inputs {
     type Input: Source + Drop;
 
+    type Output: Sink + Drop;
+
     // What opening each file gives, where that is known.
     ghost found: { Self → List ℕ → Found };
 
     // Whether there is a file of each name, where that is known.
     ghost there: { Self → List ℕ → Option Bool };
+
+    // Whether standard output is a terminal, where that is known.
+    ghost shown: { Self → Option Bool };
+
+    // This output writes the file of this name.
+    ghost writes: { Self → List ℕ → Self.Output → Type 0 };
 
     // Opening this file takes the one to the other.
     ghost opened: { Self → List ℕ → Self → Type 0 };
@@ -40,6 +51,15 @@ pub trait Inputs {
     /// Whether there is a file of this name.
     fn is_there(&self, file: &str) -> bool
         ensures { IfSome (there self.now file.now) (λ known. result ≡ known) };
+
+    /// Returns `true` if standard output is a terminal.
+    fn is_shown(&self) -> bool
+        ensures { IfSome (shown self.now) (λ known. result ≡ known) };
+
+    /// Returns the output that writes a file. It makes the file, or empties it, before the first byte.
+    fn create(&self, file: &str) -> Result<Self::Output, AllocError>
+        ensures { IfOk result (λ output. writes self.now file.now output
+            × (Self.Output.failure output ≡ None)) };
 
     /// Opens a file; `-` is standard input.
     fn open(&mut self, file: &str) -> Result<Self::Input, Failed>
@@ -82,13 +102,55 @@ fn label(several: bool, file: &str) -> Option<&str>
     if several { Some(name_of(file)) } else { None }
 }
 
-/// Writes what the task asks for of the text of a file. Where there are several files its lines of
-/// JSON have its name.
+/// Which of the files of a command comes next.
+#[derive(Clone, Copy)]
+struct Turn {
+    /// The command has several files.
+    several: bool,
+    /// One of the files before was opened.
+    begun: bool,
+}
+
+/// Returns `true` if the task is a list that is not JSON.
+fn is_plain_list(task: &Task<'_>) -> bool
+    ensures { result ≡ is_plain_list task.now }
+{
+    matches!(task, Task::List | Task::Sig(_))
+}
+
+/// Writes the line that names a file before its list, if there are several files; an empty line comes
+/// between two lists.
+fn write_head<W: Sink>(
+    alloc: Global,
+    turn: Turn,
+    task: &Task<'_>,
+    file: &str,
+    output: &mut W,
+) -> Result<(), RunFailure>
+    requires { W.failure output.old ≡ None }
+    ensures { MatchResult result
+        (λ _. Headed W.held W.failure (head turn.several turn.begun task.now file.now) output.old output.new)
+        (λ failure. Unheaded W.held W.failure (head turn.several turn.begun task.now file.now)
+            output.old output.new (Outcome.Refused failure)) }
+{
+    if !turn.several || !is_plain_list(task) {
+        return Ok(());
+    }
+    let gap = if turn.begun { "\n" } else { "" };
+    let head = format!(in alloc; "{gap}==> {} <==\n", Shown(name_of(file)))?;
+    match output.write_all(head.as_bytes()) {
+        Ok(()) => Ok(()),
+        Err(failed) => Err(RunFailure::Write(failed)),
+    }
+}
+
+/// Writes what the task asks for of the text of a file. If there are several files its lines of JSON
+/// have its name, and a list comes after a line with its name.
 fn run_file<I: Inputs, W: Sink>(
     alloc: Global,
     settings: Settings,
     task: &Task<'_>,
-    several: bool,
+    turn: Turn,
     inputs: &mut I,
     file: &str,
     output: &mut W,
@@ -96,34 +158,26 @@ fn run_file<I: Inputs, W: Sink>(
     requires { W.failure output.old ≡ None }
     ensures opened { I.opened inputs.old file.now inputs.new }
     ensures ran { RanFile I.Input.left I.Input.failure I.Input.has_ended W.held W.failure
-        (task_prints settings (label several file.now) task.now) (I.found inputs.old file.now)
+        (task_prints settings (label turn.several file.now) task.now)
+        (head turn.several turn.begun task.now file.now) (I.found inputs.old file.now)
         output.old output.new result }
 {
-    let label = label(several, file);
-    match inputs.open(file) {
-        Ok(mut input) => carry_out(alloc, settings, task, label, &mut input, output),
-        Err(failed) => Outcome::Unopened(failed),
+    let mut input = match inputs.open(file) {
+        Ok(input) => input,
+        Err(failed) => return Outcome::Unopened(failed),
+    };
+    if let Err(failure) = write_head(alloc, turn, task, file, output) {
+        return Outcome::Refused(failure);
     }
+    let label = label(turn.several, file);
+    carry_out(alloc, settings, task, label, &mut input, output)
 }
 
-/// Writes what the task asks for of the text of a file, and reports what the run ended in.
-fn run_and_report<I: Inputs, W: Sink, E: io::Write>(
-    alloc: Global,
-    settings: Settings,
-    task: &Task<'_>,
-    several: bool,
-    inputs: &mut I,
-    file: &str,
-    output: &mut W,
-    errors: &mut E,
-) -> Exit
-    requires { W.failure output.old ≡ None }
-    ensures { RanWith (λ f before after. RanFileOf I.opened I.found I.Input.left I.Input.failure
-        I.Input.has_ended W.held W.failure (task_prints settings (label several f) task.now) f before after)
-        file.now inputs.old inputs.new output.old output.new (exit_code result) }
+/// Returns `true` if the file of a run was opened.
+fn was_opened(outcome: &Outcome<'_>) -> bool
+    ensures { result ≡ was_opened outcome.now }
 {
-    let outcome = run_file(alloc, settings, task, several, inputs, file, output);
-    reported(alloc, &outcome, Some(name_of(file)), errors)
+    !matches!(outcome, Outcome::Unopened(_))
 }
 
 /// Writes what the task asks for of the text of each file, reports what each run ended in, and
@@ -138,21 +192,23 @@ fn run_files<I: Inputs, W: Sink, E: io::Write>(
     errors: &mut E,
 ) -> Exit
     requires { W.failure output.old ≡ None }
-    ensures { RanFiles (λ file before after. RanFileOf I.opened I.found I.Input.left I.Input.failure
-        I.Input.has_ended W.held W.failure
-        (task_prints settings (label (nat_lt 1 (length (file_names files.entry))) file) task.now)
-        file before after)
+    ensures { RanFiles (λ begun file before after. RanFileOf I.opened I.found I.Input.left
+        I.Input.failure I.Input.has_ended W.held W.failure
+        (nat_lt 1 (length (file_names files.entry))) begun settings task.now file before after)
         W.failure (file_names files.entry) inputs.old inputs.new output.old output.new (exit_code result) }
 {
     let several = files.are_several();
     let mut left = files;
+    let mut begun = false;
     let mut worst = Exit::idle();
     while !output.failed() {
         let Some(file) = left.next() else {
             return worst;
         };
-        let exit = run_and_report(alloc, settings, task, several, inputs, file, output, errors);
-        worst = worst.or(exit);
+        let turn = Turn { several, begun };
+        let outcome = run_file(alloc, settings, task, turn, inputs, file, output);
+        begun = begun || was_opened(&outcome);
+        worst = worst.or(reported(alloc, &outcome, Some(name_of(file)), errors));
     }
     worst
 }
@@ -169,17 +225,66 @@ fn run_all<I: Inputs, W: Sink, E: io::Write>(
     errors: &mut E,
 ) -> Exit
     requires { W.failure output.old ≡ None }
-    ensures { RanAll (λ file before after. RanFileOf I.opened I.found I.Input.left I.Input.failure
-        I.Input.has_ended W.held W.failure
-        (task_prints settings (label (nat_lt 1 (length (file_names files.entry))) file) task.now)
-        file before after)
+    ensures { RanAll (λ begun file before after. RanFileOf I.opened I.found I.Input.left
+        I.Input.failure I.Input.has_ended W.held W.failure
+        (nat_lt 1 (length (file_names files.entry))) begun settings task.now file before after)
         W.failure (file_names files.entry) inputs.old inputs.new output.old output.new (exit_code result) }
 {
     if !files.are_none() {
         return run_files(alloc, settings, task, inputs, files, output, errors);
     }
-    let outcome = run_file(alloc, settings, task, false, inputs, "-", output);
+    let turn = Turn {
+        several: false,
+        begun: false,
+    };
+    let outcome = run_file(alloc, settings, task, turn, inputs, "-", output);
     reported(alloc, &outcome, None, errors)
+}
+
+/// Returns the first of the files, or standard input if there is none.
+fn first_file(files: FileNames<'_>) -> &str
+    ensures { result.now ≡ first_file (file_names files.entry) }
+{
+    let mut left = files;
+    match left.next() {
+        Some(file) => file,
+        None => "-",
+    }
+}
+
+/// Writes what the task asks for of the text of a file to the file of a name, and reports what the run
+/// ended in.
+fn run_into<I: Inputs, E: io::Write>(
+    alloc: Global,
+    settings: Settings,
+    task: &Task<'_>,
+    inputs: &mut I,
+    file: &str,
+    target: &str,
+    errors: &mut E,
+) -> Exit
+    ensures { RanInto I.writes I.Output.failure
+        (λ file before after. RanFileOf I.opened I.found I.Input.left I.Input.failure I.Input.has_ended
+        I.Output.held I.Output.failure false false settings task.now file before after)
+        target.now file.now inputs.old inputs.new (exit_code result) }
+{
+    let mut output = match inputs.create(target) {
+        Ok(output) => output,
+        Err(refused) => {
+            let failure = RunFailure::from(refused);
+            return reported(alloc, &Outcome::Refused(failure), Some(target), errors);
+        }
+    };
+    let turn = Turn {
+        several: false,
+        begun: false,
+    };
+    let outcome = run_file(alloc, settings, task, turn, inputs, file, &mut output);
+    let name = match outcome {
+        Outcome::Refused(RunFailure::Write(_)) => target,
+        _ => name_of(file),
+    };
+    reported(alloc, &outcome, Some(name), errors)
 }
 
 /// Does what is asked with the layout of the text of each file, and answers the greatest status.
@@ -239,6 +344,26 @@ fn is_meant<I: Inputs>(words: &[String], inputs: &I) -> bool
     }
 }
 
+/// Returns the file that a target names; `-` is standard output.
+fn target_file(target: Option<&str>) -> Option<&str>
+    ensures { option_map (λ n. n.now) result ≡ target_file (option_map (λ n. n.now) target.entry) }
+{
+    match target {
+        Some("-") | None => None,
+        Some(name) => Some(name),
+    }
+}
+
+/// Returns `true` if a command writes the bytes of a module to standard output, which is not named.
+fn is_binary(command: &Command<'_>) -> bool
+    ensures { result ≡ is_binary command.now }
+{
+    matches!(
+        command,
+        Command::Run(_, Task::Types | Task::Module, None, _)
+    )
+}
+
 /// Does what the words ask for, which have a meaning.
 fn act<I: Inputs, W: Sink, E: io::Write>(
     alloc: Global,
@@ -248,17 +373,22 @@ fn act<I: Inputs, W: Sink, E: io::Write>(
     errors: &mut E,
 ) -> Exit
     requires { W.failure output.old ≡ None }
-    ensures { Acted W.held W.failure
-        (λ several settings task file before after. RanFileOf I.opened I.found I.Input.left
-        I.Input.failure I.Input.has_ended W.held W.failure (task_prints settings (label several file) task)
-        file before after)
+    ensures { Acted W.held W.failure I.writes I.Output.failure
+        (λ several begun settings task file before after. RanFileOf I.opened I.found I.Input.left
+        I.Input.failure I.Input.has_ended W.held W.failure several begun settings task file before after)
+        (λ settings task file before after. RanFileOf I.opened I.found I.Input.left I.Input.failure
+        I.Input.has_ended I.Output.held I.Output.failure false false settings task file before after)
         (λ settings mode file before after status. I.laid_out before settings mode file after status)
         command.now inputs.old inputs.new output.old output.new (exit_code result) }
 {
     match command {
-        Command::Run(settings, task, files) => {
-            run_all(alloc, *settings, task, inputs, *files, output, errors)
-        }
+        Command::Run(settings, task, target, files) => match target_file(*target) {
+            None => run_all(alloc, *settings, task, inputs, *files, output, errors),
+            Some(name) => {
+                let file = first_file(*files);
+                run_into(alloc, *settings, task, inputs, file, name, errors)
+            }
+        },
         Command::Format(settings, mode, files) => lay_out_all(*settings, *mode, inputs, *files),
         Command::Help => reported(alloc, &say(help(), output), None, errors),
         Command::Version => reported(alloc, &say(version(), output), None, errors),
@@ -275,10 +405,11 @@ pub fn respond<I: Inputs, W: Sink, E: io::Write>(
     errors: &mut E,
 ) -> Exit
     requires { W.failure output.old ≡ None }
-    ensures { Responded W.held W.failure (I.there inputs.old)
-        (λ several settings task file before after. RanFileOf I.opened I.found I.Input.left
-        I.Input.failure I.Input.has_ended W.held W.failure (task_prints settings (label several file) task)
-        file before after)
+    ensures { Responded W.held W.failure (I.there inputs.old) (I.shown inputs.old) I.writes I.Output.failure
+        (λ several begun settings task file before after. RanFileOf I.opened I.found I.Input.left
+        I.Input.failure I.Input.has_ended W.held W.failure several begun settings task file before after)
+        (λ settings task file before after. RanFileOf I.opened I.found I.Input.left I.Input.failure
+        I.Input.has_ended I.Output.held I.Output.failure false false settings task file before after)
         (λ settings mode file before after status. I.laid_out before settings mode file after status)
         words.now inputs.old inputs.new output.old output.new (exit_code result) }
 {
@@ -287,6 +418,9 @@ pub fn respond<I: Inputs, W: Sink, E: io::Write>(
         return reported(alloc, &Outcome::Wrong(complaint), None, errors);
     }
     match read_words(alloc, words) {
+        Ok(Some(command)) if is_binary(&command) && inputs.is_shown() => {
+            reported(alloc, &Outcome::Wrong(Complaint::Terminal), None, errors)
+        }
         Ok(Some(command)) => act(alloc, &command, inputs, output, errors),
         Ok(None) => {
             let complaint = complaint_of(words, true);

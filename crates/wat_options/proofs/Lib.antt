@@ -1,3 +1,4 @@
+mod ArgumentLaws
 mod CallLaws
-mod FrontLaws
+mod LineLaws
 mod OptionLaws

@@ -1,14 +1,21 @@
 -- What is said of words that ask for nothing. No part of the standard.
-use Rattle.std.specs.Prelude.{ℕ, Bool, false, ◌||◌, ◌&&◌, not, ◌==◌, List, [], ◌∷◌, ◌++◌, codes, length, Option, Some, None}
+use Rattle.std.specs.Prelude.{ℕ, Bool, false, ◌||◌, ◌&&◌, not, nat_lt, List, [], ◌∷◌, ◌++◌, codes, Option, Some, None, is_some}
 use Rattle.wat_lists.specs.Places.{visible}
-use Rattle.wat_options.specs.Options.{Word, spells, front_of, wants_json, verb_named, owns_words, looks_like_file, is_file}
+use Rattle.wat_options.specs.Arguments.{Word, spells, is_file, named_kind, after_front, times}
+use Rattle.wat_options.specs.Options.{parts_of, verb_named, owns_words, looks_like_file}
+use Rattle.wat_options.specs.declared.arguments.Kind.{Kind}
+use Rattle.wat_options.specs.declared.arguments.Kind.TheVariants as kind
 use Rattle.wat_options.specs.declared.complaint.Complaint.{Complaint}
-use Rattle.wat_options.specs.declared.complaint.Complaint.TheVariants.{Usage, Twice, Nameless, Late, Unknown, Nothing, NoJson, NoFlags, NoCall, Mixed, TooMany}
+use Rattle.wat_options.specs.declared.complaint.Complaint.TheVariants.{Usage, Twice, Nameless, Late, Unknown, Nothing, NoJson, NoFlags, NoCall, Mixed, TooMany, NoOutput, NoMode, Modes, Terminal}
 use Rattle.wat_options.specs.declared.options.Verb.{Verb}
 
--- an option that the usage line does not show
+-- help or the version is asked for
+abbrev pub asks_for_words : Word → Bool
+asks_for_words word = spells (codes "--help") word || (spells (codes "-h") word || (spells (codes "help") word || (spells (codes "--version") word || spells (codes "-V") word)))
+
+-- an option that the usage line does not show, or `help`
 abbrev pub is_own_option : Word → Bool
-is_own_option word = spells (codes "--file") word || (spells (codes "--help") word || (spells (codes "-h") word || spells (codes "--version") word))
+is_own_option word = is_some (named_kind word) || asks_for_words word
 
 -- The words after the options say something that goes beyond the usage line: a command of files, an option, or a file. A word that does not show
 -- that it is a file is one where such a file is there.
@@ -22,7 +29,10 @@ rest_goes_beyond there (word ∷ words) = by (verb_named word)
 
 -- the words say something that goes beyond the usage line
 abbrev pub goes_beyond : Bool → List Word → Bool
-goes_beyond there words = wants_json (front_of words) || (not (length (front_of words).files == 0) || rest_goes_beyond there (front_of words).rest)
+goes_beyond there words = gives kind.Json || (gives kind.Named || (gives kind.Output || rest_goes_beyond there (after_front words)))
+  where
+    gives : Kind → Bool
+    gives k = nat_lt 0 (times k (parts_of words).front)
 
 -- where more is said
 abbrev more : List ℕ
@@ -32,7 +42,7 @@ more = codes "\nwat_tokens --help lists the commands and their options"
 abbrev pub complaint : Complaint → List ℕ
 complaint Usage = codes "usage: wat_tokens [--allow-confusing] [--strict-underscores] [sig NAME.. | play CALL..]"
 complaint (Twice word) = codes "wat_tokens: " ++ (word.now ++ (codes " is given twice" ++ more))
-complaint Nameless = codes "wat_tokens: --file has no name after it" ++ more
+complaint (Nameless word) = codes "wat_tokens: " ++ (word.now ++ (codes " has no name after it" ++ more))
 complaint (Late word) = codes "wat_tokens: " ++ (word.now ++ (codes " comes too late" ++ more))
 complaint (Unknown word) = codes "wat_tokens: unknown option: " ++ (visible word.now ++ more)
 complaint (Nothing word) = codes "wat_tokens: no such command or file: " ++ (visible word.now ++ more)
@@ -41,3 +51,7 @@ complaint NoFlags = codes "wat_tokens: types and module take no flags" ++ more
 complaint NoCall = codes "wat_tokens: play takes calls of a parser alone" ++ more
 complaint Mixed = codes "wat_tokens: files are before -- or after it, not both" ++ more
 complaint TooMany = codes "wat_tokens: this command takes one file" ++ more
+complaint NoOutput = codes "wat_tokens: -o goes with module and types alone" ++ more
+complaint NoMode = codes "wat_tokens: --check, --write and --diff go with fmt alone" ++ more
+complaint Modes = codes "wat_tokens: fmt takes one of --check, --write and --diff" ++ more
+complaint Terminal = codes "wat_tokens: standard output is a terminal; -o FILE writes to a file"

@@ -1,11 +1,10 @@
 //! What is said of words that ask for nothing.
-ghost use Rattle.std.specs.Prelude.{◌≡◌, ◌↔◌, false};
-ghost use Rattle.wat_options.specs.Complaints.{goes_beyond, is_own_option, rest_goes_beyond};
+ghost use Rattle.std.specs.Prelude.{◌≡◌, ◌↔◌, false, is_some};
+ghost use Rattle.wat_options.specs.Arguments.{named_kind};
+ghost use Rattle.wat_options.specs.Complaints.{asks_for_words, goes_beyond, is_own_option, rest_goes_beyond};
 
-use crate::options::{
-    FileNames, Flag, Verb, after_options, is_file, looks_like_file, split_mode, split_verb, times,
-    verb_named, wants_json,
-};
+use crate::arguments::{Kind, after_front, first, is_file, times};
+use crate::options::{Line, Verb, looks_like_file, verb_named};
 use std::fmt;
 use wat_lists::named::Shown;
 
@@ -21,8 +20,8 @@ pub enum Complaint<'a> {
     Usage,
     /// A flag is given twice.
     Twice(&'a str),
-    /// `--file` has no name after it.
-    Nameless,
+    /// An option has no name after it.
+    Nameless(&'a str),
     /// An option comes after the place where it belongs.
     Late(&'a str),
     /// There is no such option.
@@ -39,6 +38,14 @@ pub enum Complaint<'a> {
     Mixed,
     /// The command takes one file.
     TooMany,
+    /// Only `types` and `module` take a file to write.
+    NoOutput,
+    /// Only `fmt` takes an option of what is done with layouts.
+    NoMode,
+    /// `fmt` takes one such option, once.
+    Modes,
+    /// The bytes of a module would go to a terminal.
+    Terminal,
 }
 
 impl fmt::Display for Complaint<'_> {
@@ -51,7 +58,9 @@ impl fmt::Display for Complaint<'_> {
         match self {
             Complaint::Usage => write!(f, "{USAGE}"),
             Complaint::Twice(word) => write!(f, "wat_tokens: {word} is given twice{MORE}"),
-            Complaint::Nameless => write!(f, "wat_tokens: --file has no name after it{MORE}"),
+            Complaint::Nameless(word) => {
+                write!(f, "wat_tokens: {word} has no name after it{MORE}")
+            }
             Complaint::Late(word) => write!(f, "wat_tokens: {word} comes too late{MORE}"),
             Complaint::Unknown(word) => {
                 write!(f, "wat_tokens: unknown option: {}{MORE}", Shown(word))
@@ -71,16 +80,45 @@ impl fmt::Display for Complaint<'_> {
                 "wat_tokens: files are before -- or after it, not both{MORE}"
             ),
             Complaint::TooMany => write!(f, "wat_tokens: this command takes one file{MORE}"),
+            Complaint::NoOutput => {
+                write!(f, "wat_tokens: -o goes with module and types alone{MORE}")
+            }
+            Complaint::NoMode => write!(
+                f,
+                "wat_tokens: --check, --write and --diff go with fmt alone{MORE}"
+            ),
+            Complaint::Modes => write!(
+                f,
+                "wat_tokens: fmt takes one of --check, --write and --diff{MORE}"
+            ),
+            Complaint::Terminal => write!(
+                f,
+                "wat_tokens: standard output is a terminal; -o FILE writes to a file"
+            ),
         }
     }
+}
+
+/// Whether a word is an option that a name follows.
+fn is_name_option(word: &String) -> bool
+    ensures { result ≡ is_some (named_kind word.now) }
+{
+    let text = word.as_str();
+    text == "--file" || text == "-o" || text == "--output"
+}
+
+/// Whether a word asks for help or the version.
+fn asks_for_words(word: &String) -> bool
+    ensures { result ≡ asks_for_words word.now }
+{
+    matches!(word.as_str(), "--help" | "-h" | "help" | "--version" | "-V")
 }
 
 /// Whether a word is an option that the usage line does not show.
 fn is_own_option(word: &String) -> bool
     ensures { result ≡ is_own_option word.now }
 {
-    let text = word.as_str();
-    text == "--file" || text == "--help" || text == "-h" || text == "--version"
+    is_name_option(word) || asks_for_words(word)
 }
 
 /// Whether the words after the options say something that goes beyond the usage line. A first word
@@ -101,101 +139,95 @@ fn rest_goes_beyond(words: &[String], there: bool) -> bool
 fn goes_beyond(words: &[String], there: bool) -> bool
     ensures { result ≡ goes_beyond there words.now }
 {
-    wants_json(words)
-        || !FileNames::of_options(words).are_none()
-        || rest_goes_beyond(after_options(words), there)
+    let line = Line::of(words);
+    times(Kind::Json, line.front) > 0
+        || times(Kind::Named, line.front) > 0
+        || times(Kind::Output, line.front) > 0
+        || rest_goes_beyond(after_front(words), there)
 }
 
-/// The flag that is given twice.
-fn twice(words: &[String]) -> Option<&'static str> {
-    if times(Flag::Allow, words) > 1 {
+/// The option that is given twice.
+fn twice(line: Line<'_>) -> Option<&'static str> {
+    if line.times(Kind::Allow) > 1 {
         return Some("--allow-confusing");
     }
-    if times(Flag::Strict, words) > 1 {
+    if line.times(Kind::Strict) > 1 {
         return Some("--strict-underscores");
     }
-    if times(Flag::Json, words) > 1 {
+    if line.times(Kind::Json) > 1 {
         return Some("--json");
+    }
+    if line.times(Kind::Output) > 1 {
+        return Some("-o");
     }
     None
 }
 
-/// Whether the word is an option in another place.
-fn is_option(word: &str) -> bool {
-    matches!(
-        word,
-        "--allow-confusing"
-            | "--strict-underscores"
-            | "--json"
-            | "--file"
-            | "--help"
-            | "-h"
-            | "--version"
-            | "--check"
-            | "--write"
-            | "--diff"
-    )
+/// What is wrong with an argument that is neither an option nor a file.
+fn wrong_argument(word: &String) -> Complaint<'_> {
+    if is_name_option(word) {
+        Complaint::Nameless(word.as_str())
+    } else if asks_for_words(word) {
+        Complaint::Late(word.as_str())
+    } else {
+        Complaint::Unknown(word.as_str())
+    }
 }
 
-/// What is wrong with the words that name files.
-fn wrong_files(words: &[String]) -> Complaint<'_> {
-    for word in words {
-        if word.as_str() == "--" {
-            break;
-        }
-        if !is_file(word) {
-            return if is_option(word) {
-                Complaint::Late(word.as_str())
-            } else {
-                Complaint::Unknown(word.as_str())
-            };
-        }
+/// Whether the arguments say what is done with layouts.
+fn has_mode(line: Line<'_>) -> bool {
+    line.times(Kind::Check) > 0 || line.times(Kind::Write) > 0 || line.times(Kind::Diff) > 0
+}
+
+/// What is wrong with the options of a command, each of which it may not take.
+fn wrong_options(line: Line<'_>) -> Option<Complaint<'_>> {
+    if !line.verb.takes(Kind::Json) && line.wants_json() {
+        return Some(Complaint::NoJson);
     }
-    match words.split_first() {
-        Some((first, rest))
-            if first.as_str() != "--" && rest.iter().any(|word| word.as_str() == "--") => {
-            Complaint::Mixed
-        }
+    if !line.verb.takes(Kind::Allow)
+        && (line.times(Kind::Allow) > 0 || line.times(Kind::Strict) > 0)
+    {
+        return Some(Complaint::NoFlags);
+    }
+    if !line.verb.takes(Kind::Output) && line.times(Kind::Output) > 0 {
+        return Some(Complaint::NoOutput);
+    }
+    if !line.verb.takes(Kind::Check) && has_mode(line) {
+        return Some(Complaint::NoMode);
+    }
+    None
+}
+
+/// What is wrong with a command and its arguments.
+fn wrong_command(line: Line<'_>) -> Complaint<'_> {
+    if let Some(complaint) = wrong_options(line) {
+        return complaint;
+    }
+    if let Some(word) = first(Kind::Wrong, line.args) {
+        return wrong_argument(word);
+    }
+    match line.verb {
+        Verb::Fmt if line.mode().is_none() => Complaint::Modes,
+        Verb::Play if !line.files().are_several() => Complaint::NoCall,
+        _ if line.times(Kind::File) > 0 && !line.last.is_empty() => Complaint::Mixed,
         _ => Complaint::TooMany,
-    }
-}
-
-/// What is wrong with a command and the words after its name.
-fn wrong_command(words: &[String]) -> Complaint<'_> {
-    let (verb, after) = split_verb(after_options(words));
-    if verb != Verb::List && verb != Verb::Sig && wants_json(words) {
-        return Complaint::NoJson;
-    }
-    match verb {
-        Verb::Types | Verb::Module
-            if times(Flag::Allow, words) > 0 || times(Flag::Strict, words) > 0 => {
-            Complaint::NoFlags
-        }
-        Verb::Fmt => wrong_files(split_mode(after).1),
-        Verb::Play if FileNames::of_options(words).are_several() => Complaint::TooMany,
-        Verb::Play if !after.is_empty() => Complaint::NoCall,
-        Verb::List | Verb::Sig | Verb::Play | Verb::Blank | Verb::Types | Verb::Module => {
-            wrong_files(after)
-        }
     }
 }
 
 /// What is wrong with words that go beyond the usage line.
 fn wrong_beyond(words: &[String], there: bool) -> Complaint<'_> {
-    if let Some(flag) = twice(words) {
+    let line = Line::of(words);
+    if let Some(flag) = twice(line) {
         return Complaint::Twice(flag);
     }
-    let Some((word, _)) = after_options(words).split_first() else {
-        return wrong_command(words);
+    let Some((word, _)) = after_front(words).split_first() else {
+        return wrong_command(line);
     };
-    if word.as_str() == "--file" {
-        return Complaint::Nameless;
-    }
     if is_own_option(word) {
-        return Complaint::Late(word.as_str());
+        return wrong_argument(word);
     }
     if verb_named(word).is_some() || looks_like_file(word) || (there && is_file(word)) {
-        return wrong_command(words);
+        return wrong_command(line);
     }
     if is_file(word) {
         Complaint::Nothing(word.as_str())

@@ -2,14 +2,14 @@
 ghost use Rattle.std.specs.Prelude.{◌≡◌};
 ghost use Rattle.wat_options.specs.Help.{help, version};
 
-/// What the program takes and does.
+/// Returns the commands, their options and what each does.
 pub fn help() -> &'static str
     ensures { result.now ≡ help }
 {
     HELP
 }
 
-/// The program's version, and whose lexer and parser it shows.
+/// Returns the program's version, and that of the crate `wast` whose lexer and parser it shows.
 pub fn version() -> &'static str
     ensures { result.now ≡ version }
 {
@@ -21,48 +21,53 @@ wat_tokens: the tokens of WebAssembly text
 
 usage: wat_tokens [OPTION..] [COMMAND] [FILE..]
 
-It reads FILE, or standard input where there is none or FILE is `-`, and writes standard output.
+It reads FILE, or standard input if there is none or FILE is `-`, and writes standard output.
 
-commands, `list` where none is named:
+commands; without one it is `list`:
   list         the raw tokens, a line each: first byte, end, kind
-  sig NAME..   the tokens that count: no white space, no comments, and no annotations
-               `(@name ..)` but those of the names
+  sig NAME..   the significant tokens: no whitespace, no comments, and no annotations
+               `(@name ..)` except those of the names
   play CALL..  the replies of a parser to calls, a line each
   blank        the text with spaces over its comments
-  types        the bytes of the module, where it holds nothing but function types
-  module       the bytes of the module, of the fields that are compiled as yet
-  fmt          the text laid out; with `--check` after it the names of the files that are not,
+  types        the bytes of the module, if all its fields are function types
+  module       the bytes of the module, of all fields of WebAssembly 2.0
+  fmt          the formatted text; with `--check` the names of the files that are not formatted,
                with `--diff` the lines that differ, with `--write` nothing: these files are
                rewritten; a folder is the `.wat` and `.wast` files below it
+  help         this text
 
-`list`, `sig` and `fmt` take any number of files, the others one. All words after `sig` and `play` are
-names and calls: their files are options. Without a command the first FILE is `-`, or has a `.` or a
-`/` in it, or is there. After `--` a FILE may begin with a dash.
+`list`, `sig` and `fmt` take any number of files, the others one. Of several files each list comes
+after a line `==> FILE <==`. All words after `sig` and `play` are names and calls: their files are
+options. Without a command the first FILE is `-`, or has a `.` or a `/` in it, or is there. After
+`--` a FILE may begin with a dash.
 
-options, which come before the command:
-  --allow-confusing     pass characters that can make a text look other than it is
-  --strict-underscores  refuse doubled underscores in `\\u{..}`
+options, before the command or, except with `sig` and `play`, anywhere after it:
+  --allow-confusing     accept characters that can make a text look other than it is
+  --strict-underscores  reject doubled underscores in `\\u{..}`
   --json                write each token of `list` or `sig` as a line of JSON: offset and length
-                        in bytes, kind, text, line and column; and a fault as the last line
+                        in bytes, kind, text, line and column; and an error as the last line
   --file NAME           read this file; may be given more than once
-  -h, --help            this text, also after `list`, `blank`, `types`, `module` and `fmt`
-  --version             the version
+  -o, --output FILE     write the bytes of `types` or `module` to FILE, if the text compiles; `-` is
+                        standard output, also if that is a terminal
+  -h, --help            this text, as first word or directly after a command
+  -V, --version         the version, as first word
 
 calls of a parser:
-  look        show the next token
-  take        show the next token, and step past it
-  comment     take the comment that comes next
-  reg=NAME    show the annotations of a name from here on
+  look        peek at the next token
+  take        return the next token, and advance past it
+  comment     return the comment that comes next, and advance past it
+  reg=NAME    make the annotations of a name visible from here on
   unreg=NAME  hide them again
-  parens=N    take a group in parentheses with up to N tokens in it
+  parens=N    parse a group in parentheses with up to N tokens in it
 
-exit status: 0 where all is written, 1 where a text has a fault, is no module or is not laid out,
+exit status: 0 if all is written, 1 if a text has a lexical or syntax error or is not formatted,
 2 otherwise.
 
 examples:
   wat_tokens a.wat
+  wat_tokens a.wat b.wat --json
   wat_tokens --file a.wat --file b.wat sig name
-  wat_tokens --json --file a.wat sig
+  wat_tokens module a.wat -o a.wasm
   wat_tokens fmt --write a.wat b.wat
   printf '(@a x) (func)' | wat_tokens play look reg=a take
 ";

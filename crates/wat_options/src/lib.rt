@@ -2,6 +2,7 @@
 //! for nothing, and what the program says of itself.
 #![tactic(auto)]
 
+pub(crate) mod arguments;
 pub mod complaint;
 pub mod help;
 pub mod options;

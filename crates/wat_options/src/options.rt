@@ -1,24 +1,24 @@
 //! The words of the command line.
-ghost use Rattle.std.specs.Prelude.{◌≡◌, ◌↔◌, ◌<◌, true, false, IfOk, OnErr, IfSome, IfNone, IsTrue};
-ghost use Rattle.std.specs.Prelude.{MatchOption, List, [], length, nat_eq, nat_lt, codes, string_bytes, All};
+ghost use Rattle.std.specs.Prelude.{◌≡◌, ◌≤◌, ◌<◌, true, false, IfOk, OnErr, IfSome, IfNone, IsTrue, ◌↔◌, ℕ};
+ghost use Rattle.std.specs.Prelude.{MatchOption, Option, List, [], length, nat_eq, nat_lt, codes, string_bytes};
 ghost use Rattle.std.specs.Option.{option_map};
-ghost use Rattle.std.specs.declared.alloc.Global.{Global};
 ghost use Rattle.std.specs.declared.string.String.{String};
+ghost use Rattle.std.specs.declared.alloc.Global.{Global};
 ghost use Rattle.wat_lex.specs.declared.lexer.settings.Settings.{Settings};
 ghost use Rattle.wat_lexer_parser.specs.declared.parser.calls.Call.{Call};
-ghost use Rattle.wat_options.specs.declared.options.Command.{Command};
 ghost use Rattle.wat_options.specs.declared.options.Mode.{Mode};
 ghost use Rattle.wat_options.specs.declared.options.Task.{Task};
 ghost use Rattle.wat_options.specs.declared.options.Verb.TheVariants as verbs;
-ghost use Rattle.wat_options.specs.Options.{calls_of, front_of, flag_of, no_options, times, wants_json, Selects};
-ghost use Rattle.wat_options.specs.Options.{spells, verb_named, verb_of, after_verb, mode_named, mode_of};
-ghost use Rattle.wat_options.specs.Options.{after_mode, own_len, own_words, last_words, is_file};
-ghost use Rattle.wat_options.specs.Options.{owns_words, takes_flags, takes_many, file_names, SpellsCalls, AsksTask};
-ghost use Rattle.wat_options.specs.Options.{HasFiles, NamesFiles, AsksFiles, AsksRun, AsksFormat, begins_with};
-ghost use Rattle.wat_options.specs.Options.{asks_help, begins_with_files, wants_help, Asks, AsksPlay, AsksNothing};
-ghost use Rattle.wat_options.specs.Options.{looks_like_file, file_in_question};
-ghost use Rattle.wat_options.specs.OptionSteps.{once_for, IsStep, IsNext};
+ghost use Rattle.wat_options.specs.Arguments.{args_of, first_of, is_file, times};
+ghost use Rattle.wat_options.specs.Options.{after_verb, all_args, asks_help, asks_version, begins_with, begins_with_files};
+ghost use Rattle.wat_options.specs.Options.{calls_of, file_in_question, file_names, files_of, is_known, last_words, line_parts};
+ghost use Rattle.wat_options.specs.Options.{looks_like_file, own_len, own_words, owns_words, parts_of, takes, takes_flags, takes_many};
+ghost use Rattle.wat_options.specs.Options.{take_all, verb_named, verb_of, wants_help, wants_json};
+ghost use Rattle.wat_options.specs.Options.{Asks, AsksFormat, AsksMode, AsksNothing, AsksPlay, AsksRun, AsksTask};
+ghost use Rattle.wat_options.specs.Options.{HasFiles, Selects, SpellsCalls};
+ghost use Rattle.wat_options.specs.OptionSteps.{IsNext};
 
+use crate::arguments::{Kind, after_front, first, is_file, next_argument, next_file, times};
 use std::alloc::{AllocError, Global};
 use wat_lex::lexer::Settings;
 use wat_lexer_parser::parser::Call;
@@ -77,11 +77,12 @@ pub enum Mode {
     Diff,
 }
 
-/// The names of the files of a command: those of its options, and then those of its words.
+/// The names of the files of a command, in the order in which its arguments give them.
 #[derive(Clone, Copy)]
 pub struct FileNames<'a> {
-    options: &'a [String],
-    words: &'a [String],
+    front: &'a [String],
+    args: &'a [String],
+    last: &'a [String],
 }
 
 /// What the words of the command line ask for.
@@ -92,8 +93,8 @@ pub enum Command<'a> {
     /// The version.
     Version,
     /// What is written of the texts of these files, which are read with these settings; of standard
-    /// input where there is none.
-    Run(Settings, Task<'a>, FileNames<'a>),
+    /// input where there is none. It is written to the file of this name, if there is one.
+    Run(Settings, Task<'a>, Option<&'a str>, FileNames<'a>),
     /// What is done with the layouts of the texts of these files, which are read with these settings;
     /// of standard input where there is none.
     Format(Settings, Mode, FileNames<'a>),
@@ -111,132 +112,170 @@ pub(crate) enum Verb {
     Fmt,
 }
 
-/// An option that is a word alone.
-#[derive(Clone, Copy, PartialEq, Eq)]
-pub(crate) enum Flag {
-    Allow,
-    Strict,
-    Json,
-}
-
-/// An option.
+/// The words of the command line in their parts.
 #[derive(Clone, Copy)]
-pub(crate) enum GivenOption<'a> {
-    Flag(Flag),
-    /// The name of a file.
-    File(&'a str),
+pub(crate) struct Line<'a> {
+    /// The options before the command.
+    pub(crate) front: &'a [String],
+    pub(crate) verb: Verb,
+    /// The names of `sig`, or the calls of `play`.
+    pub(crate) own: &'a [String],
+    /// The arguments of another command, up to `--`.
+    pub(crate) args: &'a [String],
+    /// The files after `--`.
+    pub(crate) last: &'a [String],
 }
 
-impl GivenOption<'_> {
-    /// One where it is this flag, and else zero.
-    fn once_for(self, flag: Flag) -> usize
-        ensures { result ≡ once_for flag self.entry }
+impl<'a> Line<'a> {
+    /// Splits words into their parts.
+    pub(crate) fn of(words: &'a [String]) -> Line<'a>
+        ensures { line_parts result ≡ parts_of words.now }
     {
-        match self {
-            GivenOption::Flag(given) if given == flag => 1,
-            GivenOption::Flag(_) | GivenOption::File(_) => 0,
+        let rest = after_front(words);
+        let (front, _) = words.split_at(words.len() - rest.len());
+        let (verb, after) = split_verb(rest);
+        if verb.owns_words() {
+            return Line {
+                front,
+                verb,
+                own: after,
+                args: &[],
+                last: &[],
+            };
+        }
+        let (args, last) = split_files(after);
+        Line {
+            front,
+            verb,
+            own: &[],
+            args,
+            last,
+        }
+    }
+
+    /// Returns how many arguments are of this kind.
+    pub(crate) fn times(&self, kind: Kind) -> usize
+        ensures { result ≡ times kind (all_args (line_parts self.now)) }
+    {
+        // The proof takes from here that there are not too many words to count.
+        let _ = self.front.iter();
+        let _ = self.args.iter();
+        times(kind, self.front) + times(kind, self.args)
+    }
+
+    /// Returns the name that the first argument of this kind gives.
+    fn first(&self, kind: Kind) -> Option<&'a str>
+        ensures { option_map (λ w. w.now) result
+            ≡ option_map string_bytes (first_of kind (all_args (line_parts self.now))) }
+    {
+        if let Some(name) = first(kind, self.front) {
+            return Some(name.as_str());
+        }
+        let Some(name) = first(kind, self.args) else {
+            return None;
+        };
+        Some(name.as_str())
+    }
+
+    /// Returns `true` if the lists are to be lines of JSON.
+    pub(crate) fn wants_json(&self) -> bool
+        ensures { result ≡ wants_json (all_args (line_parts self.now)) }
+    {
+        self.times(Kind::Json) > 0
+    }
+
+    /// Returns `true` if the command takes each of its arguments.
+    fn takes_all(&self) -> bool
+        ensures { result ≡ take_all self.now.verb (all_args (line_parts self.now)) }
+    {
+        takes_all(self.verb, self.front) && takes_all(self.verb, self.args)
+    }
+
+    /// Returns the names of the files.
+    pub(crate) fn files(&self) -> FileNames<'a>
+        ensures { file_names result ≡ files_of (line_parts self.now) }
+    {
+        FileNames {
+            front: self.front,
+            args: self.args,
+            last: self.last,
+        }
+    }
+
+    /// Returns `true` if files are named before `--` or after it, not both, and not too many.
+    fn has_files(&self) -> bool
+        ensures { IsTrue result ↔ HasFiles (line_parts self.now) (files_of (line_parts self.now)) }
+    {
+        (self.times(Kind::File) == 0 || self.last.is_empty())
+            && (self.verb.takes_many() || !self.files().are_several())
+    }
+
+    /// Returns the settings that the flags ask for, each of which is given at most once.
+    fn settings(&self) -> Option<Settings>
+        ensures selected { IfSome result (λ settings. Selects (all_args (line_parts self.now)) settings) }
+        ensures refused { IfNone result
+            ((settings : Settings) → ¬ Selects (all_args (line_parts self.now)) settings) }
+    {
+        let allow = self.times(Kind::Allow);
+        let strict = self.times(Kind::Strict);
+        if allow > 1 || strict > 1 || self.times(Kind::Json) > 1 {
+            return None;
+        }
+        Some(Settings {
+            allow: allow == 1,
+            strict: strict == 1,
+        })
+    }
+
+    /// Returns what is done with layouts, which at most one option says.
+    pub(crate) fn mode(&self) -> Option<Mode>
+        ensures asked { IfSome result (λ m. AsksMode (all_args (line_parts self.now)) m) }
+        ensures refused { IfNone result ((m : Mode) → ¬ AsksMode (all_args (line_parts self.now)) m) }
+    {
+        let check = self.times(Kind::Check);
+        let write = self.times(Kind::Write);
+        match (check, write, self.times(Kind::Diff)) {
+            (0, 0, 0) => Some(Mode::Print),
+            (1, 0, 0) => Some(Mode::Check),
+            (0, 1, 0) => Some(Mode::Write),
+            (0, 0, 1) => Some(Mode::Diff),
+            _ => None,
         }
     }
 }
 
-/// The flag of a name.
-fn flag_named(word: &String) -> Option<Flag>
-    ensures { result ≡ flag_of word.now }
-{
-    match word.as_str() {
-        "--allow-confusing" => Some(Flag::Allow),
-        "--strict-underscores" => Some(Flag::Strict),
-        "--json" => Some(Flag::Json),
-        _ => None,
-    }
-}
-
-/// Whether a word is the option that names a file.
-fn is_file_option(word: &String) -> bool
-    ensures { result ≡ spells (codes "--file") word.now }
-{
-    word.as_str() == "--file"
-}
-
-/// The option that the words begin with, and the words after it.
-fn next_option(words: &[String]) -> Option<(GivenOption<'_>, &[String])>
-    ensures { MatchOption result (front_of words.now ≡ no_options words.now)
-        (λ r. IsStep words.now r.0 r.1.now) }
-{
-    let Some((word, rest)) = words.split_first() else {
-        return None;
-    };
-    if let Some(flag) = flag_named(word) {
-        return Some((GivenOption::Flag(flag), rest));
-    }
-    if !is_file_option(word) {
-        return None;
-    }
-    let Some((name, after)) = rest.split_first() else {
-        return None;
-    };
-    Some((GivenOption::File(name.as_str()), after))
-}
-
-/// How often a flag is given before the other words.
-pub(crate) fn times(flag: Flag, words: &[String]) -> usize
-    ensures { result ≡ times flag (front_of words.now) }
-{
-    // The proof takes from here that there are not too many words to count.
-    let _ = words.iter();
-    let mut count = 0;
-    let mut rest = words;
-    while let Some((given, after)) = next_option(rest) {
-        count += given.once_for(flag);
-        rest = after;
-    }
-    count
-}
-
-/// The words after the options.
-pub(crate) fn after_options(words: &[String]) -> &[String]
-    ensures { result.now ≡ (front_of words.now).rest }
+/// Returns `true` if a command takes each of these arguments.
+fn takes_all(verb: Verb, words: &[String]) -> bool
+    ensures { result ≡ take_all verb (args_of words.now) }
 {
     let mut rest = words;
-    while let Some((_, after)) = next_option(rest) {
+    while let Some((argument, after)) = next_argument(rest) {
+        if !verb.takes(argument.kind) {
+            return false;
+        }
         rest = after;
     }
-    rest
-}
-
-/// Whether the lists are to be lines of JSON.
-pub(crate) fn wants_json(words: &[String]) -> bool
-    ensures { result ≡ wants_json (front_of words.now) }
-{
-    times(Flag::Json, words) > 0
+    true
 }
 
 impl<'a> FileNames<'a> {
-    /// The files that options give.
-    pub(crate) fn of_options(words: &'a [String]) -> FileNames<'a>
-        ensures { file_names result ≡ (front_of words.now).files }
-    {
-        FileNames {
-            options: words,
-            words: &[],
-        }
-    }
-
     /// Takes the next name.
     pub fn next(&mut self) -> Option<&'a str>
         ensures { MatchOption result (file_names self.old ≡ [])
             (λ name. IsNext (file_names self.old) name.now (file_names self.new)) }
     {
-        while let Some((given, rest)) = next_option(self.options) {
-            self.options = rest;
-            if let GivenOption::File(name) = given {
-                return Some(name);
-            }
+        if let Some((name, rest)) = next_file(self.front) {
+            self.front = rest;
+            return Some(name.as_str());
         }
-        let Some((name, rest)) = self.words.split_first() else {
+        if let Some((name, rest)) = next_file(self.args) {
+            self.args = rest;
+            return Some(name.as_str());
+        }
+        let Some((name, rest)) = self.last.split_first() else {
             return None;
         };
-        self.words = rest;
+        self.last = rest;
         Some(name.as_str())
     }
 
@@ -255,22 +294,6 @@ impl<'a> FileNames<'a> {
         let mut rest = *self;
         rest.next().is_none()
     }
-}
-
-/// The settings that the options ask for, each of which is given at most once.
-fn settings_of(words: &[String]) -> Option<Settings>
-    ensures selected { IfSome result (λ settings. Selects (front_of words.now) settings) }
-    ensures refused { IfNone result ((settings : Settings) → ¬ Selects (front_of words.now) settings) }
-{
-    let allow = times(Flag::Allow, words);
-    let strict = times(Flag::Strict, words);
-    if allow > 1 || strict > 1 || times(Flag::Json, words) > 1 {
-        return None;
-    }
-    Some(Settings {
-        allow: allow == 1,
-        strict: strict == 1,
-    })
 }
 
 /// The command of a name.
@@ -303,32 +326,6 @@ pub(crate) fn split_verb(words: &[String]) -> (Verb, &[String])
     }
 }
 
-/// What is done with layouts, by the name of an option.
-fn mode_named(word: &String) -> Option<Mode>
-    ensures { result ≡ mode_named word.now }
-{
-    match word.as_str() {
-        "--check" => Some(Mode::Check),
-        "--write" => Some(Mode::Write),
-        "--diff" => Some(Mode::Diff),
-        _ => None,
-    }
-}
-
-/// What is done with layouts, by the words after `fmt`, and those of them that come after that.
-pub(crate) fn split_mode(words: &[String]) -> (Mode, &[String])
-    ensures mode { result.0 ≡ mode_of words.now }
-    ensures after { result.1.now ≡ after_mode words.now }
-{
-    let Some((word, rest)) = words.split_first() else {
-        return (Mode::Print, words);
-    };
-    match mode_named(word) {
-        Some(mode) => (mode, rest),
-        None => (Mode::Print, words),
-    }
-}
-
 /// How many words come before `--`.
 fn own_len(words: &[String]) -> usize
     ensures { result ≡ own_len words.now }
@@ -349,19 +346,6 @@ fn split_files(words: &[String]) -> (&[String], &[String])
         Some((_, files)) => (own, files),
         None => (own, rest),
     }
-}
-
-/// Whether the word may name a file before `--`.
-pub(crate) fn is_file(word: &String) -> bool
-    ensures { result ≡ is_file word.now }
-{
-    word.as_str() == "-" || !word.as_bytes().starts_with(b"-")
-}
-
-fn are_files(words: &[String]) -> bool
-    ensures { IsTrue result ↔ All (λ word. is_file word ≡ true) words.now }
-{
-    words.iter().all(|word| is_file(word))
 }
 
 impl Verb {
@@ -385,13 +369,27 @@ impl Verb {
         }
     }
 
-    /// Whether settings of the lexer may come before it.
-    pub(crate) fn takes_flags(self) -> bool
+    /// Whether it takes settings of the lexer.
+    fn takes_flags(self) -> bool
         ensures { result ≡ takes_flags self }
     {
         match self {
             Verb::List | Verb::Sig | Verb::Play | Verb::Blank | Verb::Fmt => true,
             Verb::Types | Verb::Module => false,
+        }
+    }
+
+    /// Returns `true` if it takes arguments of this kind.
+    pub(crate) fn takes(self, kind: Kind) -> bool
+        ensures { result ≡ takes self kind }
+    {
+        match kind {
+            Kind::Allow | Kind::Strict => self.takes_flags(),
+            Kind::Json => matches!(self, Verb::List | Verb::Sig),
+            Kind::Check | Kind::Write | Kind::Diff => self == Verb::Fmt,
+            Kind::Output => matches!(self, Verb::Types | Verb::Module),
+            Kind::Named | Kind::File => true,
+            Kind::Wrong => false,
         }
     }
 }
@@ -449,104 +447,58 @@ fn task_of<'a>(
     })
 }
 
-/// The files that words name: those before `--`, or else those after it.
-fn named_files(words: &[String]) -> Option<&[String]>
-    ensures asked { IfSome result (λ files. NamesFiles words.now files.now) }
-    ensures refused { IfNone result
-        ((files : List (String Global)) → ¬ NamesFiles words.now files) }
-{
-    let (own, last) = split_files(words);
-    if own.is_empty() {
-        return Some(last);
-    }
-    if !are_files(own) || !last.is_empty() {
-        return None;
-    }
-    Some(own)
-}
-
-/// The files that the words after a command's name ask for.
-fn files_of(verb: Verb, words: &[String]) -> Option<&[String]>
-    ensures asked { IfSome result (λ files. AsksFiles verb words.now files.now) }
-    ensures refused { IfNone result
-        ((files : List (String Global)) → ¬ AsksFiles verb words.now files) }
-{
-    if verb.owns_words() {
-        return Some(&[]);
-    }
-    named_files(words)
-}
-
-/// The formatting that the words ask for: options, each flag at most once, and then `fmt` with its
-/// words and files. There is no JSON of layouts.
-fn format_of(words: &[String]) -> Option<Command<'_>>
+/// The formatting that the words ask for. There is no JSON of layouts.
+fn format_of<'a>(words: &'a [String], line: Line<'a>) -> Option<Command<'a>>
+    requires line { line_parts line ≡ parts_of words.now }
+    requires other { wants_help words.now ≡ false }
     ensures { MatchOption result
         ((s : Settings) (m : Mode) (files : List (String Global)) → ¬ AsksFormat words.now s m files)
         (Asks words.now) }
 {
-    let Some(settings) = settings_of(words) else {
-        return None;
-    };
-    let (verb, after) = split_verb(after_options(words));
-    if verb != Verb::Fmt || wants_json(words) {
+    if line.verb != Verb::Fmt || !line.takes_all() || !line.has_files() {
         return None;
     }
-    let (mode, rest) = split_mode(after);
-    let Some(own) = named_files(rest) else {
+    let Some(settings) = line.settings() else {
         return None;
     };
-    let files = FileNames {
-        options: words,
-        words: own,
+    let Some(mode) = line.mode() else {
+        return None;
     };
-    Some(Command::Format(settings, mode, files))
+    Some(Command::Format(settings, mode, line.files()))
 }
 
-/// The files of a command, where there are not too many.
-fn all_files<'a>(words: &'a [String], verb: Verb, after: &'a [String]) -> Option<FileNames<'a>>
-    ensures asked { IfSome result (λ files. HasFiles words.now verb after.now (file_names files)) }
-    ensures refused { IfNone result
-        ((files : List (String Global)) → ¬ HasFiles words.now verb after.now files) }
-{
-    let Some(own) = files_of(verb, after) else {
-        return None;
-    };
-    let files = FileNames {
-        options: words,
-        words: own,
-    };
-    if !verb.takes_many() && files.are_several() {
-        return None;
-    }
-    Some(files)
-}
-
-/// The run that the words ask for: options, each flag at most once, and then a command with its words
-/// and files; `types` and `module` without flags, and only a list as JSON.
-fn run_of<'a>(alloc: Global, words: &'a [String]) -> Result<Option<Command<'a>>, AllocError>
+/// The run that the words ask for.
+fn run_of<'a>(
+    alloc: Global,
+    words: &'a [String],
+    line: Line<'a>,
+) -> Result<Option<Command<'a>>, AllocError>
+    requires line { line_parts line ≡ parts_of words.now }
+    requires other { wants_help words.now ≡ false }
     ensures asked { IfOk result (λ command. MatchOption command
-        ((s : Settings) (t : Task) (files : List (String Global)) → ¬ AsksRun words.now s t files)
+        ((s : Settings) (t : Task) (o : Option (List ℕ)) (files : List (String Global)) →
+        ¬ AsksRun words.now s t o files)
         (Asks words.now)) }
     ensures refused { OnErr result (AsksPlay words.now) }
 {
-    let Some(settings) = settings_of(words) else {
-        return Ok(None);
-    };
-    let rest = after_options(words);
-    if begins_with("--", rest) {
+    let rest = after_front(words);
+    if begins_with("--", rest) || begins_with("help", rest) {
         return Ok(None);
     }
-    let (verb, after) = split_verb(rest);
-    if !verb.takes_flags() && (settings.allow || settings.strict) {
+    if !line.takes_all() || !line.has_files() {
         return Ok(None);
     }
-    let Some(files) = all_files(words, verb, after) else {
+    if line.times(Kind::Output) > 1 {
+        return Ok(None);
+    }
+    let Some(settings) = line.settings() else {
         return Ok(None);
     };
-    let Some(task) = task_of(alloc, verb, wants_json(words), after)? else {
+    let Some(task) = task_of(alloc, line.verb, line.wants_json(), line.own)? else {
         return Ok(None);
     };
-    Ok(Some(Command::Run(settings, task, files)))
+    let target = line.first(Kind::Output);
+    Ok(Some(Command::Run(settings, task, target, line.files())))
 }
 
 /// Whether the first word is this one.
@@ -563,7 +515,14 @@ pub(crate) fn begins_with(text: &str, words: &[String]) -> bool
 pub(crate) fn asks_help(words: &[String]) -> bool
     ensures { result ≡ asks_help words.now }
 {
-    begins_with("--help", words) || begins_with("-h", words)
+    begins_with("--help", words) || begins_with("-h", words) || begins_with("help", words)
+}
+
+/// Whether the first word asks for the version.
+fn asks_version(words: &[String]) -> bool
+    ensures { result ≡ asks_version words.now }
+{
+    begins_with("--version", words) || begins_with("-V", words)
 }
 
 /// Whether the words begin with the name of a command that takes files after it.
@@ -594,13 +553,14 @@ pub fn read_words<'a>(alloc: Global, words: &'a [String]) -> Result<Option<Comma
     if wants_help(words) {
         return Ok(Some(Command::Help));
     }
-    if begins_with("--version", words) {
+    if asks_version(words) {
         return Ok(Some(Command::Version));
     }
-    if let Some(command) = format_of(words) {
+    let line = Line::of(words);
+    if let Some(command) = format_of(words, line) {
         return Ok(Some(command));
     }
-    run_of(alloc, words)
+    run_of(alloc, words, line)
 }
 
 /// Whether a word shows that it names a file.
@@ -611,16 +571,23 @@ pub(crate) fn looks_like_file(word: &String) -> bool
     word.as_str() == "-" || (is_file(word) && (bytes.contains(&b'.') || bytes.contains(&b'/')))
 }
 
+/// Whether a word that is no option has a meaning without a file of its name.
+fn is_known(word: &String) -> bool
+    ensures { result ≡ is_known word.now }
+{
+    word.as_str() == "help" || verb_named(word).is_some() || looks_like_file(word)
+}
+
 /// The word that names a file only where one of that name is there: the first after the options,
 /// where it is no command and does not show that it names a file.
 pub fn file_in_question(words: &[String]) -> Option<&str>
     ensures { option_map (λ w. w.now) result
         ≡ option_map string_bytes (file_in_question words.now) }
 {
-    let Some((word, _)) = after_options(words).split_first() else {
+    let Some((word, _)) = after_front(words).split_first() else {
         return None;
     };
-    if verb_named(word).is_some() || looks_like_file(word) || !is_file(word) {
+    if is_known(word) || !is_file(word) {
         return None;
     }
     Some(word.as_str())

@@ -9,12 +9,15 @@ mod layout;
 mod patch;
 mod replace;
 mod report;
+mod target;
 
 use input::{Input, open};
 use layout::lay_out;
 use std::alloc::AllocError;
+use std::io::IsTerminal;
 use std::process::ExitCode;
 use std::{env, fs, io};
+use target::Target;
 use wat_commands::Settings;
 use wat_commands::complaint::Complaint;
 use wat_commands::ends::{Failed, Plain};
@@ -27,14 +30,20 @@ use wat_commands::run::RunFailure;
 #[derive(Drop)]
 struct Files<'a>(&'a HostRuntime);
 
-impl Inputs for Files<'_> {
+impl<'a> Inputs for Files<'a> {
     ghost use Rattle.std.specs.Prelude.{None};
 
     type Input = Plain<Input>;
 
+    type Output = Target<'a>;
+
     ghost found = { λ _ _. None };
 
     ghost there = { λ _ _. None };
+
+    ghost shown = { λ _. None };
+
+    ghost writes = { λ _ _ _. Unit {0} };
 
     ghost opened = { λ _ _ _. Unit {0} };
 
@@ -42,6 +51,14 @@ impl Inputs for Files<'_> {
 
     fn is_there(&self, file: &str) -> bool {
         fs::metadata(self.0, file).is_ok()
+    }
+
+    fn is_shown(&self) -> bool {
+        self.0.stdout().is_terminal()
+    }
+
+    fn create(&self, file: &str) -> Result<Target<'a>, AllocError> {
+        Target::new(self.0, file)
     }
 
     fn open(&mut self, file: &str) -> Result<Plain<Input>, Failed> {

@@ -9,12 +9,15 @@ mod layout;
 mod patch;
 mod replace;
 mod report;
+mod target;
 
 use input::{Input, open};
 use layout::lay_out;
 use crate::shim::alloc::AllocError;
+use crate::shim::io::IsTerminal;
 use crate::shim::process::ExitCode;
 use crate::shim::{env, fs, io};
+use target::Target;
 use crate::commands::Settings;
 use crate::commands::complaint::Complaint;
 use crate::commands::ends::{Failed, Plain};
@@ -26,11 +29,21 @@ use crate::commands::run::RunFailure;
 /// The files of the machine.
 struct Files<'a>(&'a HostRuntime);
 
-impl Inputs for Files<'_> {
+impl<'a> Inputs for Files<'a> {
     type Input = Plain<Input>;
+
+    type Output = Target<'a>;
 
     fn is_there(&self, file: &str) -> bool {
         fs::metadata(self.0, file).is_ok()
+    }
+
+    fn is_shown(&self) -> bool {
+        self.0.stdout().is_terminal()
+    }
+
+    fn create(&self, file: &str) -> Result<Target<'a>, AllocError> {
+        Target::new(self.0, file)
     }
 
     fn open(&mut self, file: &str) -> Result<Plain<Input>, Failed> {

@@ -2,21 +2,48 @@
 // A string for each line of a text that is made once does no harm.
 #![allow(clippy::format_collect)]
 
+use std::cell::RefCell;
+use std::rc::Rc;
 use wat_tokens::commands::Settings;
 use wat_tokens::commands::options::Mode;
 use wat_tokens::commands::outcome::{Exit, Outcome};
 use wat_tokens::commands::respond::{Inputs, respond};
-use wat_tokens::lines::ends::{Failed, Plain};
-use wat_tokens::shim::alloc::Global;
+use wat_tokens::lines::ends::{Failed, Plain, Sink};
+use wat_tokens::shim::alloc::{AllocError, Global};
 use wat_tokens::shim::prelude::String as Word;
 
 /// Files with their texts, and no others, and what was asked of them.
 struct Files<'a> {
     files: &'a [(&'a str, &'a [u8])],
     asked: Vec<String>,
+    is_shown: bool,
+    written: Rc<RefCell<Vec<u8>>>,
+}
+
+/// A file that is written.
+struct Target(Rc<RefCell<Vec<u8>>>);
+
+impl Sink for Target {
+    fn write_all(&mut self, bytes: &[u8]) -> Result<(), Failed> {
+        self.0.borrow_mut().extend_from_slice(bytes);
+        Ok(())
+    }
+
+    fn failed(&self) -> bool {
+        false
+    }
 }
 
 impl<'a> Files<'a> {
+    fn new(files: &'a [(&'a str, &'a [u8])]) -> Files<'a> {
+        Files {
+            files,
+            asked: Vec::new(),
+            is_shown: false,
+            written: Rc::default(),
+        }
+    }
+
     fn text(&self, file: &str) -> Option<&'a [u8]> {
         let mut files = self.files.iter();
         files.find(|(name, _)| *name == file).map(|(_, text)| *text)
@@ -25,9 +52,21 @@ impl<'a> Files<'a> {
 
 impl<'a> Inputs for Files<'a> {
     type Input = Plain<&'a [u8]>;
+    type Output = Target;
 
     fn is_there(&self, file: &str) -> bool {
         self.text(file).is_some()
+    }
+
+    fn is_shown(&self) -> bool {
+        self.is_shown
+    }
+
+    fn create(&self, file: &str) -> Result<Target, AllocError> {
+        self.written
+            .borrow_mut()
+            .extend_from_slice(format!("{file}: ").as_bytes());
+        Ok(Target(Rc::clone(&self.written)))
     }
 
     fn open(&mut self, file: &str) -> Result<Plain<&'a [u8]>, Failed> {
@@ -125,16 +164,28 @@ const ASKED: &[(&str, u8, &[&str])] = &[
         ],
     ),
     ("fmt --check --write", 2, &[]),
-    ("fmt a --check", 2, &[]),
+    ("fmt a --check", 1, &["Check false false a"]),
+    (
+        "fmt a --write --allow-confusing --file bad b",
+        2,
+        &[
+            "Write true false a",
+            "Write true false bad",
+            "Write true false b",
+        ],
+    ),
+    ("a --json b", 0, &["open a", "open b"]),
+    ("list a --file b bad", 1, &["open a", "open b", "open bad"]),
+    ("module a -o out", 1, &["open a"]),
+    ("module -o out", 1, &["open -"]),
+    ("module a -o out -o out", 2, &[]),
+    ("list a -o out", 2, &[]),
 ];
 
 #[test]
 fn each_file_is_asked_for_once_and_in_order() {
     for (words, status, asked) in ASKED {
-        let mut files = Files {
-            files: FILES,
-            asked: Vec::new(),
-        };
+        let mut files = Files::new(FILES);
         let (got, ..) = answer(words, &mut files);
         assert_eq!(
             (got, &files.asked[..]),
@@ -150,10 +201,8 @@ fn as_strings(lines: &[&str]) -> Vec<String> {
 
 /// Status, output and report of words over a text on standard input.
 fn answer_to(words: &str, text: &str) -> (u8, String, String) {
-    let mut files = Files {
-        files: &[("-", text.as_bytes())],
-        asked: Vec::new(),
-    };
+    let inputs = [("-", text.as_bytes())];
+    let mut files = Files::new(&inputs);
     let (status, output, report) = answer(words, &mut files);
     let text = |bytes| String::from_utf8(bytes).unwrap();
     (status, text(output), text(report))
@@ -215,4 +264,70 @@ fn a_string_that_stays_may_be_longer_than_a_block() {
     let string = format!("\"{}\"", "s".repeat(70_000));
     let text = format!("x (;y;){string};;z");
     assert!(answer_to("blank", &text) == done(format!("x      {string}   ")));
+}
+
+/// Words over a module, whether standard output is a terminal, their status, what they ask of files, what comes to standard output, and what is written
+/// to other files, after their names.
+const WRITTEN: &[(&str, bool, u8, &[&str], &[u8], &[u8])] = &[
+    ("module m", false, 0, &["open m"], EMPTY, b""),
+    ("module m", true, 2, &[], b"", b""),
+    ("types m", true, 2, &[], b"", b""),
+    ("module m -o -", true, 0, &["open m"], EMPTY, b""),
+    ("types --output - m", true, 0, &["open m"], EMPTY, b""),
+    (
+        "module m -o out",
+        false,
+        0,
+        &["open m"],
+        b"",
+        b"out: \0asm\x01\0\0\0",
+    ),
+    (
+        "-o out types m",
+        true,
+        0,
+        &["open m"],
+        b"",
+        b"out: \0asm\x01\0\0\0",
+    ),
+    ("module a -o out", false, 1, &["open a"], b"", b"out: "),
+    (
+        "module none -o out",
+        false,
+        2,
+        &["open none"],
+        b"",
+        b"out: ",
+    ),
+    (
+        "module bytes -o out",
+        true,
+        2,
+        &["open bytes"],
+        b"",
+        b"out: ",
+    ),
+    (
+        "list m",
+        true,
+        0,
+        &["open m"],
+        b"0..1 LParen\n1..7 Keyword\n7..8 RParen\n",
+        b"",
+    ),
+];
+
+const EMPTY: &[u8] = b"\0asm\x01\0\0\0";
+
+#[test]
+fn bytes_of_a_module_go_where_words_say() {
+    let texts: &[(&str, &[u8])] = &[("m", b"(module)"), ("a", b"x"), ("bytes", b"ab\xff")];
+    for (words, is_shown, status, asked, output, written) in WRITTEN {
+        let mut files = Files::new(texts);
+        files.is_shown = *is_shown;
+        let (got, bytes, _) = answer(words, &mut files);
+        assert_eq!((got, bytes.as_slice()), (*status, *output), "{words}");
+        assert_eq!(files.asked, as_strings(asked), "{words}");
+        assert_eq!(files.written.borrow().as_slice(), *written, "{words}");
+    }
 }

@@ -4,11 +4,12 @@
 use crate::shim::prelude::*;
 use crate::commands::outcome::{Exit, Outcome, carry_out};
 use crate::commands::run::RunFailure;
-use crate::shim::alloc::Global;
+use crate::shim::alloc::{AllocError, Global};
 use crate::shim::io;
 use wat_lex::proved::lexer::Settings;
 use crate::lines::ends::{Failed, Sink, Source};
-use crate::options::complaint::complaint_of;
+use crate::lists::named::Shown;
+use crate::options::complaint::{Complaint, complaint_of};
 use crate::options::help::{help, version};
 use crate::options::options::{Command, FileNames, Mode, Task, file_in_question, read_words};
 
@@ -16,9 +17,15 @@ use crate::options::options::{Command, FileNames, Mode, Task, file_in_question, 
 pub trait Inputs {
     type Input: Source;
 
+    type Output: Sink;
+
     // What opening each file gives, where that is known.
 
     // Whether there is a file of each name, where that is known.
+
+    // Whether standard output is a terminal, where that is known.
+
+    // This output writes the file of this name.
 
     // Opening this file takes the one to the other.
 
@@ -32,6 +39,25 @@ pub trait Inputs {
     /// ensures { IfSome (there self.now file.now) (λ known. result ≡ known) }
     /// ```
     fn is_there(&self, file: &str) -> bool;
+
+    /// Returns `true` if standard output is a terminal.
+    ///
+    /// # Proved
+    ///
+    /// ```text
+    /// ensures { IfSome (shown self.now) (λ known. result ≡ known) }
+    /// ```
+    fn is_shown(&self) -> bool;
+
+    /// Returns the output that writes a file. It makes the file, or empties it, before the first byte.
+    ///
+    /// # Proved
+    ///
+    /// ```text
+    /// ensures { IfOk result (λ output. writes self.now file.now output
+    /// × (Self.Output.failure output ≡ None)) }
+    /// ```
+    fn create(&self, file: &str) -> Result<Self::Output, AllocError>;
 
     /// Opens a file; `-` is standard input.
     ///
@@ -96,8 +122,58 @@ fn label(several: bool, file: &str) -> Option<&str> {
     if several { Some(name_of(file)) } else { None }
 }
 
-/// Writes what the task asks for of the text of a file. Where there are several files its lines of
-/// JSON have its name.
+/// Which of the files of a command comes next.
+#[derive(Clone, Copy)]
+struct Turn {
+    /// The command has several files.
+    several: bool,
+    /// One of the files before was opened.
+    begun: bool,
+}
+
+/// Returns `true` if the task is a list that is not JSON.
+///
+/// # Proved
+///
+/// ```text
+/// ensures { result ≡ is_plain_list task.now }
+/// ```
+fn is_plain_list(task: &Task<'_>) -> bool {
+    matches!(task, Task::List | Task::Sig(_))
+}
+
+/// Writes the line that names a file before its list, if there are several files; an empty line comes
+/// between two lists.
+///
+/// # Proved
+///
+/// ```text
+/// requires { W.failure output.old ≡ None }
+/// ensures { MatchResult result
+///     (λ _. Headed W.held W.failure (head turn.several turn.begun task.now file.now) output.old output.new)
+///     (λ failure. Unheaded W.held W.failure (head turn.several turn.begun task.now file.now)
+///         output.old output.new (Outcome.Refused failure)) }
+/// ```
+fn write_head<W: Sink>(
+    alloc: Global,
+    turn: Turn,
+    task: &Task<'_>,
+    file: &str,
+    output: &mut W,
+) -> Result<(), RunFailure> {
+    if !turn.several || !is_plain_list(task) {
+        return Ok(());
+    }
+    let gap = if turn.begun { "\n" } else { "" };
+    let head = try_format!(alloc; "{gap}==> {} <==\n", Shown(name_of(file)))?;
+    match output.write_all(head.as_bytes()) {
+        Ok(()) => Ok(()),
+        Err(failed) => Err(RunFailure::Write(failed)),
+    }
+}
+
+/// Writes what the task asks for of the text of a file. If there are several files its lines of JSON
+/// have its name, and a list comes after a line with its name.
 ///
 /// # Proved
 ///
@@ -105,47 +181,39 @@ fn label(several: bool, file: &str) -> Option<&str> {
 /// requires { W.failure output.old ≡ None }
 /// ensures opened { I.opened inputs.old file.now inputs.new }
 /// ensures ran { RanFile I.Input.left I.Input.failure I.Input.has_ended W.held W.failure
-///     (task_prints settings (label several file.now) task.now) (I.found inputs.old file.now)
+///     (task_prints settings (label turn.several file.now) task.now)
+///     (head turn.several turn.begun task.now file.now) (I.found inputs.old file.now)
 ///     output.old output.new result }
 /// ```
 fn run_file<I: Inputs, W: Sink>(
     alloc: Global,
     settings: Settings,
     task: &Task<'_>,
-    several: bool,
+    turn: Turn,
     inputs: &mut I,
     file: &str,
     output: &mut W,
 ) -> Outcome<'static> {
-    let label = label(several, file);
-    match inputs.open(file) {
-        Ok(mut input) => carry_out(alloc, settings, task, label, &mut input, output),
-        Err(failed) => Outcome::Unopened(failed),
+    let mut input = match inputs.open(file) {
+        Ok(input) => input,
+        Err(failed) => return Outcome::Unopened(failed),
+    };
+    if let Err(failure) = write_head(alloc, turn, task, file, output) {
+        return Outcome::Refused(failure);
     }
+    let label = label(turn.several, file);
+    carry_out(alloc, settings, task, label, &mut input, output)
 }
 
-/// Writes what the task asks for of the text of a file, and reports what the run ended in.
+/// Returns `true` if the file of a run was opened.
 ///
 /// # Proved
 ///
 /// ```text
-/// requires { W.failure output.old ≡ None }
-/// ensures { RanWith (λ f before after. RanFileOf I.opened I.found I.Input.left I.Input.failure
-///     I.Input.has_ended W.held W.failure (task_prints settings (label several f) task.now) f before after)
-///     file.now inputs.old inputs.new output.old output.new (exit_code result) }
+/// ensures { result ≡ was_opened outcome.now }
 /// ```
-fn run_and_report<I: Inputs, W: Sink, E: io::Write>(
-    alloc: Global,
-    settings: Settings,
-    task: &Task<'_>,
-    several: bool,
-    inputs: &mut I,
-    file: &str,
-    output: &mut W,
-    errors: &mut E,
-) -> Exit {
-    let outcome = run_file(alloc, settings, task, several, inputs, file, output);
-    reported(alloc, &outcome, Some(name_of(file)), errors)
+fn was_opened(outcome: &Outcome<'_>) -> bool {
+    !matches!(outcome, Outcome::Unopened(_))
 }
 
 /// Writes what the task asks for of the text of each file, reports what each run ended in, and
@@ -155,10 +223,9 @@ fn run_and_report<I: Inputs, W: Sink, E: io::Write>(
 ///
 /// ```text
 /// requires { W.failure output.old ≡ None }
-/// ensures { RanFiles (λ file before after. RanFileOf I.opened I.found I.Input.left I.Input.failure
-///     I.Input.has_ended W.held W.failure
-///     (task_prints settings (label (nat_lt 1 (length (file_names files.entry))) file) task.now)
-///     file before after)
+/// ensures { RanFiles (λ begun file before after. RanFileOf I.opened I.found I.Input.left
+///     I.Input.failure I.Input.has_ended W.held W.failure
+///     (nat_lt 1 (length (file_names files.entry))) begun settings task.now file before after)
 ///     W.failure (file_names files.entry) inputs.old inputs.new output.old output.new (exit_code result) }
 /// ```
 fn run_files<I: Inputs, W: Sink, E: io::Write>(
@@ -172,13 +239,16 @@ fn run_files<I: Inputs, W: Sink, E: io::Write>(
 ) -> Exit {
     let several = files.are_several();
     let mut left = files;
+    let mut begun = false;
     let mut worst = Exit::idle();
     while !output.failed() {
         let Some(file) = left.next() else {
             return worst;
         };
-        let exit = run_and_report(alloc, settings, task, several, inputs, file, output, errors);
-        worst = worst.or(exit);
+        let turn = Turn { several, begun };
+        let outcome = run_file(alloc, settings, task, turn, inputs, file, output);
+        begun = begun || was_opened(&outcome);
+        worst = worst.or(reported(alloc, &outcome, Some(name_of(file)), errors));
     }
     worst
 }
@@ -190,10 +260,9 @@ fn run_files<I: Inputs, W: Sink, E: io::Write>(
 ///
 /// ```text
 /// requires { W.failure output.old ≡ None }
-/// ensures { RanAll (λ file before after. RanFileOf I.opened I.found I.Input.left I.Input.failure
-///     I.Input.has_ended W.held W.failure
-///     (task_prints settings (label (nat_lt 1 (length (file_names files.entry))) file) task.now)
-///     file before after)
+/// ensures { RanAll (λ begun file before after. RanFileOf I.opened I.found I.Input.left
+///     I.Input.failure I.Input.has_ended W.held W.failure
+///     (nat_lt 1 (length (file_names files.entry))) begun settings task.now file before after)
 ///     W.failure (file_names files.entry) inputs.old inputs.new output.old output.new (exit_code result) }
 /// ```
 fn run_all<I: Inputs, W: Sink, E: io::Write>(
@@ -208,8 +277,66 @@ fn run_all<I: Inputs, W: Sink, E: io::Write>(
     if !files.are_none() {
         return run_files(alloc, settings, task, inputs, files, output, errors);
     }
-    let outcome = run_file(alloc, settings, task, false, inputs, "-", output);
+    let turn = Turn {
+        several: false,
+        begun: false,
+    };
+    let outcome = run_file(alloc, settings, task, turn, inputs, "-", output);
     reported(alloc, &outcome, None, errors)
+}
+
+/// Returns the first of the files, or standard input if there is none.
+///
+/// # Proved
+///
+/// ```text
+/// ensures { result.now ≡ first_file (file_names files.entry) }
+/// ```
+fn first_file(files: FileNames<'_>) -> &str {
+    let mut left = files;
+    match left.next() {
+        Some(file) => file,
+        None => "-",
+    }
+}
+
+/// Writes what the task asks for of the text of a file to the file of a name, and reports what the run
+/// ended in.
+///
+/// # Proved
+///
+/// ```text
+/// ensures { RanInto I.writes I.Output.failure
+/// (λ file before after. RanFileOf I.opened I.found I.Input.left I.Input.failure I.Input.has_ended
+/// I.Output.held I.Output.failure false false settings task.now file before after)
+/// target.now file.now inputs.old inputs.new (exit_code result) }
+/// ```
+fn run_into<I: Inputs, E: io::Write>(
+    alloc: Global,
+    settings: Settings,
+    task: &Task<'_>,
+    inputs: &mut I,
+    file: &str,
+    target: &str,
+    errors: &mut E,
+) -> Exit {
+    let mut output = match inputs.create(target) {
+        Ok(output) => output,
+        Err(refused) => {
+            let failure = RunFailure::from(refused);
+            return reported(alloc, &Outcome::Refused(failure), Some(target), errors);
+        }
+    };
+    let turn = Turn {
+        several: false,
+        begun: false,
+    };
+    let outcome = run_file(alloc, settings, task, turn, inputs, file, &mut output);
+    let name = match outcome {
+        Outcome::Refused(RunFailure::Write(_)) => target,
+        _ => name_of(file),
+    };
+    reported(alloc, &outcome, Some(name), errors)
 }
 
 /// Does what is asked with the layout of the text of each file, and answers the greatest status.
@@ -285,16 +412,45 @@ fn is_meant<I: Inputs>(words: &[String], inputs: &I) -> bool {
     }
 }
 
+/// Returns the file that a target names; `-` is standard output.
+///
+/// # Proved
+///
+/// ```text
+/// ensures { option_map (λ n. n.now) result ≡ target_file (option_map (λ n. n.now) target.entry) }
+/// ```
+fn target_file(target: Option<&str>) -> Option<&str> {
+    match target {
+        Some("-") | None => None,
+        Some(name) => Some(name),
+    }
+}
+
+/// Returns `true` if a command writes the bytes of a module to standard output, which is not named.
+///
+/// # Proved
+///
+/// ```text
+/// ensures { result ≡ is_binary command.now }
+/// ```
+fn is_binary(command: &Command<'_>) -> bool {
+    matches!(
+        command,
+        Command::Run(_, Task::Types | Task::Module, None, _)
+    )
+}
+
 /// Does what the words ask for, which have a meaning.
 ///
 /// # Proved
 ///
 /// ```text
 /// requires { W.failure output.old ≡ None }
-/// ensures { Acted W.held W.failure
-///     (λ several settings task file before after. RanFileOf I.opened I.found I.Input.left
-///     I.Input.failure I.Input.has_ended W.held W.failure (task_prints settings (label several file) task)
-///     file before after)
+/// ensures { Acted W.held W.failure I.writes I.Output.failure
+///     (λ several begun settings task file before after. RanFileOf I.opened I.found I.Input.left
+///     I.Input.failure I.Input.has_ended W.held W.failure several begun settings task file before after)
+///     (λ settings task file before after. RanFileOf I.opened I.found I.Input.left I.Input.failure
+///     I.Input.has_ended I.Output.held I.Output.failure false false settings task file before after)
 ///     (λ settings mode file before after status. I.laid_out before settings mode file after status)
 ///     command.now inputs.old inputs.new output.old output.new (exit_code result) }
 /// ```
@@ -306,9 +462,13 @@ fn act<I: Inputs, W: Sink, E: io::Write>(
     errors: &mut E,
 ) -> Exit {
     match command {
-        Command::Run(settings, task, files) => {
-            run_all(alloc, *settings, task, inputs, *files, output, errors)
-        }
+        Command::Run(settings, task, target, files) => match target_file(*target) {
+            None => run_all(alloc, *settings, task, inputs, *files, output, errors),
+            Some(name) => {
+                let file = first_file(*files);
+                run_into(alloc, *settings, task, inputs, file, name, errors)
+            }
+        },
         Command::Format(settings, mode, files) => lay_out_all(*settings, *mode, inputs, *files),
         Command::Help => reported(alloc, &say(help(), output), None, errors),
         Command::Version => reported(alloc, &say(version(), output), None, errors),
@@ -322,10 +482,11 @@ fn act<I: Inputs, W: Sink, E: io::Write>(
 ///
 /// ```text
 /// requires { W.failure output.old ≡ None }
-/// ensures { Responded W.held W.failure (I.there inputs.old)
-///     (λ several settings task file before after. RanFileOf I.opened I.found I.Input.left
-///     I.Input.failure I.Input.has_ended W.held W.failure (task_prints settings (label several file) task)
-///     file before after)
+/// ensures { Responded W.held W.failure (I.there inputs.old) (I.shown inputs.old) I.writes I.Output.failure
+///     (λ several begun settings task file before after. RanFileOf I.opened I.found I.Input.left
+///     I.Input.failure I.Input.has_ended W.held W.failure several begun settings task file before after)
+///     (λ settings task file before after. RanFileOf I.opened I.found I.Input.left I.Input.failure
+///     I.Input.has_ended I.Output.held I.Output.failure false false settings task file before after)
 ///     (λ settings mode file before after status. I.laid_out before settings mode file after status)
 ///     words.now inputs.old inputs.new output.old output.new (exit_code result) }
 /// ```
@@ -341,6 +502,9 @@ pub fn respond<I: Inputs, W: Sink, E: io::Write>(
         return reported(alloc, &Outcome::Wrong(complaint), None, errors);
     }
     match read_words(alloc, words) {
+        Ok(Some(command)) if is_binary(&command) && inputs.is_shown() => {
+            reported(alloc, &Outcome::Wrong(Complaint::Terminal), None, errors)
+        }
         Ok(Some(command)) => act(alloc, &command, inputs, output, errors),
         Ok(None) => {
             let complaint = complaint_of(words, true);

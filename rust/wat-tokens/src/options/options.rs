@@ -2,6 +2,7 @@
 //! The words of the command line.
 
 use crate::shim::prelude::*;
+use crate::options::arguments::{Kind, after_front, first, is_file, next_argument, next_file, times};
 use crate::shim::alloc::{AllocError, Global};
 use wat_lex::proved::lexer::Settings;
 use wat_parser::proved::parser::Call;
@@ -62,11 +63,12 @@ pub enum Mode {
     Diff,
 }
 
-/// The names of the files of a command: those of its options, and then those of its words.
+/// The names of the files of a command, in the order in which its arguments give them.
 #[derive(Clone, Copy)]
 pub struct FileNames<'a> {
-    options: &'a [String],
-    words: &'a [String],
+    front: &'a [String],
+    args: &'a [String],
+    last: &'a [String],
 }
 
 /// What the words of the command line ask for.
@@ -76,8 +78,8 @@ pub enum Command<'a> {
     /// The version.
     Version,
     /// What is written of the texts of these files, which are read with these settings; of standard
-    /// input where there is none.
-    Run(Settings, Task<'a>, FileNames<'a>),
+    /// input where there is none. It is written to the file of this name, if there is one.
+    Run(Settings, Task<'a>, Option<&'a str>, FileNames<'a>),
     /// What is done with the layouts of the texts of these files, which are read with these settings;
     /// of standard input where there is none.
     Format(Settings, Mode, FileNames<'a>),
@@ -95,149 +97,193 @@ pub(crate) enum Verb {
     Fmt,
 }
 
-/// An option that is a word alone.
-#[derive(Clone, Copy, PartialEq, Eq)]
-pub(crate) enum Flag {
-    Allow,
-    Strict,
-    Json,
-}
-
-/// An option.
+/// The words of the command line in their parts.
 #[derive(Clone, Copy)]
-pub(crate) enum GivenOption<'a> {
-    Flag(Flag),
-    /// The name of a file.
-    File(&'a str),
+pub(crate) struct Line<'a> {
+    /// The options before the command.
+    pub(crate) front: &'a [String],
+    pub(crate) verb: Verb,
+    /// The names of `sig`, or the calls of `play`.
+    pub(crate) own: &'a [String],
+    /// The arguments of another command, up to `--`.
+    pub(crate) args: &'a [String],
+    /// The files after `--`.
+    pub(crate) last: &'a [String],
 }
 
-impl GivenOption<'_> {
-    /// One where it is this flag, and else zero.
+impl<'a> Line<'a> {
+    /// Splits words into their parts.
     ///
     /// # Proved
     ///
     /// ```text
-    /// ensures { result ≡ once_for flag self.entry }
+    /// ensures { line_parts result ≡ parts_of words.now }
     /// ```
-    fn once_for(self, flag: Flag) -> usize {
-        match self {
-            GivenOption::Flag(given) if given == flag => 1,
-            GivenOption::Flag(_) | GivenOption::File(_) => 0,
+    pub(crate) fn of(words: &'a [String]) -> Line<'a> {
+        let rest = after_front(words);
+        let (front, _) = words.split_at(words.len() - rest.len());
+        let (verb, after) = split_verb(rest);
+        if verb.owns_words() {
+            return Line {
+                front,
+                verb,
+                own: after,
+                args: &[],
+                last: &[],
+            };
+        }
+        let (args, last) = split_files(after);
+        Line {
+            front,
+            verb,
+            own: &[],
+            args,
+            last,
+        }
+    }
+
+    /// Returns how many arguments are of this kind.
+    ///
+    /// # Proved
+    ///
+    /// ```text
+    /// ensures { result ≡ times kind (all_args (line_parts self.now)) }
+    /// ```
+    pub(crate) fn times(&self, kind: Kind) -> usize {
+        // The proof takes from here that there are not too many words to count.
+        let _ = self.front.iter();
+        let _ = self.args.iter();
+        times(kind, self.front) + times(kind, self.args)
+    }
+
+    /// Returns the name that the first argument of this kind gives.
+    ///
+    /// # Proved
+    ///
+    /// ```text
+    /// ensures { option_map (λ w. w.now) result
+    /// ≡ option_map string_bytes (first_of kind (all_args (line_parts self.now))) }
+    /// ```
+    fn first(&self, kind: Kind) -> Option<&'a str> {
+        if let Some(name) = first(kind, self.front) {
+            return Some(name.as_str());
+        }
+        let Some(name) = first(kind, self.args) else {
+            return None;
+        };
+        Some(name.as_str())
+    }
+
+    /// Returns `true` if the lists are to be lines of JSON.
+    ///
+    /// # Proved
+    ///
+    /// ```text
+    /// ensures { result ≡ wants_json (all_args (line_parts self.now)) }
+    /// ```
+    pub(crate) fn wants_json(&self) -> bool {
+        self.times(Kind::Json) > 0
+    }
+
+    /// Returns `true` if the command takes each of its arguments.
+    ///
+    /// # Proved
+    ///
+    /// ```text
+    /// ensures { result ≡ take_all self.now.verb (all_args (line_parts self.now)) }
+    /// ```
+    fn takes_all(&self) -> bool {
+        takes_all(self.verb, self.front) && takes_all(self.verb, self.args)
+    }
+
+    /// Returns the names of the files.
+    ///
+    /// # Proved
+    ///
+    /// ```text
+    /// ensures { file_names result ≡ files_of (line_parts self.now) }
+    /// ```
+    pub(crate) fn files(&self) -> FileNames<'a> {
+        FileNames {
+            front: self.front,
+            args: self.args,
+            last: self.last,
+        }
+    }
+
+    /// Returns `true` if files are named before `--` or after it, not both, and not too many.
+    ///
+    /// # Proved
+    ///
+    /// ```text
+    /// ensures { IsTrue result ↔ HasFiles (line_parts self.now) (files_of (line_parts self.now)) }
+    /// ```
+    fn has_files(&self) -> bool {
+        (self.times(Kind::File) == 0 || self.last.is_empty())
+            && (self.verb.takes_many() || !self.files().are_several())
+    }
+
+    /// Returns the settings that the flags ask for, each of which is given at most once.
+    ///
+    /// # Proved
+    ///
+    /// ```text
+    /// ensures selected { IfSome result (λ settings. Selects (all_args (line_parts self.now)) settings) }
+    /// ensures refused { IfNone result
+    ///     ((settings : Settings) → ¬ Selects (all_args (line_parts self.now)) settings) }
+    /// ```
+    fn settings(&self) -> Option<Settings> {
+        let allow = self.times(Kind::Allow);
+        let strict = self.times(Kind::Strict);
+        if allow > 1 || strict > 1 || self.times(Kind::Json) > 1 {
+            return None;
+        }
+        Some(Settings {
+            allow: allow == 1,
+            strict: strict == 1,
+        })
+    }
+
+    /// Returns what is done with layouts, which at most one option says.
+    ///
+    /// # Proved
+    ///
+    /// ```text
+    /// ensures asked { IfSome result (λ m. AsksMode (all_args (line_parts self.now)) m) }
+    /// ensures refused { IfNone result ((m : Mode) → ¬ AsksMode (all_args (line_parts self.now)) m) }
+    /// ```
+    pub(crate) fn mode(&self) -> Option<Mode> {
+        let check = self.times(Kind::Check);
+        let write = self.times(Kind::Write);
+        match (check, write, self.times(Kind::Diff)) {
+            (0, 0, 0) => Some(Mode::Print),
+            (1, 0, 0) => Some(Mode::Check),
+            (0, 1, 0) => Some(Mode::Write),
+            (0, 0, 1) => Some(Mode::Diff),
+            _ => None,
         }
     }
 }
 
-/// The flag of a name.
+/// Returns `true` if a command takes each of these arguments.
 ///
 /// # Proved
 ///
 /// ```text
-/// ensures { result ≡ flag_of word.now }
+/// ensures { result ≡ take_all verb (args_of words.now) }
 /// ```
-fn flag_named(word: &String) -> Option<Flag> {
-    match word.as_str() {
-        "--allow-confusing" => Some(Flag::Allow),
-        "--strict-underscores" => Some(Flag::Strict),
-        "--json" => Some(Flag::Json),
-        _ => None,
-    }
-}
-
-/// Whether a word is the option that names a file.
-///
-/// # Proved
-///
-/// ```text
-/// ensures { result ≡ spells (codes "--file") word.now }
-/// ```
-fn is_file_option(word: &String) -> bool {
-    word.as_str() == "--file"
-}
-
-/// The option that the words begin with, and the words after it.
-///
-/// # Proved
-///
-/// ```text
-/// ensures { MatchOption result (front_of words.now ≡ no_options words.now)
-/// (λ r. IsStep words.now r.0 r.1.now) }
-/// ```
-fn next_option(words: &[String]) -> Option<(GivenOption<'_>, &[String])> {
-    let Some((word, rest)) = words.split_first() else {
-        return None;
-    };
-    if let Some(flag) = flag_named(word) {
-        return Some((GivenOption::Flag(flag), rest));
-    }
-    if !is_file_option(word) {
-        return None;
-    }
-    let Some((name, after)) = rest.split_first() else {
-        return None;
-    };
-    Some((GivenOption::File(name.as_str()), after))
-}
-
-/// How often a flag is given before the other words.
-///
-/// # Proved
-///
-/// ```text
-/// ensures { result ≡ times flag (front_of words.now) }
-/// ```
-pub(crate) fn times(flag: Flag, words: &[String]) -> usize {
-    // The proof takes from here that there are not too many words to count.
-    let _ = words.iter();
-    let mut count = 0;
+fn takes_all(verb: Verb, words: &[String]) -> bool {
     let mut rest = words;
-    while let Some((given, after)) = next_option(rest) {
-        count += given.once_for(flag);
+    while let Some((argument, after)) = next_argument(rest) {
+        if !verb.takes(argument.kind) {
+            return false;
+        }
         rest = after;
     }
-    count
-}
-
-/// The words after the options.
-///
-/// # Proved
-///
-/// ```text
-/// ensures { result.now ≡ (front_of words.now).rest }
-/// ```
-pub(crate) fn after_options(words: &[String]) -> &[String] {
-    let mut rest = words;
-    while let Some((_, after)) = next_option(rest) {
-        rest = after;
-    }
-    rest
-}
-
-/// Whether the lists are to be lines of JSON.
-///
-/// # Proved
-///
-/// ```text
-/// ensures { result ≡ wants_json (front_of words.now) }
-/// ```
-pub(crate) fn wants_json(words: &[String]) -> bool {
-    times(Flag::Json, words) > 0
+    true
 }
 
 impl<'a> FileNames<'a> {
-    /// The files that options give.
-    ///
-    /// # Proved
-    ///
-    /// ```text
-    /// ensures { file_names result ≡ (front_of words.now).files }
-    /// ```
-    pub(crate) fn of_options(words: &'a [String]) -> FileNames<'a> {
-        FileNames {
-            options: words,
-            words: &[],
-        }
-    }
-
     /// Takes the next name.
     ///
     /// # Proved
@@ -247,16 +293,18 @@ impl<'a> FileNames<'a> {
     /// (λ name. IsNext (file_names self.old) name.now (file_names self.new)) }
     /// ```
     pub fn next(&mut self) -> Option<&'a str> {
-        while let Some((given, rest)) = next_option(self.options) {
-            self.options = rest;
-            if let GivenOption::File(name) = given {
-                return Some(name);
-            }
+        if let Some((name, rest)) = next_file(self.front) {
+            self.front = rest;
+            return Some(name.as_str());
         }
-        let Some((name, rest)) = self.words.split_first() else {
+        if let Some((name, rest)) = next_file(self.args) {
+            self.args = rest;
+            return Some(name.as_str());
+        }
+        let Some((name, rest)) = self.last.split_first() else {
             return None;
         };
-        self.words = rest;
+        self.last = rest;
         Some(name.as_str())
     }
 
@@ -283,26 +331,6 @@ impl<'a> FileNames<'a> {
         let mut rest = *self;
         rest.next().is_none()
     }
-}
-
-/// The settings that the options ask for, each of which is given at most once.
-///
-/// # Proved
-///
-/// ```text
-/// ensures selected { IfSome result (λ settings. Selects (front_of words.now) settings) }
-/// ensures refused { IfNone result ((settings : Settings) → ¬ Selects (front_of words.now) settings) }
-/// ```
-fn settings_of(words: &[String]) -> Option<Settings> {
-    let allow = times(Flag::Allow, words);
-    let strict = times(Flag::Strict, words);
-    if allow > 1 || strict > 1 || times(Flag::Json, words) > 1 {
-        return None;
-    }
-    Some(Settings {
-        allow: allow == 1,
-        strict: strict == 1,
-    })
 }
 
 /// The command of a name.
@@ -343,40 +371,6 @@ pub(crate) fn split_verb(words: &[String]) -> (Verb, &[String]) {
     }
 }
 
-/// What is done with layouts, by the name of an option.
-///
-/// # Proved
-///
-/// ```text
-/// ensures { result ≡ mode_named word.now }
-/// ```
-fn mode_named(word: &String) -> Option<Mode> {
-    match word.as_str() {
-        "--check" => Some(Mode::Check),
-        "--write" => Some(Mode::Write),
-        "--diff" => Some(Mode::Diff),
-        _ => None,
-    }
-}
-
-/// What is done with layouts, by the words after `fmt`, and those of them that come after that.
-///
-/// # Proved
-///
-/// ```text
-/// ensures mode { result.0 ≡ mode_of words.now }
-/// ensures after { result.1.now ≡ after_mode words.now }
-/// ```
-pub(crate) fn split_mode(words: &[String]) -> (Mode, &[String]) {
-    let Some((word, rest)) = words.split_first() else {
-        return (Mode::Print, words);
-    };
-    match mode_named(word) {
-        Some(mode) => (mode, rest),
-        None => (Mode::Print, words),
-    }
-}
-
 /// How many words come before `--`.
 ///
 /// # Proved
@@ -405,26 +399,6 @@ fn split_files(words: &[String]) -> (&[String], &[String]) {
         Some((_, files)) => (own, files),
         None => (own, rest),
     }
-}
-
-/// Whether the word may name a file before `--`.
-///
-/// # Proved
-///
-/// ```text
-/// ensures { result ≡ is_file word.now }
-/// ```
-pub(crate) fn is_file(word: &String) -> bool {
-    word.as_str() == "-" || !word.as_bytes().starts_with(b"-")
-}
-
-/// # Proved
-///
-/// ```text
-/// ensures { IsTrue result ↔ All (λ word. is_file word ≡ true) words.now }
-/// ```
-fn are_files(words: &[String]) -> bool {
-    words.iter().all(|word| is_file(word))
 }
 
 impl Verb {
@@ -456,17 +430,35 @@ impl Verb {
         }
     }
 
-    /// Whether settings of the lexer may come before it.
+    /// Whether it takes settings of the lexer.
     ///
     /// # Proved
     ///
     /// ```text
     /// ensures { result ≡ takes_flags self }
     /// ```
-    pub(crate) fn takes_flags(self) -> bool {
+    fn takes_flags(self) -> bool {
         match self {
             Verb::List | Verb::Sig | Verb::Play | Verb::Blank | Verb::Fmt => true,
             Verb::Types | Verb::Module => false,
+        }
+    }
+
+    /// Returns `true` if it takes arguments of this kind.
+    ///
+    /// # Proved
+    ///
+    /// ```text
+    /// ensures { result ≡ takes self kind }
+    /// ```
+    pub(crate) fn takes(self, kind: Kind) -> bool {
+        match kind {
+            Kind::Allow | Kind::Strict => self.takes_flags(),
+            Kind::Json => matches!(self, Verb::List | Verb::Sig),
+            Kind::Check | Kind::Write | Kind::Diff => self == Verb::Fmt,
+            Kind::Output => matches!(self, Verb::Types | Verb::Module),
+            Kind::Named | Kind::File => true,
+            Kind::Wrong => false,
         }
     }
 }
@@ -536,124 +528,66 @@ fn task_of<'a>(
     })
 }
 
-/// The files that words name: those before `--`, or else those after it.
+/// The formatting that the words ask for. There is no JSON of layouts.
 ///
 /// # Proved
 ///
 /// ```text
-/// ensures asked { IfSome result (λ files. NamesFiles words.now files.now) }
-/// ensures refused { IfNone result
-///     ((files : List (String Global)) → ¬ NamesFiles words.now files) }
-/// ```
-fn named_files(words: &[String]) -> Option<&[String]> {
-    let (own, last) = split_files(words);
-    if own.is_empty() {
-        return Some(last);
-    }
-    if !are_files(own) || !last.is_empty() {
-        return None;
-    }
-    Some(own)
-}
-
-/// The files that the words after a command's name ask for.
-///
-/// # Proved
-///
-/// ```text
-/// ensures asked { IfSome result (λ files. AsksFiles verb words.now files.now) }
-/// ensures refused { IfNone result
-///     ((files : List (String Global)) → ¬ AsksFiles verb words.now files) }
-/// ```
-fn files_of(verb: Verb, words: &[String]) -> Option<&[String]> {
-    if verb.owns_words() {
-        return Some(&[]);
-    }
-    named_files(words)
-}
-
-/// The formatting that the words ask for: options, each flag at most once, and then `fmt` with its
-/// words and files. There is no JSON of layouts.
-///
-/// # Proved
-///
-/// ```text
+/// requires line { line_parts line ≡ parts_of words.now }
+/// requires other { wants_help words.now ≡ false }
 /// ensures { MatchOption result
-/// ((s : Settings) (m : Mode) (files : List (String Global)) → ¬ AsksFormat words.now s m files)
-/// (Asks words.now) }
+///     ((s : Settings) (m : Mode) (files : List (String Global)) → ¬ AsksFormat words.now s m files)
+///     (Asks words.now) }
 /// ```
-fn format_of(words: &[String]) -> Option<Command<'_>> {
-    let Some(settings) = settings_of(words) else {
-        return None;
-    };
-    let (verb, after) = split_verb(after_options(words));
-    if verb != Verb::Fmt || wants_json(words) {
+fn format_of<'a>(words: &'a [String], line: Line<'a>) -> Option<Command<'a>> {
+    if line.verb != Verb::Fmt || !line.takes_all() || !line.has_files() {
         return None;
     }
-    let (mode, rest) = split_mode(after);
-    let Some(own) = named_files(rest) else {
+    let Some(settings) = line.settings() else {
         return None;
     };
-    let files = FileNames {
-        options: words,
-        words: own,
+    let Some(mode) = line.mode() else {
+        return None;
     };
-    Some(Command::Format(settings, mode, files))
+    Some(Command::Format(settings, mode, line.files()))
 }
 
-/// The files of a command, where there are not too many.
+/// The run that the words ask for.
 ///
 /// # Proved
 ///
 /// ```text
-/// ensures asked { IfSome result (λ files. HasFiles words.now verb after.now (file_names files)) }
-/// ensures refused { IfNone result
-///     ((files : List (String Global)) → ¬ HasFiles words.now verb after.now files) }
-/// ```
-fn all_files<'a>(words: &'a [String], verb: Verb, after: &'a [String]) -> Option<FileNames<'a>> {
-    let Some(own) = files_of(verb, after) else {
-        return None;
-    };
-    let files = FileNames {
-        options: words,
-        words: own,
-    };
-    if !verb.takes_many() && files.are_several() {
-        return None;
-    }
-    Some(files)
-}
-
-/// The run that the words ask for: options, each flag at most once, and then a command with its words
-/// and files; `types` and `module` without flags, and only a list as JSON.
-///
-/// # Proved
-///
-/// ```text
+/// requires line { line_parts line ≡ parts_of words.now }
+/// requires other { wants_help words.now ≡ false }
 /// ensures asked { IfOk result (λ command. MatchOption command
-///     ((s : Settings) (t : Task) (files : List (String Global)) → ¬ AsksRun words.now s t files)
+///     ((s : Settings) (t : Task) (o : Option (List ℕ)) (files : List (String Global)) →
+///     ¬ AsksRun words.now s t o files)
 ///     (Asks words.now)) }
 /// ensures refused { OnErr result (AsksPlay words.now) }
 /// ```
-fn run_of<'a>(alloc: Global, words: &'a [String]) -> Result<Option<Command<'a>>, AllocError> {
-    let Some(settings) = settings_of(words) else {
-        return Ok(None);
-    };
-    let rest = after_options(words);
-    if begins_with("--", rest) {
-        return Ok(None);
-    }
-    let (verb, after) = split_verb(rest);
-    if !verb.takes_flags() && (settings.allow || settings.strict) {
+fn run_of<'a>(
+    alloc: Global,
+    words: &'a [String],
+    line: Line<'a>,
+) -> Result<Option<Command<'a>>, AllocError> {
+    let rest = after_front(words);
+    if begins_with("--", rest) || begins_with("help", rest) {
         return Ok(None);
     }
-    let Some(files) = all_files(words, verb, after) else {
+    if !line.takes_all() || !line.has_files() {
+        return Ok(None);
+    }
+    if line.times(Kind::Output) > 1 {
+        return Ok(None);
+    }
+    let Some(settings) = line.settings() else {
         return Ok(None);
     };
-    let Some(task) = task_of(alloc, verb, wants_json(words), after)? else {
+    let Some(task) = task_of(alloc, line.verb, line.wants_json(), line.own)? else {
         return Ok(None);
     };
-    Ok(Some(Command::Run(settings, task, files)))
+    let target = line.first(Kind::Output);
+    Ok(Some(Command::Run(settings, task, target, line.files())))
 }
 
 /// Whether the first word is this one.
@@ -678,7 +612,18 @@ pub(crate) fn begins_with(text: &str, words: &[String]) -> bool {
 /// ensures { result ≡ asks_help words.now }
 /// ```
 pub(crate) fn asks_help(words: &[String]) -> bool {
-    begins_with("--help", words) || begins_with("-h", words)
+    begins_with("--help", words) || begins_with("-h", words) || begins_with("help", words)
+}
+
+/// Whether the first word asks for the version.
+///
+/// # Proved
+///
+/// ```text
+/// ensures { result ≡ asks_version words.now }
+/// ```
+fn asks_version(words: &[String]) -> bool {
+    begins_with("--version", words) || begins_with("-V", words)
 }
 
 /// Whether the words begin with the name of a command that takes files after it.
@@ -724,13 +669,14 @@ pub fn read_words<'a>(
     if wants_help(words) {
         return Ok(Some(Command::Help));
     }
-    if begins_with("--version", words) {
+    if asks_version(words) {
         return Ok(Some(Command::Version));
     }
-    if let Some(command) = format_of(words) {
+    let line = Line::of(words);
+    if let Some(command) = format_of(words, line) {
         return Ok(Some(command));
     }
-    run_of(alloc, words)
+    run_of(alloc, words, line)
 }
 
 /// Whether a word shows that it names a file.
@@ -745,6 +691,17 @@ pub(crate) fn looks_like_file(word: &String) -> bool {
     word.as_str() == "-" || (is_file(word) && (bytes.contains(&b'.') || bytes.contains(&b'/')))
 }
 
+/// Whether a word that is no option has a meaning without a file of its name.
+///
+/// # Proved
+///
+/// ```text
+/// ensures { result ≡ is_known word.now }
+/// ```
+fn is_known(word: &String) -> bool {
+    word.as_str() == "help" || verb_named(word).is_some() || looks_like_file(word)
+}
+
 /// The word that names a file only where one of that name is there: the first after the options,
 /// where it is no command and does not show that it names a file.
 ///
@@ -755,10 +712,10 @@ pub(crate) fn looks_like_file(word: &String) -> bool {
 /// ≡ option_map string_bytes (file_in_question words.now) }
 /// ```
 pub fn file_in_question(words: &[String]) -> Option<&str> {
-    let Some((word, _)) = after_options(words).split_first() else {
+    let Some((word, _)) = after_front(words).split_first() else {
         return None;
     };
-    if verb_named(word).is_some() || looks_like_file(word) || !is_file(word) {
+    if is_known(word) || !is_file(word) {
         return None;
     }
     Some(word.as_str())

@@ -17,6 +17,11 @@ impl File {
         fs::File::open(path).map(File)
     }
 
+    /// Opens a file to write it. It is made if it is not there, and emptied if it is.
+    pub fn create(_: &HostRuntime, path: &str) -> Result<File> {
+        fs::File::create(path).map(File)
+    }
+
     /// Makes a file, to read and write it. One that is there is an error of the kind `AlreadyExists`, and stays as it is.
     pub fn create_new(_: &HostRuntime, path: &str) -> Result<File> {
         fs::File::create_new(path).map(File)

@@ -1,6 +1,6 @@
 //! The handle of the process, and its standard streams.
 use crate::shim::alloc::Global;
-use crate::shim::io::{self, Read, Write};
+use crate::shim::io::{self, IsTerminal, Read, Write};
 use crate::shim::print;
 use core::fmt::Display;
 pub use std::io::Stderr;
@@ -55,6 +55,13 @@ pub struct Stdin;
 /// Standard output. A write is one of the system: nothing is kept to be written later, or again.
 #[derive(Clone, Copy, Debug)]
 pub struct Stdout;
+
+impl Stdout {
+    /// Returns `true` if it is a terminal.
+    pub fn is_terminal(&self) -> bool {
+        io::stdout().is_terminal()
+    }
+}
 
 impl Read for Stdin {
     fn read(&mut self, buffer: &mut [u8]) -> io::Result<usize> {

@@ -6,5 +6,5 @@ pub returns-clause-asked : goal.returns-clause-asked
 returns-clause-asked c =
     asked_or_nothing c.args.words.now c.run_of.result
     (λ h. let d : true ≡ false = sym h ∙ (sym c.wants_help.ensures ∙ c.if-wants_help.false) in cc)
-    (λ h. let d : true ≡ false = sym h ∙ (sym c.begins_with.ensures ∙ c.if-begins_with.false) in cc)
+    (λ h. let d : true ≡ false = sym h ∙ (sym c.asks_version.ensures ∙ c.if-asks_version.false) in cc)
     c.in_default.ensures c.run_of.ensures.asked
