@@ -88,9 +88,10 @@ expect 'report of a missing file' 'wat_tokens: missing: open failed: no such fil
 run 2 fmt --check missing messy
 expect '--check goes on' messy "$(cat out)"
 run 2 fmt --no-such-option
-run 2 fmt messy --check
-expect 'an option after a file' 'wat_tokens: --check comes too late' "$(head -1 err)"
+run 1 fmt messy --check
+expect 'an option after a file' messy "$(cat out)"
 run 2 fmt --check --write
+expect 'two options of what is done' 'wat_tokens: fmt takes one of --check, --write and --diff' "$(head -1 err)"
 run 2 --json fmt
 for words in '--write' '--write -' '--write -- -'; do
     # shellcheck disable=SC2086

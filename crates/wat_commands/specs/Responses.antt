@@ -20,7 +20,7 @@ use Rattle.wat_options.specs.declared.options.Mode.{Mode}
 use Rattle.wat_options.specs.declared.options.Task.{Task}
 use Rattle.wat_options.specs.declared.options.Task.TheVariants as task
 use Rattle.wat_commands.specs.declared.outcome.Outcome.{Outcome}
-use Rattle.wat_commands.specs.declared.outcome.Outcome.TheVariants.{Listed, Refused, Unopened}
+use Rattle.wat_commands.specs.declared.outcome.Outcome.TheVariants.{Listed, Faulty, Refused, Unopened, Wrong, Differs, Kept}
 
 -- What opening a file gives, where that is known: its bytes, or why it fails.
 abbrev pub Found : Type 0

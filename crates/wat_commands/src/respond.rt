@@ -1,5 +1,5 @@
 //! What the program answers to the words of its command line.
-ghost use Rattle.std.specs.Prelude.{◌≡◌, ◌⊎◌, ℕ, List, Bool, Option, None, IfOk, IfSome, MatchResult, IsTrue, is_some};
+ghost use Rattle.std.specs.Prelude.{◌≡◌, ◌⊎◌, ℕ, List, Bool, Option, None, false, IfOk, IfSome, MatchResult, IsTrue, is_some};
 ghost use Rattle.std.specs.Prelude.{nat_lt, length};
 ghost use Rattle.std.specs.Option.{option_map};
 ghost use Rattle.wat_options.specs.Options.{file_names};
@@ -207,7 +207,7 @@ fn run_files<I: Inputs, W: Sink, E: io::Write>(
         };
         let turn = Turn { several, begun };
         let outcome = run_file(alloc, settings, task, turn, inputs, file, output);
-        begun = begun || was_opened(&outcome);
+        begun |= was_opened(&outcome);
         worst = worst.or(reported(alloc, &outcome, Some(name_of(file)), errors));
     }
     worst

@@ -247,7 +247,7 @@ fn run_files<I: Inputs, W: Sink, E: io::Write>(
         };
         let turn = Turn { several, begun };
         let outcome = run_file(alloc, settings, task, turn, inputs, file, output);
-        begun = begun || was_opened(&outcome);
+        begun |= was_opened(&outcome);
         worst = worst.or(reported(alloc, &outcome, Some(name_of(file)), errors));
     }
     worst

@@ -1,4 +1,4 @@
-use Rattle.std.proofs.Common.{inl, inr, rules}
+use Rattle.std.proofs.Common.{inl, inr, rules, refl}
 use Rattle.wat_options.specs.Options.{file_names}
 use Rattle.wat_commands.specs.Outcomes.{exit_code}
 use Rattle.wat_commands.proofs.RespondLaws.{none_ran, one_more_ran, all_ran}
@@ -9,11 +9,11 @@ loop-left-init g c = rw c.idle-worst.ensures (none_ran _ g.W.Sink.failure (file_
 
 pub loop-left-preserved : goal.loop-left-preserved
 loop-left-preserved g c =
-    let ran = rw c.are_several-several.ensures at c.run_and_report-exit.ensures in
-    one_more_ran _ g.W.Sink.failure (file_names c.args.files) _ _ c.in-Some.file.now _ _ _ _ _ _ ran.0 (exit_code c.loop-left.worst) _ (exit_code c.run_and_report-exit.result) c.in-Some.ensures c.loop-left.invariant (search rules) ran.1 ran.2 c.or-worst.ensures
+    let ran = rw c.are_several-several.ensures at c.run_file-outcome.ensures.ran in
+    one_more_ran _ g.W.Sink.failure (file_names c.args.files) _ _ c.in-Some.file.now _ _ _ _ _ _ c.run_file-outcome.result c.loop-left.begun _ (exit_code c.loop-left.worst) _ (exit_code c.reported.result) c.in-Some.ensures c.loop-left.invariant (search rules) (c.run_file-outcome.ensures.opened, ran) (search rules) c.reported.ensures c.or-worst.ensures
 
 pub returns-in_default : goal.returns-in_default
-returns-in_default g c = all_ran _ g.W.Sink.failure (file_names c.args.files) _ _ _ _ _ (exit_code c.loop-left.worst) c.loop-left.invariant (inl c.in_default.ensures)
+returns-in_default g c = all_ran _ g.W.Sink.failure (file_names c.args.files) _ _ _ _ _ c.loop-left.begun (exit_code c.loop-left.worst) c.loop-left.invariant (inl c.in_default.ensures)
 
 pub returns : goal.returns
-returns g c = all_ran _ g.W.Sink.failure (file_names c.args.files) _ _ _ _ _ (exit_code c.loop-left.worst) c.loop-left.invariant (inr (search rules))
+returns g c = all_ran _ g.W.Sink.failure (file_names c.args.files) _ _ _ _ _ c.loop-left.begun (exit_code c.loop-left.worst) c.loop-left.invariant (inr (search rules))
