@@ -132,6 +132,12 @@ FAILURES = [
     ("wat_tokens/src/replace.rt", "From<AllocError> for Kept::from", "Kept::Unwritten(io::Error::from(refused))", "of the refused request"),
     ("wat_commands/src/respond.rt", "respond", "reported(alloc, &Outcome::Wrong(complaint), None, errors) }", "of words that ask for nothing, by the contract of `respond`"),
     ("wat_commands/src/respond.rt", "respond", "return reported(alloc, &Outcome::Wrong(complaint), None, errors)", "of a word that names no file, by the same"),
+    (
+        "wat_commands/src/respond.rt",
+        "respond",
+        "reported(alloc, &Outcome::Wrong(Complaint::Terminal), None, errors)",
+        "of bytes that would go to a terminal, by the same",
+    ),
     ("wat_tokens/src/main.rt", "not_read", "Outcome::Wrong(Complaint::Usage)", "of words that can't be read"),
     ("wat_tokens/src/report.rt", "complain", "Outcome::Kept.exit(true)", "of what was reported"),
     ("wat_commands/src/outcome.rt", "Exit::or", "Exit { code: self.code.max(other.code) }", "of two statuses"),

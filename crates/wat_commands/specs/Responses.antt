@@ -199,10 +199,14 @@ Acted held write_failed writes failed run run_into lay Version inputs inputs' ou
 abbrev pub IsLet : Option Bool → Command → Type 0
 IsLet shown command = (is_binary command ≡ false) ⊎ IfSome shown (λ known. known ≡ false)
 
+-- they go to standard output, and that is a terminal, where that is known
+abbrev pub IsStopped : Option Bool → Command → Type 0
+IsStopped shown command = (is_binary command ≡ true) × IfSome shown (λ known. known ≡ true)
+
 -- What the words came to, and the exit status. What they ask for was done; or they ask for nothing, or for bytes on a terminal, or there was no memory
 -- for the calls of `play`, and nothing was opened or written.
 pub data Responded {I T O : Type 0} (held : T → Option (List ℕ)) (write_failed : T → Option Failed) (there : List ℕ → Option Bool) (shown : Option Bool) (writes : I → List ℕ → O → Type 0) (failed : O → Option Failed) (run : Bool → Bool → Settings → Task → Runner I T) (run_into : Settings → Task → Runner I O) (lay : Settings → Mode → Layer I) (words : List Word) (inputs inputs' : I) (output output' : T) (exit : ℕ) : Type 0 where
   acted : (command : Command) → Asks words command → IsMeant there words → IsLet shown command → Acted held write_failed writes failed run run_into lay command inputs inputs' output output' exit → Responded held write_failed there shown writes failed run run_into lay words inputs inputs' output output' exit
   wrong : AsksNothing words ⊎ IsNotMeant there words → exit ≡ 2 → inputs' ≡ inputs → output' ≡ output → Responded held write_failed there shown writes failed run run_into lay words inputs inputs' output output' exit
-  on_terminal : (command : Command) → Asks words command → is_binary command ≡ true → IfSome shown (λ known. known ≡ true) → exit ≡ 2 → inputs' ≡ inputs → output' ≡ output → Responded held write_failed there shown writes failed run run_into lay words inputs inputs' output output' exit
+  on_terminal : (command : Command) → Asks words command → IsStopped shown command → exit ≡ 2 → inputs' ≡ inputs → output' ≡ output → Responded held write_failed there shown writes failed run run_into lay words inputs inputs' output output' exit
   unread : AsksPlay words → exit ≡ 2 → inputs' ≡ inputs → output' ≡ output → Responded held write_failed there shown writes failed run run_into lay words inputs inputs' output output' exit

@@ -9,7 +9,7 @@ ghost use Rattle.wat_commands.specs.Responses.{Found, Gives, Fails, IsMeant, IsN
 ghost use Rattle.wat_commands.specs.Responses.{Acted, LaidOutAll, LaidOutEach, RanFile, RanFileOf};
 ghost use Rattle.wat_commands.specs.Responses.{RanAll, RanFiles, RanInto, Responded, Says, label};
 ghost use Rattle.wat_commands.specs.Responses.{head, first_file, is_binary, is_plain_list, target_file};
-ghost use Rattle.wat_commands.specs.Responses.{Headed, Unheaded, was_opened};
+ghost use Rattle.wat_commands.specs.Responses.{Headed, IsLet, IsStopped, RanTo, Unheaded, was_opened};
 ghost use Rattle.wat_options.specs.declared.options.Mode.{Mode};
 ghost use Rattle.wat_lex.specs.declared.lexer.settings.Settings.{Settings};
 
@@ -131,7 +131,7 @@ fn write_head<W: Sink>(
     ensures { MatchResult result
         (λ _. Headed W.held W.failure (head turn.several turn.begun task.now file.now) output.old output.new)
         (λ failure. Unheaded W.held W.failure (head turn.several turn.begun task.now file.now)
-            output.old output.new (Outcome.Refused failure)) }
+        output.old output.new (Outcome.Refused failure)) }
 {
     if !turn.several || !is_plain_list(task) {
         return Ok(());
@@ -354,6 +354,42 @@ fn target_file(target: Option<&str>) -> Option<&str>
     }
 }
 
+/// Writes what the task asks for of the text of each file to standard output, or of the one file to
+/// the file of a name, and reports what each run ended in.
+fn run_to<I: Inputs, W: Sink, E: io::Write>(
+    alloc: Global,
+    settings: Settings,
+    task: &Task<'_>,
+    target: Option<&str>,
+    inputs: &mut I,
+    files: FileNames<'_>,
+    output: &mut W,
+    errors: &mut E,
+) -> Exit
+    requires { W.failure output.old ≡ None }
+    ensures { RanTo W.failure I.writes I.Output.failure
+        (λ begun file before after. RanFileOf I.opened I.found I.Input.left I.Input.failure
+        I.Input.has_ended W.held W.failure (nat_lt 1 (length (file_names files.entry))) begun settings
+        task.now file before after)
+        (λ file before after. RanFileOf I.opened I.found I.Input.left I.Input.failure I.Input.has_ended
+        I.Output.held I.Output.failure false false settings task.now file before after)
+        (target_file (option_map (λ t. t.now) target.entry)) (file_names files.entry)
+        inputs.old inputs.new output.old output.new (exit_code result) }
+{
+    match target_file(target) {
+        None => run_all(alloc, settings, task, inputs, files, output, errors),
+        Some(name) => run_into(
+            alloc,
+            settings,
+            task,
+            inputs,
+            first_file(files),
+            name,
+            errors,
+        ),
+    }
+}
+
 /// Returns `true` if a command writes the bytes of a module to standard output, which is not named.
 fn is_binary(command: &Command<'_>) -> bool
     ensures { result ≡ is_binary command.now }
@@ -362,6 +398,17 @@ fn is_binary(command: &Command<'_>) -> bool
         command,
         Command::Run(_, Task::Types | Task::Module, None, _)
     )
+}
+
+/// Returns `true` if a command does not write the bytes of a module to a terminal, which is not named.
+fn is_let<I: Inputs>(command: &Command<'_>, inputs: &I) -> bool
+    ensures allowed { IsTrue result → IsLet (I.shown inputs.now) command.now }
+    ensures stopped { IsTrue result ⊎ IsStopped (I.shown inputs.now) command.now }
+{
+    if !is_binary(command) {
+        return true;
+    }
+    !inputs.is_shown()
 }
 
 /// Does what the words ask for, which have a meaning.
@@ -382,13 +429,9 @@ fn act<I: Inputs, W: Sink, E: io::Write>(
         command.now inputs.old inputs.new output.old output.new (exit_code result) }
 {
     match command {
-        Command::Run(settings, task, target, files) => match target_file(*target) {
-            None => run_all(alloc, *settings, task, inputs, *files, output, errors),
-            Some(name) => {
-                let file = first_file(*files);
-                run_into(alloc, *settings, task, inputs, file, name, errors)
-            }
-        },
+        Command::Run(settings, task, target, files) => run_to(
+            alloc, *settings, task, *target, inputs, *files, output, errors,
+        ),
         Command::Format(settings, mode, files) => lay_out_all(*settings, *mode, inputs, *files),
         Command::Help => reported(alloc, &say(help(), output), None, errors),
         Command::Version => reported(alloc, &say(version(), output), None, errors),
@@ -418,10 +461,12 @@ pub fn respond<I: Inputs, W: Sink, E: io::Write>(
         return reported(alloc, &Outcome::Wrong(complaint), None, errors);
     }
     match read_words(alloc, words) {
-        Ok(Some(command)) if is_binary(&command) && inputs.is_shown() => {
-            reported(alloc, &Outcome::Wrong(Complaint::Terminal), None, errors)
+        Ok(Some(command)) => {
+            if !is_let(&command, inputs) {
+                return reported(alloc, &Outcome::Wrong(Complaint::Terminal), None, errors);
+            }
+            act(alloc, &command, inputs, output, errors)
         }
-        Ok(Some(command)) => act(alloc, &command, inputs, output, errors),
         Ok(None) => {
             let complaint = complaint_of(words, true);
             reported(alloc, &Outcome::Wrong(complaint), None, errors)

@@ -426,6 +426,46 @@ fn target_file(target: Option<&str>) -> Option<&str> {
     }
 }
 
+/// Writes what the task asks for of the text of each file to standard output, or of the one file to
+/// the file of a name, and reports what each run ended in.
+///
+/// # Proved
+///
+/// ```text
+/// requires { W.failure output.old ≡ None }
+/// ensures { RanTo W.failure I.writes I.Output.failure
+///     (λ begun file before after. RanFileOf I.opened I.found I.Input.left I.Input.failure
+///     I.Input.has_ended W.held W.failure (nat_lt 1 (length (file_names files.entry))) begun settings
+///     task.now file before after)
+///     (λ file before after. RanFileOf I.opened I.found I.Input.left I.Input.failure I.Input.has_ended
+///     I.Output.held I.Output.failure false false settings task.now file before after)
+///     (target_file (option_map (λ t. t.now) target.entry)) (file_names files.entry)
+///     inputs.old inputs.new output.old output.new (exit_code result) }
+/// ```
+fn run_to<I: Inputs, W: Sink, E: io::Write>(
+    alloc: Global,
+    settings: Settings,
+    task: &Task<'_>,
+    target: Option<&str>,
+    inputs: &mut I,
+    files: FileNames<'_>,
+    output: &mut W,
+    errors: &mut E,
+) -> Exit {
+    match target_file(target) {
+        None => run_all(alloc, settings, task, inputs, files, output, errors),
+        Some(name) => run_into(
+            alloc,
+            settings,
+            task,
+            inputs,
+            first_file(files),
+            name,
+            errors,
+        ),
+    }
+}
+
 /// Returns `true` if a command writes the bytes of a module to standard output, which is not named.
 ///
 /// # Proved
@@ -438,6 +478,21 @@ fn is_binary(command: &Command<'_>) -> bool {
         command,
         Command::Run(_, Task::Types | Task::Module, None, _)
     )
+}
+
+/// Returns `true` if a command does not write the bytes of a module to a terminal, which is not named.
+///
+/// # Proved
+///
+/// ```text
+/// ensures allowed { IsTrue result → IsLet (I.shown inputs.now) command.now }
+/// ensures stopped { IsTrue result ⊎ IsStopped (I.shown inputs.now) command.now }
+/// ```
+fn is_let<I: Inputs>(command: &Command<'_>, inputs: &I) -> bool {
+    if !is_binary(command) {
+        return true;
+    }
+    !inputs.is_shown()
 }
 
 /// Does what the words ask for, which have a meaning.
@@ -462,13 +517,9 @@ fn act<I: Inputs, W: Sink, E: io::Write>(
     errors: &mut E,
 ) -> Exit {
     match command {
-        Command::Run(settings, task, target, files) => match target_file(*target) {
-            None => run_all(alloc, *settings, task, inputs, *files, output, errors),
-            Some(name) => {
-                let file = first_file(*files);
-                run_into(alloc, *settings, task, inputs, file, name, errors)
-            }
-        },
+        Command::Run(settings, task, target, files) => run_to(
+            alloc, *settings, task, *target, inputs, *files, output, errors,
+        ),
         Command::Format(settings, mode, files) => lay_out_all(*settings, *mode, inputs, *files),
         Command::Help => reported(alloc, &say(help(), output), None, errors),
         Command::Version => reported(alloc, &say(version(), output), None, errors),
@@ -502,10 +553,12 @@ pub fn respond<I: Inputs, W: Sink, E: io::Write>(
         return reported(alloc, &Outcome::Wrong(complaint), None, errors);
     }
     match read_words(alloc, words) {
-        Ok(Some(command)) if is_binary(&command) && inputs.is_shown() => {
-            reported(alloc, &Outcome::Wrong(Complaint::Terminal), None, errors)
+        Ok(Some(command)) => {
+            if !is_let(&command, inputs) {
+                return reported(alloc, &Outcome::Wrong(Complaint::Terminal), None, errors);
+            }
+            act(alloc, &command, inputs, output, errors)
         }
-        Ok(Some(command)) => act(alloc, &command, inputs, output, errors),
         Ok(None) => {
             let complaint = complaint_of(words, true);
             reported(alloc, &Outcome::Wrong(complaint), None, errors)
