@@ -11,7 +11,7 @@ use wat_tokens::commands::outcome::{Exit, Outcome};
 use wat_tokens::commands::respond::{Inputs, respond};
 use wat_tokens::lines::ends::{Failed, Plain};
 use wat_tokens::lists::fmt::run_fmt;
-use wat_tokens::shim::alloc::Global;
+use wat_tokens::shim::alloc::{AllocError, Global};
 use wat_tokens::shim::prelude::String as Word;
 
 /// A text that is read so many bytes a call, and fails at a call.
@@ -107,9 +107,18 @@ impl<'a> One<'a> {
 
 impl<'a> Inputs for One<'a> {
     type Input = Plain<Text<'a>>;
+    type Output = Plain<Vec<u8>>;
 
     fn is_there(&self, _: &str) -> bool {
         true
+    }
+
+    fn is_shown(&self) -> bool {
+        false
+    }
+
+    fn create(&self, _: &str) -> std::result::Result<Plain<Vec<u8>>, AllocError> {
+        Ok(Plain::new(Vec::new()))
     }
 
     fn open(&mut self, _: &str) -> std::result::Result<Plain<Text<'a>>, Failed> {
