@@ -14,7 +14,7 @@ use wat_tokens::shim::prelude::String as Word;
 
 /// Files with their texts, and no others, and what was asked of them.
 struct Files<'a> {
-    files: &'a [(&'a str, &'a [u8])],
+    texts: &'a [(&'a str, &'a [u8])],
     asked: Vec<String>,
     is_shown: bool,
     written: Rc<RefCell<Vec<u8>>>,
@@ -35,9 +35,9 @@ impl Sink for Target {
 }
 
 impl<'a> Files<'a> {
-    fn new(files: &'a [(&'a str, &'a [u8])]) -> Files<'a> {
+    fn new(texts: &'a [(&'a str, &'a [u8])]) -> Files<'a> {
         Files {
-            files,
+            texts,
             asked: Vec::new(),
             is_shown: false,
             written: Rc::default(),
@@ -45,7 +45,7 @@ impl<'a> Files<'a> {
     }
 
     fn text(&self, file: &str) -> Option<&'a [u8]> {
-        let mut files = self.files.iter();
+        let mut files = self.texts.iter();
         files.find(|(name, _)| *name == file).map(|(_, text)| *text)
     }
 }
@@ -266,55 +266,45 @@ fn a_string_that_stays_may_be_longer_than_a_block() {
     assert!(answer_to("blank", &text) == done(format!("x      {string}   ")));
 }
 
-/// Words over a module, whether standard output is a terminal, their status, what they ask of files, what comes to standard output, and what is written
-/// to other files, after their names.
-const WRITTEN: &[(&str, bool, u8, &[&str], &[u8], &[u8])] = &[
-    ("module m", false, 0, &["open m"], EMPTY, b""),
-    ("module m", true, 2, &[], b"", b""),
-    ("types m", true, 2, &[], b"", b""),
-    ("module m -o -", true, 0, &["open m"], EMPTY, b""),
-    ("types --output - m", true, 0, &["open m"], EMPTY, b""),
-    (
-        "module m -o out",
-        false,
-        0,
-        &["open m"],
-        b"",
-        b"out: \0asm\x01\0\0\0",
-    ),
-    (
-        "-o out types m",
-        true,
-        0,
-        &["open m"],
-        b"",
-        b"out: \0asm\x01\0\0\0",
-    ),
-    ("module a -o out", false, 1, &["open a"], b"", b"out: "),
-    (
-        "module none -o out",
-        false,
-        2,
-        &["open none"],
-        b"",
-        b"out: ",
-    ),
-    (
-        "module bytes -o out",
-        true,
-        2,
-        &["open bytes"],
-        b"",
-        b"out: ",
-    ),
-    (
-        "list m",
-        true,
-        0,
-        &["open m"],
-        b"0..1 LParen\n1..7 Keyword\n7..8 RParen\n",
-        b"",
-    ),
+/// Words over files, and where the bytes of a module go.
+struct Written {
+    words: &'static str,
+    is_shown: bool,
+    status: u8,
+    /// What comes to standard output.
+    output: &'static [u8],
+    /// What comes to other files, after their names.
+    elsewhere: &'static [u8],
+}
+
+const fn written(
+    words: &'static str,
+    is_shown: bool,
+    status: u8,
+    output: &'static [u8],
+    elsewhere: &'static [u8],
+) -> Written {
+    Written {
+        words,
+        is_shown,
+        status,
+        output,
+        elsewhere,
+    }
+}
+
+const WRITTEN: &[Written] = &[
+    written("module m", false, 0, EMPTY, b""),
+    written("module m", true, 2, b"", b""),
+    written("types m", true, 2, b"", b""),
+    written("module m -o -", true, 0, EMPTY, b""),
+    written("types --output - m", true, 0, EMPTY, b""),
+    written("module m -o out", false, 0, b"", b"out: \0asm\x01\0\0\0"),
+    written("-o out types m", true, 0, b"", b"out: \0asm\x01\0\0\0"),
+    written("module a -o out", false, 1, b"", b"out: "),
+    written("module none -o out", false, 2, b"", b"out: "),
+    written("module bytes -o out", true, 2, b"", b"out: "),
+    written("blank m", true, 0, b"(module)", b""),
 ];
 
 const EMPTY: &[u8] = b"\0asm\x01\0\0\0";
@@ -322,12 +312,12 @@ const EMPTY: &[u8] = b"\0asm\x01\0\0\0";
 #[test]
 fn bytes_of_a_module_go_where_words_say() {
     let texts: &[(&str, &[u8])] = &[("m", b"(module)"), ("a", b"x"), ("bytes", b"ab\xff")];
-    for (words, is_shown, status, asked, output, written) in WRITTEN {
+    for case in WRITTEN {
         let mut files = Files::new(texts);
-        files.is_shown = *is_shown;
-        let (got, bytes, _) = answer(words, &mut files);
-        assert_eq!((got, bytes.as_slice()), (*status, *output), "{words}");
-        assert_eq!(files.asked, as_strings(asked), "{words}");
-        assert_eq!(files.written.borrow().as_slice(), *written, "{words}");
+        files.is_shown = case.is_shown;
+        let (status, output, _) = answer(case.words, &mut files);
+        assert_eq!(status, case.status, "{}", case.words);
+        assert_eq!(output, case.output, "{}", case.words);
+        assert_eq!(*files.written.borrow(), case.elsewhere, "{}", case.words);
     }
 }
