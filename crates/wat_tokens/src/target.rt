@@ -3,14 +3,15 @@ ghost use Rattle.std.specs.Prelude.{◌≡◌, None, IfOk};
 
 use std::alloc::AllocError;
 use std::fs::File;
-use wat_commands::ends::{Failed, Plain, Sink};
+use std::io::Write;
+use wat_commands::ends::{Failed, Sink};
 
 /// A file that is made, or emptied, before the first byte is written. Nothing happens to it otherwise.
 #[derive(Drop)]
 pub struct Target<'a> {
     rt: &'a HostRuntime,
     name: String,
-    file: Option<Plain<File>>,
+    file: Option<File>,
     failure: Option<Failed>,
 }
 
@@ -52,7 +53,7 @@ impl Sink for Target<'_> {
 fn write(
     rt: &HostRuntime,
     name: &str,
-    file: &mut Option<Plain<File>>,
+    file: &mut Option<File>,
     bytes: &[u8],
 ) -> Result<(), Failed> {
     if bytes.is_empty() {
@@ -61,11 +62,14 @@ fn write(
     let mut opened = match file.take() {
         Some(opened) => opened,
         None => match File::create(rt, name) {
-            Ok(opened) => Plain::new(opened),
+            Ok(opened) => opened,
             Err(error) => return Err(Failed::of(&error)),
         },
     };
     let written = opened.write_all(bytes);
     *file = Some(opened);
-    written
+    match written {
+        Ok(()) => Ok(()),
+        Err(error) => Err(Failed::of(&error)),
+    }
 }

@@ -152,7 +152,7 @@ fn is_plain_list(task: &Task<'_>) -> bool {
 /// ensures { MatchResult result
 ///     (λ _. Headed W.held W.failure (head turn.several turn.begun task.now file.now) output.old output.new)
 ///     (λ failure. Unheaded W.held W.failure (head turn.several turn.begun task.now file.now)
-///         output.old output.new (Outcome.Refused failure)) }
+///     output.old output.new (Outcome.Refused failure)) }
 /// ```
 fn write_head<W: Sink>(
     alloc: Global,

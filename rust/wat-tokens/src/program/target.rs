@@ -4,13 +4,14 @@
 use crate::shim::prelude::*;
 use crate::shim::alloc::AllocError;
 use crate::shim::fs::File;
-use crate::commands::ends::{Failed, Plain, Sink};
+use crate::shim::io::Write;
+use crate::commands::ends::{Failed, Sink};
 
 /// A file that is made, or emptied, before the first byte is written. Nothing happens to it otherwise.
 pub struct Target<'a> {
     rt: &'a HostRuntime,
     name: String,
-    file: Option<Plain<File>>,
+    file: Option<File>,
     failure: Option<Failed>,
 }
 
@@ -50,7 +51,7 @@ impl Sink for Target<'_> {
 fn write(
     rt: &HostRuntime,
     name: &str,
-    file: &mut Option<Plain<File>>,
+    file: &mut Option<File>,
     bytes: &[u8],
 ) -> Result<(), Failed> {
     if bytes.is_empty() {
@@ -59,11 +60,14 @@ fn write(
     let mut opened = match file.take() {
         Some(opened) => opened,
         None => match File::create(rt, name) {
-            Ok(opened) => Plain::new(opened),
+            Ok(opened) => opened,
             Err(error) => return Err(Failed::of(&error)),
         },
     };
     let written = opened.write_all(bytes);
     *file = Some(opened);
-    written
+    match written {
+        Ok(()) => Ok(()),
+        Err(error) => Err(Failed::of(&error)),
+    }
 }
