@@ -1,4 +1,4 @@
--- Definitions for private functions of the lexer. One public contract leads here: that of `Lexer::past_quoted_name`, to `ScannedStrings`.
+-- What private functions of the lexer promise each other. No public contract names it.
 pub mod ScannedNumbers
 pub mod ScannedStrings
 pub mod StringParts

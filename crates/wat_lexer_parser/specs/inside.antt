@@ -1,5 +1,4 @@
--- Definitions for private functions. Public contracts lead to two of them: to `ShownIn`, the visible token as a function, and to `RawTokens`, the tokens
--- in the view of a `LazyBuffer`.
+-- What private functions promise each other, and `Shown` as a function. No public contract names it.
 pub mod ShownIn
 pub mod MapEntries
 pub mod Next
