@@ -7,17 +7,17 @@ usage: tools/definitions.py NAME..      prints their files with line counts and 
        tools/definitions.py --self-test shows that seeded faults are reported
 
 A NAME is a definition, such as Rattle.wat_lex.specs.tokens.Tiling.MaximalTiling; or a source, such as crates/wat_lex/src/lexer.rt, for all that the
-contracts of its public functions and its impls cite; or some functions of a source, such as crates/wat_lex/src/lexer.rt:scan,iter. A definition, or
-all those of a module, after a minus sign are not followed. Lines are counted without comments, imports and empty lines. Types of the code, which specs/ import as
-`declared`, and definitions of Rattle's library are not followed either.
+contracts of its public functions and its impls cite; or some functions of a source, such as crates/wat_lex/src/lexer.rt:scan,iter. After a minus
+sign, a definition, or each definition of a module, is not followed. Lines are counted without comments, imports and empty lines. Types of the code,
+which specs/ import as `declared`, and definitions of Rattle's library are not followed either.
 
 A table of the page is between `<!-- definitions NAME.. -->` and `<!-- end -->`: a row for each file, in reading order, with its line count in the
 second column, and a last row with the sum. A table has only what the tables before it lack.
 
 --check exits with status 1 if a count is stale; if a table lacks a file or has one that adds nothing; if a README lacks a file of specs/; or if one
-of these promises is in no table of the page: each public function of a crates/*/src/laws.rt, each public function of the crates in LIBRARIES whose
-contract cites definitions, each function in the table of claims of docs/verification.md, and each function that include/wat.h declares, which the
-page must also name.
+of these promises is in no table of the page: each public function of a crates/*/src/laws.rt, each function of a public module whose contract cites
+definitions, each function in the table of claims of docs/verification.md, and each function that include/wat.h declares, which the page must also
+name.
 """
 import dataclasses
 import functools
@@ -31,8 +31,6 @@ PAGE = ROOT / "docs/specification.md"
 CLAIMS = ROOT / "docs/verification.md"
 HEADER = ROOT / "include/wat.h"
 C_SOURCES = CRATES / "wat_parser_c/src"
-# The crates whose public functions users call. Those of the other crates are stages of a library or of the program; the table of claims has their promises.
-LIBRARIES = ("wat_lex", "wat_words", "wat_floats", "wat_lexer_parser", "wat_types", "wat_modules", "wat_format")
 USE = re.compile(r"(?P<public>pub )?use (?P<module>[^\s{}]+?)(?:\.\{(?P<names>.*)\})?(?: as (?P<alias>\S+))?;?")
 MARKS = {"abbrev", "unfoldable", "pub", "pattern"}
 WORD = r"[^\s(){}.;,@\"«»\[\]]+"
@@ -377,9 +375,9 @@ def theorems():
         yield from ((path, name) for name in functions_in(path))
 
 
-def library_functions():
-    """The public functions of the libraries whose contracts cite definitions."""
-    for path in (path for crate in LIBRARIES for path in public_sources(crate)):
+def public_functions():
+    """The public functions of each library whose contracts cite definitions."""
+    for path in (path for file in sorted(CRATES.glob("*/src/lib.rt")) for path in public_sources(file.parent.parent.name)):
         yield from ((path, name) for name in functions_in(path) if cites(path, name))
 
 
@@ -435,7 +433,7 @@ def unpromised(page, claims, header):
     found, text = tabled(page), re.sub(r"<!--.*?-->", "", page)
     where = f"is in no table of {PAGE.relative_to(ROOT)}"
     yield from (f"theorem {name} of {path} {where}" for path, name in theorems() if not is_tabled(found, path, name))
-    yield from (f"function {name} of {path} {where}" for path, name in library_functions() if not is_tabled(found, path, name))
+    yield from (f"function {name} of {path} {where}" for path, name in public_functions() if not is_tabled(found, path, name))
     for path, name in exported_functions(header):
         if f"`{name}`" not in text:
             yield f"C function {name} is not named in {PAGE.relative_to(ROOT)}"
@@ -469,7 +467,7 @@ def self_test_of_promises(page, claims, header):
     seeded = 0
     for path in tabled(page):
         others = re.sub(rf" {re.escape(path)}(:\S+)?(?= )", "", page)
-        lost = [it for it in (*theorems(), *library_functions(), *exported_functions(header)) if it[0] == path and cites(*it)]
+        lost = [it for it in (*theorems(), *public_functions(), *exported_functions(header)) if it[0] == path and cites(*it)]
         assert bool(lost) <= bool(list(unpromised(others, claims, header))), f"{path} is in no table, and its promises are not reported"
         seeded += bool(lost)
     for _, name in exported_functions(header):
