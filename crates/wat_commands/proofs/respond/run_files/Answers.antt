@@ -1,4 +1,4 @@
-use Rattle.std.proofs.Common.{inl, inr, rules, refl}
+use Rattle.std.proofs.Common.{inl, inr, rules}
 use Rattle.wat_options.specs.Options.{file_names}
 use Rattle.wat_commands.specs.Outcomes.{exit_code}
 use Rattle.wat_commands.proofs.RespondLaws.{none_ran, one_more_ran, all_ran}
