@@ -120,10 +120,10 @@ C
     export PKG_CONFIG_PATH=$folder/lib/pkgconfig
     read -ra flags < <(pkg-config --cflags --libs wat)
     timed 'C: shared, by pkg-config' 20 cc -std=c99 -Wall -Wextra -Wpedantic -Werror -o shared version.c "${flags[@]}"
-    expect 'C: a program with the shared library' 10 env LD_LIBRARY_PATH="$folder/lib" ./shared
+    expect 'C: a program with the shared library' 11 env LD_LIBRARY_PATH="$folder/lib" ./shared
     read -ra flags < <(pkg-config --static --cflags --libs wat)
     timed 'C: static, by pkg-config' 20 cc -std=c99 -static -o static version.c "${flags[@]}"
-    expect 'C: a program with the static library' 10 ./static
+    expect 'C: a program with the static library' 11 ./static
     ! has cmake || cmake_libraries "$PWD/$folder"
 }
 
@@ -143,7 +143,7 @@ CMAKE
     timed 'CMake: configures' 60 cmake -S cmake -B cmake/built -DCMAKE_PREFIX_PATH="$1" -DWANTED="${release#wat-}"
     timed 'CMake: builds' 60 cmake --build cmake/built
     for name in static shared; do
-        expect "CMake: a program with wat::$name" 10 "cmake/built/by_$name"
+        expect "CMake: a program with wat::$name" 11 "cmake/built/by_$name"
     done
     for name in 0.0.1 0.9 1.0; do
         ! cmake -S cmake -B cmake/rejected -DCMAKE_PREFIX_PATH="$1" -DWANTED="$name" > "$work/log" 2>&1 || fail "CMake accepts version $name"
