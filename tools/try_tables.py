@@ -1,20 +1,22 @@
 #!/usr/bin/env python3
-"""Runs the test cases of tests/answers.txt and tests/requests.txt with the Rattle toolchain alone, unproved: `rt try` runs the program in
-tests/by_rattle, in a temporary repository, on each.
+"""Runs the test cases of tests/answers.txt and tests/requests.txt with the Rattle toolchain alone, unproved: `rt try` compiles the program in
+tests/by_rattle, in a temporary repository, and runs it.
 
-Each test case runs over both buffers of the parser. A call of requests.txt runs once to count its allocations, and once more for each of them, which
-then fails: the call must return the result of the table or the allocation failure. In a further run the last allocation before the call fails, so
-that the count is that of the call alone. Test cases that cannot run here are named, and the check fails.
+A call of a parser runs over both kinds of its buffer. The call of requests.txt with the most allocations of its kind, or each with --every, runs once
+more to count its allocations, and once for each of them, which then fails: the call must return the result of the table or the allocation failure.
+In a further run the last allocation before the call fails, so that the count is that of the call alone. Test cases that cannot run here are
+reported, and the check fails. A run with an allocation that fails takes 0.6 seconds, hence the sample.
 
-Not checked, unlike by cargo: the bytes of requests.txt, the bytes that are held after a call, and the failure of all allocations from one on.
+Not checked, unlike with cargo: the bytes of requests.txt, the bytes that are held after a call, and the failure of all allocations from one on.
 
-usage: tools/try_tables.py [--rows PATTERN]    only the test cases whose line has this regular expression
-       tools/try_tables.py --self-test         a few test cases, with seeded faults that must be reported
+usage: tools/try_tables.py [--every] [--rows PATTERN]    only the test cases whose line has this regular expression
+       tools/try_tables.py --self-test                   a few test cases, with seeded faults that must be reported
 """
 
 import argparse
 import concurrent.futures
 import dataclasses
+import itertools
 import pathlib
 import re
 import shutil
@@ -33,6 +35,8 @@ FAILED = 500
 PARTS, SECONDS = 24, 600
 # A call that does not allocate, for the number of allocations before a call and its preparation.
 NOTHING = "none|0|0|none|||||"
+# A placeholder for a call, and the word that the program prints for it.
+LATER, LATE = "later|0|0|later|||||", "unknown"
 
 
 @dataclasses.dataclass(frozen=True)
@@ -53,6 +57,11 @@ class Request:
     def name(self):
         """Returns the name of the test case."""
         return self.line.split("|")[0]
+
+    @property
+    def kind(self):
+        """Returns the kind of the call."""
+        return self.line.split("|")[3].partition("@")[0]
 
     @property
     def requests(self):
@@ -89,20 +98,36 @@ def make_repository(folder):
     return folder / "crates/wat_tables"
 
 
-def run_cases(crate, cases):
-    """Runs the program on each standard input, by name, and returns the lines that it prints, by name."""
-    with tempfile.TemporaryDirectory(prefix="try-tables-") as folder:
-        for name, text in cases.items():
-            (pathlib.Path(folder) / name).write_text(text, encoding="utf-8")
+def write_cases(folder, cases):
+    """Writes the standard input of each case to a file with its name, at once."""
+    for name, text in cases.items():
+        with tempfile.NamedTemporaryFile("w", encoding="utf-8", delete=False, prefix="try-tables-") as file:
+            file.write(text)
+        shutil.move(file.name, folder / name)
+
+
+def run_cases(crate, cases, found=lambda name, line: {}):
+    """Runs the program on each standard input, in the order of their names, and returns the lines that it prints, by name.
+
+    Each line is passed to `found` with its name as soon as it is printed. It returns new standard inputs of later cases."""
+    printed, name = {}, None
+    with tempfile.TemporaryDirectory(prefix="try-tables-") as folder, tempfile.TemporaryFile("w+") as errors:
+        write_cases(pathlib.Path(folder), cases)
         words = ["rt", "try", "--seconds", str(SECONDS), "--fail-alloc", str(FAILED), "--cases", folder]
-        done = subprocess.run(words, cwd=crate, capture_output=True, text=True, check=False)
-    ended = set(re.findall(r"^case=(\S+) run=ended status=0 ", done.stderr, re.M))
-    blocks = re.split(r"^== (\S+)\n", done.stdout, flags=re.M)
-    printed = {name: block.splitlines() for name, block in zip(blocks[1::2], blocks[2::2]) if name in ended}
-    if len(printed) < len(cases):
-        lines = [line for line in done.stderr.splitlines() if not re.match(r"case=\S+ run=ended status=0 |allocations: ", line)]
-        print(*lines[-20:], sep="\n")
-    return printed
+        with subprocess.Popen(words, cwd=crate, stdout=subprocess.PIPE, stderr=errors, text=True) as running:
+            for line in running.stdout:
+                if line.startswith("== "):
+                    name = line[3:-1]
+                    printed[name] = []
+                elif name:
+                    printed[name].append(line.rstrip("\n"))
+                    write_cases(pathlib.Path(folder), found(name, line.rstrip("\n")))
+        errors.seek(0)
+        said = errors.read()
+    ended = set(re.findall(r"^case=(\S+) run=ended status=0 ", said, re.M))
+    if ended < set(cases):
+        print(*[line for line in said.splitlines() if not re.match(r"case=\S+ run=ended status=0 |allocations: ", line)][-20:], sep="\n")
+    return {name: lines for name, lines in printed.items() if name in ended}
 
 
 def check_answers(crate, rows):
@@ -112,10 +137,9 @@ def check_answers(crate, rows):
     faults = {}
     for name, part in parts.items():
         lines = printed.get(name, [])
-        for number, row in enumerate(part):
-            found = lines[2 * number : 2 * number + 2]
-            if found != [f"{source} {row.wanted}" for source in SOURCES]:
-                faults[row] = f"answers.txt: {row.line}\n    wanted {row.wanted}\n    found  {', '.join(found) or 'no result'}"
+        for row, found in itertools.zip_longest(part, lines[: len(part)], fillvalue="no result"):
+            if found not in (f"once {row.wanted}", f"twice {row.wanted}"):
+                faults[row] = f"answers.txt: {row.line}\n    wanted {row.wanted}\n    found  {found}"
     return faults
 
 
@@ -124,77 +148,101 @@ def case_of(source, skipped, line):
     return f"requests {source} {skipped}\n{line}\n"
 
 
-def count_allocations(crate, rows):
-    """Runs each call with no failure. Returns the allocations with none, those of each call with its preparation, and the faults."""
-    cases = {"none": case_of("text", 0, NOTHING)}
+class Runs:
+    """The runs of test cases of requests.txt, by the names of their cases: one without a failure first, and later those with one, whose standard
+    input depends on its count of allocations."""
+
+    def __init__(self, rows):
+        """Makes the runs of these test cases over both buffers."""
+        self.calls = {f"{number:04}-{source}": (row, source) for number, row in enumerate(rows) for source in SOURCES}
+        self.most, self.before, self.failing, self.faults = 0, {}, {}, {}
+
+    def first_cases(self):
+        """Returns the cases without a failure, and a placeholder for each of the others."""
+        cases = {"0-none": case_of("text", 0, NOTHING)}
+        for name, (row, source) in self.calls.items():
+            cases[f"1-{name}"] = case_of(source, 0, row.line)
+            cases |= {f"2-{name}-{number:02}": case_of("text", 0, LATER) for number in range(row.requests + 1)}
+        return cases
+
+    def found(self, case, line):
+        """Records the end of a run without a failure, and returns the cases in which the last allocation before the call fails, and each of it."""
+        stage, _, name = case.partition("-")
+        word, _, left = line.partition(" ")
+        if name == "none" and left.isdigit():
+            self.most = int(left)
+        if stage != "1":
+            return {}
+        row, source = self.calls[name]
+        count = self.most - int(left) if left.isdigit() else 0
+        if word != "answer" or count < row.requests:
+            self.faults[row] = f"requests.txt: {row.name}, {source}: {line} without a failure, after {count} allocations"
+            return {}
+        self.before[name] = before = count - row.requests
+        failed = {number: before + number for number in range(row.requests + 1) if before + number}
+        cases = {f"2-{name}-{number:02}": case_of(source, self.most + 1 - it, row.line) for number, it in failed.items()}
+        self.failing |= cases
+        return cases
+
+    def fault_of(self, name, printed):
+        """Returns what is wrong with the runs of a call with a failure, or None."""
+        row, _ = self.calls[name]
+        if name not in self.before:
+            return "no result"
+        ends = {number: " ".join(printed.get(f"2-{name}-{number:02}", ["no result"])) for number in range(row.requests + 1)}
+        if self.before[name] and ends[0] != "preparation -":
+            return f"{ends[0]} if the last allocation before the call fails"
+        for number in range(1, row.requests + 1):
+            if ends[number] not in ("memory -", "answer -"):
+                return f"{ends[number]} if allocation {number} of {row.requests} fails"
+        is_free = row.name.startswith("free-")
+        if is_free != (row.requests == 0) or is_free == ("memory -" in ends.values()):
+            return "the name or a returned allocation failure does not fit the number of allocations"
+        return None
+
+
+def check_requests(crate, rows, chosen):
+    """Returns what is wrong with each test case of requests.txt that fails. The allocations of the chosen ones fail in turn."""
+    runs = Runs(chosen)
+    together = {"0-all": "\n".join(["requests all", *(row.line for row in rows), ""])}
+    printed = run_cases(crate, runs.first_cases() | together, runs.found)
+    # Cases that `rt try` had read before their standard input was known.
+    late = {name: text for name, text in runs.failing.items() if printed.get(name, [LATE])[0].startswith(LATE)}
+    if late:
+        printed |= run_cases(crate, late)
+    ends = printed.get("0-all", [])
     for number, row in enumerate(rows):
-        cases |= {f"{number}-{source}": case_of(source, 0, row.line) for source in SOURCES}
-    printed = run_cases(crate, cases)
-    counts, faults = {}, {}
-    word, _, most = " ".join(printed.get("none", ["no result"])).partition(" ")
-    if word != "answer":
-        return 0, {}, dict.fromkeys(rows, "requests.txt: the program did not run")
-    for number, row in enumerate(rows):
-        for source in SOURCES:
-            ended = " ".join(printed.get(f"{number}-{source}", ["no result"]))
-            word, _, left = ended.partition(" ")
-            if word == "answer" and left.isdigit() and int(most) - int(left) >= row.requests:
-                counts[row, source] = int(most) - int(left)
-            else:
-                faults[row] = f"requests.txt: {row.name}, {source}: {ended}, of {most}, without a failure"
-    return int(most), counts, faults
-
-
-def failures_of(row, count):
-    """Returns the allocations that fail in turn: the last of the preparation, and those of the call."""
-    return range(max(1, count - row.requests), count + 1)
-
-
-def fault_of(row, count, ends):
-    """Returns what is wrong with the ends of the runs in which these allocations fail, or None."""
-    for failed, ended in ends.items():
-        wanted = ["memory -", "answer -"] if failed > count - row.requests else ["preparation -"]
-        if ended not in wanted:
-            return f"{ended} where allocation {failed} of {count} fails, of which {row.requests} are the call's"
-    is_free = row.name.startswith("free-")
-    if is_free != (row.requests == 0) or is_free == ("memory -" in ends.values()):
-        return "returns no allocation failure, or has a name that says so"
-    return None
-
-
-def check_requests(crate, rows):
-    """Returns what is wrong with each test case of requests.txt that fails."""
-    most, counts, faults = count_allocations(crate, rows)
-    numbers = {row: number for number, row in enumerate(rows)}
-    cases = {}
-    for (row, source), count in counts.items():
-        for failed in failures_of(row, count):
-            cases[f"{numbers[row]}-{source}-{failed}"] = case_of(source, most + 1 - failed, row.line)
-    printed = run_cases(crate, cases)
-    for (row, source), count in counts.items():
-        ends = {it: " ".join(printed.get(f"{numbers[row]}-{source}-{it}", ["no result"])) for it in failures_of(row, count)}
-        fault = fault_of(row, count, ends)
+        if ends[2 * number : 2 * number + 2] != ["answer", "answer"]:
+            runs.faults[row] = f"requests.txt: {row.name}: {', '.join(ends[2 * number : 2 * number + 2]) or 'no result'} without a failure"
+    for name, (row, source) in runs.calls.items():
+        fault = runs.fault_of(name, printed)
         if fault:
-            faults[row] = f"requests.txt: {row.name}, {source}: {fault}"
-    return faults
+            runs.faults.setdefault(row, f"requests.txt: {row.name}, {source}: {fault}")
+    return runs.faults
 
 
-def check(answers, requests):
+def sample(rows):
+    """Returns the test case of each kind of call that has the most allocations."""
+    return list({row.kind: row for row in sorted(rows, key=lambda row: row.requests)}.values())
+
+
+def check(answers, requests, chosen):
     """Runs test cases of both tables side by side, and returns what is wrong with those that fail."""
     with tempfile.TemporaryDirectory(prefix="try-tables-") as folder:
         crate = make_repository(pathlib.Path(folder))
         with concurrent.futures.ThreadPoolExecutor() as pool:
-            tables = [pool.submit(check_answers, crate, answers), pool.submit(check_requests, crate, requests)]
+            tables = [pool.submit(check_answers, crate, answers), pool.submit(check_requests, crate, requests, chosen)]
             return tables[0].result() | tables[1].result()
 
 
-def report(answers, requests):
+def report(answers, requests, chosen):
     """Runs test cases, reports those that fail, and returns the exit status."""
     began = time.monotonic()
-    faults = check(answers, requests)
+    faults = check(answers, requests, chosen)
     print(*faults.values(), sep="\n", end="\n" if faults else "")
     passed = [sum(row not in faults for row in rows) for rows in (answers, requests)]
-    print(f"{time.monotonic() - began:.0f} seconds")
+    failures = sum(row.requests for row in chosen) * len(SOURCES)
+    print(f"{time.monotonic() - began:.0f} seconds; {failures} allocations failed in turn, of {len(chosen)} rows of requests.txt")
     print(f"answers: {passed[0]} of {len(answers)} rows, requests: {passed[1]} of {len(requests)} rows")
     return 1 if faults or not answers + requests else 0
 
@@ -219,7 +267,7 @@ def self_test():
         seeded(requests["parse-end"], "parse-end|2|", "parse-end|1|"),
         seeded(requests["free-look-rparen"], "|look|rparen|", "|unheard|rparen|"),
     ]
-    found = check(answers + bad[:2], good + bad[2:])
+    found = check(answers + bad[:2], good + bad[2:], good + bad[2:])
     print(*found.values(), sep="\n")
     if set(found) != set(bad):
         print(f"self-test: {len(set(bad) - set(found))} seeded faults not reported, {len(set(found) - set(bad))} others reported")
@@ -232,12 +280,13 @@ def main():
     """Runs the command line, and returns the exit status."""
     parser = argparse.ArgumentParser(description="Runs tests/answers.txt and tests/requests.txt by `rt try`.")
     parser.add_argument("--rows", default="", help="a regular expression that the lines of the test cases have")
+    parser.add_argument("--every", action="store_true", help="let the allocations of each test case fail, and not those of a sample")
     parser.add_argument("--self-test", action="store_true", help="report seeded faults")
     options = parser.parse_args()
     if options.self_test:
         return self_test()
-    chosen = [[row for row in rows if re.search(options.rows, row.line)] for rows in (read_answers(), read_requests())]
-    return report(*chosen)
+    answers, requests = ([row for row in rows if re.search(options.rows, row.line)] for rows in (read_answers(), read_requests()))
+    return report(answers, requests, requests if options.every else sample(requests))
 
 
 if __name__ == "__main__":
