@@ -11,6 +11,7 @@ PROJECT = pathlib.Path(__file__).resolve().parents[1]
 SOURCE = ("rust/Cargo.toml", r'^version = "(.*)"$')
 PROGRAM = r'"wat_tokens ([^ ]*), of '
 # The other places, and how the version is found there.
+IN_RELEASE = r"wat-(\d+\.\d+\.\d+)/rust"
 TEXTS = [
     ("rust/Cargo.lock", r'^name = "wat-.*"\nversion = "(.*)"$'),
     ("rust/wat-modules/Cargo.toml", r'^wat-(?:lex|parser) = \{ version = "=([^"]*)"'),
@@ -18,6 +19,10 @@ TEXTS = [
     ("rust/wat-tokens/Cargo.toml", r'^wat-(?:lex|parser) = \{ version = "=([^"]*)"'),
     ("page/wat-lex/package.json", r'^  "version": "(.*)",$'),
     ("include/wat.h", r'^#define WAT_VERSION_TEXT "(.*)"$'),
+    ("docs/RELEASE.md", r"\bwat-(\d+\.\d+\.\d+)"),
+    ("rust/wat-lex/README.md", IN_RELEASE),
+    ("rust/wat-parser/README.md", IN_RELEASE),
+    ("rust/wat-modules/README.md", IN_RELEASE),
     ("crates/wat_options/src/help.rt", PROGRAM),
     ("crates/wat_options/specs/Help.antt", PROGRAM),
     ("rust/wat-tokens/src/options/help.rs", PROGRAM),
