@@ -22,7 +22,6 @@ SPEED = ROOT / "docs/benchmarks.md"
 LIBRARIES = ("wat_lex", "wat_words", "wat_lexer_parser")
 CRATES = ("wat-lex", "wat-parser")
 TRAITS = {"Parse", "Peek", "Encode"}
-MADE = "Made by tools/erase"
 
 
 def bare(path):
@@ -90,8 +89,8 @@ def calls_of_rust():
     for crate in CRATES:
         folder = ROOT / "rust" / crate / "src"
         for source in sorted(folder.rglob("*.rs")):
-            text = source.read_text(encoding="utf-8")
-            if MADE not in text and not {"shim", "shim.rs", "tests.rs", "strings.rs"} & set(source.relative_to(folder).parts):
+            if not {"generated", "shim", "shim.rs", "tests.rs", "strings.rs"} & set(source.relative_to(folder).parts):
+                text = source.read_text(encoding="utf-8")
                 module = source.relative_to(folder).parts[0].removesuffix(".rs")
                 yield from calls_of_items(items_of(tokens_of(text)), f"{crate} " + ("" if module == "lib" else f"{module}::"))
 

@@ -14,9 +14,10 @@ PROGRAM = r'"wat_tokens ([^ ]*), of '
 IN_RELEASE = r"wat-(\d+\.\d+\.\d+)/rust"
 TEXTS = [
     ("rust/Cargo.lock", r'^name = "wat-.*"\nversion = "(.*)"$'),
+    ("rust/wat-format/Cargo.toml", r'^wat-lex = \{ version = "=([^"]*)"'),
     ("rust/wat-modules/Cargo.toml", r'^wat-(?:lex|parser) = \{ version = "=([^"]*)"'),
     ("rust/wat-parser/Cargo.toml", r'^wat-lex = \{ version = "=([^"]*)"'),
-    ("rust/wat-tokens/Cargo.toml", r'^wat-(?:lex|parser) = \{ version = "=([^"]*)"'),
+    ("rust/wat-tokens/Cargo.toml", r'^wat-(?:format|lex|modules|parser) = \{ version = "=([^"]*)"'),
     ("page/wat-lex/package.json", r'^  "version": "(.*)",$'),
     ("include/wat.h", r'^#define WAT_VERSION_TEXT "(.*)"$'),
     ("docs/RELEASE.md", r"\bwat-(\d+\.\d+\.\d+)"),
@@ -25,14 +26,14 @@ TEXTS = [
     ("rust/wat-modules/README.md", IN_RELEASE),
     ("crates/wat_options/src/help.rt", PROGRAM),
     ("crates/wat_options/specs/Help.antt", PROGRAM),
-    ("rust/wat-tokens/src/options/help.rs", PROGRAM),
+    ("rust/wat-tokens/src/generated/wat_options/help.rs", PROGRAM),
 ]
 # Those that have it as a number.
 NUMBERS = [
     ("include/wat.h", r"^#define WAT_VERSION (\d+)$"),
     ("crates/wat_parser_c/src/version.rt", r"ensures \{ result ≡ (\d+) \}"),
     ("crates/wat_parser_c/src/version.rt", r"^    (\d+)$"),
-    ("rust/wat-c/src/proved/version.rs", r"^    (\d+)$"),
+    ("rust/wat-c/src/generated/wat_parser_c/version.rs", r"^    (\d+)$"),
 ]
 
 

@@ -15,7 +15,7 @@ import sys
 from rattle_source import ROOT, items_of, past_group, split_at, tokens_of, written
 
 LEX, PARSER = ROOT / "rust/wat-lex/src", ROOT / "rust/wat-parser/src"
-PROVED = LEX / "proved"
+PROVED = LEX / "generated/wat_lex"
 # The files of each module, with the names that are taken of a file; none means all.
 OURS = {
     "lexer": {LEX / "lexer.rs": (), LEX / "token.rs": (), LEX / "number.rs": (), LEX / "traits.rs": (), LEX / "error.rs": ("LexError",),

@@ -2,7 +2,8 @@
 """Makes Rust of the proved sources: takes away what is for the prover alone, and writes a closed list of tokens otherwise. docs/ERASURE.md says
 what goes, what is written otherwise, and what is trusted.
 
-It writes the modules of the packages below rust/ that MODULES names, in the layout of rustfmt.
+It writes the modules of the packages below rust/ that MODULES names, in the layout of rustfmt: of each crate the file `generated/CRATE.rs` and those
+below `generated/CRATE`.
 
 usage: tools/erase/erase.py
 """
@@ -12,32 +13,32 @@ import subprocess
 
 PROJECT = pathlib.Path(__file__).resolve().parents[2]
 RUST = PROJECT / "rust"
-# The module that holds each crate's sources, by its file without an ending: a package, and a place in it.
+# Of each crate: the folder whose `generated` holds its module, and the module's name at the root of what is compiled there.
 MODULES = {
-    "wat_lex": "wat-lex/src/proved",
-    "wat_words": "wat-parser/src/words",
-    "wat_floats": "wat-parser/src/floats",
-    "wat_lexer_parser": "wat-parser/src/proved",
-    "wat_rows": "wat-c/src/rows",
-    "wat_parser_c": "wat-c/src/proved",
-    "wat_page": "wat-page/src/page",
-    "wat_format": "wat-tokens/src/format",
-    "wat_lines": "wat-tokens/src/lines",
-    "wat_lists": "wat-tokens/src/lists",
-    "wat_types": "wat-tokens/src/types",
-    "wat_options": "wat-tokens/src/options",
-    "wat_commands": "wat-tokens/src/commands",
-    "wat_tokens": "wat-tokens/src/program",
-    "wat_instructions": "wat-modules/src/instructions",
-    "wat_pieces": "wat-modules/src/pieces",
-    "wat_fields": "wat-modules/src/fields",
-    "wat_fields_read": "wat-modules/src/reading",
-    "wat_sections": "wat-modules/src/sections",
-    "wat_modules": "wat-modules/src/proved",
-    "wat_imports": "wat-tokens/tests/requests/imports",
+    "wat_lex": ("wat-lex/src", "proved"),
+    "wat_words": ("wat-parser/src", "words"),
+    "wat_floats": ("wat-parser/src", "floats"),
+    "wat_lexer_parser": ("wat-parser/src", "proved"),
+    "wat_rows": ("wat-c/src", "rows"),
+    "wat_parser_c": ("wat-c/src", "proved"),
+    "wat_page": ("wat-page/src", "page"),
+    "wat_format": ("wat-format/src", "proved"),
+    "wat_lines": ("wat-format/src", "lines"),
+    "wat_lists": ("wat-tokens/src", "lists"),
+    "wat_options": ("wat-tokens/src", "options"),
+    "wat_commands": ("wat-tokens/src", "commands"),
+    "wat_tokens": ("wat-tokens/src", "program"),
+    "wat_instructions": ("wat-modules/src", "instructions"),
+    "wat_pieces": ("wat-modules/src", "pieces"),
+    "wat_fields": ("wat-modules/src", "fields"),
+    "wat_fields_read": ("wat-modules/src", "reading"),
+    "wat_sections": ("wat-modules/src", "sections"),
+    "wat_modules": ("wat-modules/src", "proved"),
+    "wat_types": ("wat-modules/src", "types"),
+    "wat_imports": ("wat-tokens/tests/requests", "imports"),
 }
 # What is compiled with a shim of its own.
-WITH_SHIM = [("wat-lex", "src"), ("wat-tokens", "src")]
+WITH_SHIM = [("wat-lex", "src"), ("wat-format", "src"), ("wat-tokens", "src")]
 # What is written otherwise: the closed list. The first entry that fits counts. SHIM is the path of the shim, STD that of what it leaves to Rust,
 # SELF that of the source's crate.
 WRITTEN = {
@@ -97,7 +98,7 @@ PRELUDE = "use SHIM::prelude::*;\n"
 
 def target_of(crate):
     """What is compiled at once: the package's library, or one of its tests."""
-    package, kind, *inside = MODULES[crate].split("/")
+    package, kind, *inside = MODULES[crate][0].split("/")
     return package, inside[0] if kind == "tests" else kind
 
 
@@ -105,7 +106,12 @@ def path_of(crate, seen_from):
     """The path of a crate's module, seen from another's."""
     package, kind = target_of(crate)
     root = "crate" if target_of(seen_from) == (package, kind) else package.replace("-", "_")
-    return f"{root}::{MODULES[crate].split('/')[-1]}"
+    return f"{root}::{MODULES[crate][1]}"
+
+
+def module_of(crate):
+    """The module that is generated from a crate: its file without an ending, and the folder of the files below it."""
+    return RUST / MODULES[crate][0] / "generated" / crate
 
 
 def shim_of(crate):
@@ -113,8 +119,8 @@ def shim_of(crate):
 
 
 def std_of(crate):
-    """What has the rest of `std`. The shims of wat-tokens have all of it: files and streams are no part of Rust's `core`."""
-    return shim_of(crate) if target_of(crate)[0] == "wat-tokens" else "core"
+    """What has the rest of `std`. The shims of wat-format and wat-tokens have all of it: readers, files and streams are no part of Rust's `core`."""
+    return shim_of(crate) if target_of(crate)[0] in ("wat-format", "wat-tokens") else "core"
 
 
 TOKEN = re.compile(
@@ -243,6 +249,7 @@ class Eraser:
         self.root, self.shim, self.std = path_of(crate, crate), shim_of(crate), std_of(crate)
         others = {f"{other}::": f"{path_of(other, crate)}::" for other in MODULES}
         self.written = [(solid_of(before), self.rooted(after)) for before, after in (WRITTEN | others).items()]
+        self.links = {f"]({before}": f"]({self.rooted(after)}" for before, after in ({"crate::": "SELF::"} | others).items()}
         # What the body begins with of a function that C calls.
         self.beginning = ""
         self.rules = {"ghost": self.ghost, "requires": self.contract, "ensures": self.contract, "#": self.attribute, "impl": self.model}
@@ -269,7 +276,8 @@ class Eraser:
                 return after
         if kind == "doc":
             # A link has a path too.
-            text = text.replace("](crate::", f"]({self.root}::")
+            for before, after in self.links.items():
+                text = text.replace(before, after)
         self.out.append((kind, text))
         return at + 1
 
@@ -378,16 +386,16 @@ class Eraser:
 
 def sources():
     """Each source, its crate and the file that it becomes. Tests become none."""
-    for crate, module in MODULES.items():
-        folder = PROJECT / "crates" / crate / "src"
+    for crate in MODULES:
+        folder, module = PROJECT / "crates" / crate / "src", module_of(crate)
         for source in sorted(path for path in folder.rglob("*.rt") if path.name != "tests.rt"):
             inside = source.relative_to(folder).with_suffix(".rs")
-            yield source, crate, RUST / (f"{module}.rs" if str(inside) in ("lib.rs", "main.rs") else f"{module}/{inside}")
+            yield source, crate, module.with_suffix(".rs") if str(inside) in ("lib.rs", "main.rs") else module / inside
 
 
 def made(source, crate):
     """What the tool makes of a source, without a layout."""
-    mark = f"// Made by tools/erase from {source.relative_to(PROJECT)}; do not edit.\n"
+    mark = f"// @generated by tools/erase from {source.relative_to(PROJECT)}; do not edit.\n"
     return mark + Eraser(source.read_text(encoding="utf-8"), crate).erased()
 
 

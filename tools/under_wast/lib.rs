@@ -9,20 +9,20 @@ mod macros;
 pub mod annotation;
 mod encode;
 mod error;
+// As in `wat-parser`.
+#[allow(dead_code, non_camel_case_types)]
+#[allow(unused_imports, unused_labels, unused_variables)]
+mod generated {
+    pub mod wat_floats;
+    pub mod wat_lexer_parser;
+    pub mod wat_words;
+}
 mod gensym;
 pub mod kw;
 pub mod lexer;
 mod names;
 pub mod parser;
-// As in `wat-parser`.
-#[allow(dead_code, non_camel_case_types)]
-#[allow(unused_imports, unused_labels, unused_variables)]
-pub mod proved;
-#[allow(unused_imports)]
-pub mod floats;
 pub mod token;
-#[allow(unused_imports)]
-pub mod words;
 
 pub mod core;
 mod wast;
@@ -35,5 +35,6 @@ pub mod component;
 pub mod component;
 
 pub use self::error::*;
+pub use self::generated::{wat_floats as floats, wat_lexer_parser as proved, wat_words as words};
 pub use self::wast::*;
 pub use self::wat::*;

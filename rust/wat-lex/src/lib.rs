@@ -47,9 +47,31 @@ extern crate std;
 mod document;
 mod error;
 mod gap;
+// Proofs name loops, contracts speak of parameters and fields that the code leaves alone, and each file imports the shim's names, of which it
+// may need none. Clippy's advice on style is for text that is written in Rust.
+#[allow(unused_imports, unused_labels, unused_variables)]
+#[allow(
+    clippy::style,
+    clippy::complexity,
+    clippy::pedantic,
+    clippy::manual_unwrap_or_default,
+    clippy::sliced_string_as_bytes
+)]
+mod generated {
+    pub mod wat_lex;
+}
 mod lexer;
 mod lines;
 mod number;
+mod recover;
+// Names and signatures are those of Rattle's library, whose documentation has their errors; the blocks of bytes are numbers that are cut.
+#[allow(clippy::pedantic)]
+pub mod shim;
+mod token;
+mod traits;
+
+pub use document::{Change, Document};
+pub use error::Error;
 /// The proved text, and its contracts.
 ///
 /// It is made of a program in Rattle, which is Rust with contracts: what is for the prover is taken away, and the contract of each function is
@@ -73,26 +95,8 @@ mod number;
 ///
 /// The words, as `TokenAt`, are defined in the folder `crates/wat_lex/specs` of the repository: the grammar in `grammar`, tokens in `tokens`,
 /// what they read as in `values`, what an error prints in `errors`.
-// Proofs name loops, contracts speak of parameters and fields that the code leaves alone, and each file imports the shim's names, of which it
-// may need none. Clippy's advice on style is for text that is written in Rust.
-#[allow(unused_imports, unused_labels, unused_variables)]
-#[allow(
-    clippy::style,
-    clippy::complexity,
-    clippy::pedantic,
-    clippy::manual_unwrap_or_default,
-    clippy::sliced_string_as_bytes
-)]
-pub mod proved;
-mod recover;
-// Names and signatures are those of Rattle's library, whose documentation has their errors; the blocks of bytes are numbers that are cut.
-#[allow(clippy::pedantic)]
-pub mod shim;
-mod token;
-mod traits;
-
-pub use document::{Change, Document};
-pub use error::Error;
+#[doc(inline)]
+pub use generated::wat_lex as proved;
 pub use lexer::{Lexer, Tokens};
 pub use lines::LineIndex;
 pub use number::Float;

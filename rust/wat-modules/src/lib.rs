@@ -25,19 +25,35 @@ extern crate alloc;
 
 // Proofs name loops, contracts speak of parameters and fields that the code leaves alone, and each file imports the shim's names, of which it
 // may need none. Clippy's advice on style is for text that is written in Rust.
-macro_rules! made {
-    ($($visible:vis $module:ident)*) => {$(
-        #[doc(hidden)]
-        #[allow(dead_code, missing_docs, unused_imports, unused_labels, unused_variables)]
-        #[allow(clippy::style, clippy::complexity, clippy::pedantic)]
-        $visible mod $module;
-    )*};
+#[allow(
+    dead_code,
+    missing_docs,
+    unused_imports,
+    unused_labels,
+    unused_variables
+)]
+#[allow(clippy::style, clippy::complexity, clippy::pedantic)]
+mod generated {
+    pub mod wat_fields;
+    pub mod wat_fields_read;
+    pub mod wat_instructions;
+    pub mod wat_modules;
+    pub mod wat_pieces;
+    pub mod wat_sections;
+    pub mod wat_types;
 }
-
-made! { fields instructions pieces pub proved reading sections }
 
 use alloc::format;
 use alloc::vec::Vec;
+#[doc(hidden)]
+pub use generated::wat_modules as proved;
+/// The bytes of modules that hold nothing but function types, with their contracts. [`wat_lex::proved`] says how to read one.
+#[doc(inline)]
+pub use generated::wat_types as types;
+use generated::{
+    wat_fields as fields, wat_fields_read as reading, wat_instructions as instructions,
+    wat_pieces as pieces, wat_sections as sections,
+};
 use wat_lex::shim::alloc::Global;
 pub use wat_lex::{Error, Span};
 

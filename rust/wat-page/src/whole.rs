@@ -7,10 +7,9 @@
 //! [`wat_page_read`]: crate::page::wat_page_read
 
 use std::sync::{Mutex, PoisonError};
-use wat_lex::proved::lexer::Settings;
-use wat_tokens::format::format::format;
-use wat_tokens::shim::alloc::Global;
-use wat_tokens::types::compile_types;
+use wat_format::Options;
+use wat_lex::shim::alloc::Global;
+use wat_modules::types::compile_types;
 
 /// A text and what was made of it.
 struct Whole {
@@ -63,10 +62,10 @@ pub extern "C" fn wat_page_room(len: usize) -> *mut u8 {
 /// Lays the text in the room out, and answers whether it could be: a text with a fault is not, nor one for which memory is refused.
 #[unsafe(no_mangle)]
 pub extern "C" fn wat_page_lay_out(allow: bool, strict: bool) -> bool {
-    keep(|text| {
-        let laid_out = format(Global, text, Settings { allow, strict }).ok()?;
-        copied(laid_out.as_str().as_bytes())
-    })
+    let options = Options::new()
+        .allow_confusing_unicode(allow)
+        .strict_underscores(strict);
+    keep(|text| Some(options.format(text).ok()?.into_bytes()))
 }
 
 /// Makes the bytes of the module of types in the room, and answers whether the text is one.

@@ -101,11 +101,30 @@ mod macros;
 pub mod annotation;
 pub mod encode;
 mod error;
+// Proofs name loops, contracts speak of parameters and fields that the code leaves alone, and each file imports the shim's names, of which it
+// may need none. Clippy's advice on style is for text that is written in Rust.
+#[allow(unused_imports)]
+#[allow(clippy::style, clippy::complexity, clippy::pedantic)]
+mod generated {
+    pub mod wat_floats;
+    // Types of words are named as the words are.
+    #[allow(dead_code, non_camel_case_types)]
+    #[allow(unused_labels, unused_variables)]
+    #[allow(clippy::manual_unwrap_or_default)]
+    pub mod wat_lexer_parser;
+    pub mod wat_words;
+}
 #[cfg(feature = "std")]
 pub mod gensym;
 pub mod kw;
 pub mod lexer;
 pub mod parser;
+pub mod token;
+
+pub use error::Error;
+/// The bits of floating-point literals, proved as [`proved`] is.
+#[doc(inline)]
+pub use generated::wat_floats as floats;
 /// The proved text, and its contracts.
 ///
 /// It is made of a program in Rattle, which is Rust with contracts: what is for the prover is taken away, and the contract of each function is
@@ -161,23 +180,10 @@ pub mod parser;
 /// assert_eq!(*road.lengths, [16, 17]);
 /// # Ok::<(), Error>(())
 /// ```
-// Proofs name loops, contracts speak of parameters and fields that the code leaves alone, and each file imports the shim's names, of which it
-// may need none. Types of words are named as the words are. Clippy's advice on style is for text that is written in Rust.
-#[allow(dead_code, non_camel_case_types)]
-#[allow(unused_imports, unused_labels, unused_variables)]
-#[allow(clippy::style, clippy::complexity, clippy::pedantic)]
-#[allow(clippy::manual_unwrap_or_default)]
-pub mod proved;
-/// The bits of floating-point literals, proved as [`proved`] is.
-#[allow(unused_imports)]
-#[allow(clippy::style, clippy::complexity, clippy::pedantic)]
-pub mod floats;
-pub mod token;
-#[allow(unused_imports)]
-#[allow(clippy::style, clippy::complexity, clippy::pedantic)]
-pub mod words;
-
-pub use error::Error;
+#[doc(inline)]
+pub use generated::wat_lexer_parser as proved;
+#[doc(inline)]
+pub use generated::wat_words as words;
 #[doc(no_inline)]
 pub use wat_lex::shim;
 

@@ -2,10 +2,7 @@
 //! are a line feed, a carriage return, a tab and a backslash.
 
 use std::io::{self, Write};
-use wat_lex::proved::lexer::Settings;
-use wat_tokens::format::error::Error;
-use wat_tokens::format::format::format;
-use wat_tokens::shim::alloc::Global;
+use wat_format::FormatError;
 
 /// The text of a line.
 fn unescaped(line: &str) -> String {
@@ -34,13 +31,9 @@ fn escaped(text: &str) -> String {
 }
 
 fn layout(line: &str) -> String {
-    let settings = Settings {
-        allow: false,
-        strict: false,
-    };
-    match format(Global, &unescaped(line), settings) {
+    match wat_format::format(&unescaped(line)) {
         Ok(layout) => escaped(&layout),
-        Err(Error::Fault(_)) => "fault".to_owned(),
+        Err(FormatError::Lexical { .. }) => "fault".to_owned(),
         Err(error) => error.to_string(),
     }
 }

@@ -1,7 +1,7 @@
 //! What the program `wat_tokens` does, as a library: lists of the tokens of WebAssembly text, plain or as JSON, a parser's replies, the text
 //! with its comments blanked or laid out, and the bytes of a module of types.
 //!
-//! All modules but [`shim`] are made of proved sources, and documented by their contracts. A call that takes memory takes a handle of the
+//! All modules but [`shim`] are generated from proved sources, and documented by their contracts. A call that takes memory takes a handle of the
 //! allocator, [`Global`](shim::alloc::Global), and answers where it is refused.
 //!
 //! ```
@@ -28,19 +28,34 @@
 
 // Proofs name loops, contracts speak of parameters and fields that the code leaves alone, and each file imports the shim's names, of which it
 // may need none. Clippy's advice on style is for text that is written in Rust.
-macro_rules! made {
-    ($($module:ident)*) => {$(
-        #[allow(missing_docs, unused_imports, unused_labels, unused_variables)]
-        #[allow(clippy::style, clippy::complexity, clippy::pedantic, clippy::manual_unwrap_or_default)]
-        pub mod $module;
-    )*};
+#[allow(missing_docs, unused_imports, unused_labels, unused_variables)]
+#[allow(
+    clippy::style,
+    clippy::complexity,
+    clippy::pedantic,
+    clippy::manual_unwrap_or_default
+)]
+mod generated {
+    pub mod wat_commands;
+    pub mod wat_lists;
+    pub mod wat_options;
+    pub mod wat_tokens;
 }
-
-made! { commands format lines lists options program types }
 
 // Names and signatures are those of Rattle's library, whose documentation has their errors.
 #[allow(clippy::pedantic)]
 pub mod shim;
+
+#[doc(inline)]
+pub use generated::{
+    wat_commands as commands, wat_lists as lists, wat_options as options, wat_tokens as program,
+};
+#[doc(inline)]
+pub use wat_format::lines;
+#[doc(inline)]
+pub use wat_format::proved as format;
+#[doc(inline)]
+pub use wat_modules::types;
 
 /// The examples of the README, as tests.
 #[cfg(doctest)]

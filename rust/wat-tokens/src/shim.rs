@@ -1,15 +1,15 @@
-//! The part of Rattle's library that the commands use, over Rust's own: what the lexer's shim has, and beside it the words of the command line,
-//! files, streams, and numbers as text.
+//! The part of Rattle's library that the commands use, over Rust's own: what the shims of the lexer and the formatter have, the words of the command
+//! line, files and streams.
 
 pub mod env;
 pub mod fs;
-pub mod itoa;
 mod macros;
 pub mod path;
 mod print;
 pub mod rt;
 
 pub use std::{cmp, fmt, io, marker, process, str};
+pub use wat_format::shim::itoa;
 pub use wat_lex::shim::alloc;
 
 /// The names that a Rattle source has without an import, and the traits whose methods it has so.

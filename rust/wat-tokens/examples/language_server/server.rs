@@ -3,10 +3,7 @@
 use crate::json::{Json, quoted};
 use std::collections::HashMap;
 use std::io::{self, BufRead, Write};
-use wat_lex::proved::lexer::Settings;
 use wat_lex::{Document, Fault, Span, Token, TokenKind};
-use wat_tokens::format::format::format;
-use wat_tokens::shim::alloc::Global;
 
 /// Places are in UTF-16, changes are of ranges, and tokens have these types, by number.
 const CAPABILITIES: &str = r#"{"capabilities":{"positionEncoding":"utf-16","textDocumentSync":2,
@@ -241,7 +238,7 @@ fn folds(document: &Document) -> String {
 /// The edit that lays the text out, null where the text has a fault.
 fn layout(document: &Document) -> String {
     let text = document.text();
-    let Ok(laid_out) = format(Global, text, Settings::default()) else {
+    let Ok(laid_out) = wat_format::format(text) else {
         return "null".to_owned();
     };
     let (range, text) = (range(document, 0, text.len()), quoted(&laid_out));

@@ -6,10 +6,12 @@ mod cursors;
 mod encoding;
 mod errors;
 mod free;
-mod identifiers;
 // A format has more than its rows ask.
 #[allow(dead_code, non_camel_case_types, unused_imports)]
-mod imports;
+mod generated {
+    pub mod wat_imports;
+}
+mod identifiers;
 mod lexing;
 mod lists;
 mod lookaheads;
@@ -27,6 +29,7 @@ mod sources;
 mod types;
 mod words;
 
+use generated::wat_imports as imports;
 use refusing::{Counts, Refused, refusing};
 use row::{Ending, Row};
 use sources::{SOURCES, Source};

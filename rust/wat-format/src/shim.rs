@@ -1,0 +1,10 @@
+//! The part of Rattle's library that the verified formatter uses, over Rust's own: the shim of [`wat_lex`], readers and writers, and numbers as text.
+
+#[cfg(not(feature = "std"))]
+pub mod io;
+pub mod itoa;
+
+pub use core::fmt;
+#[cfg(feature = "std")]
+pub use std::io;
+pub use wat_lex::shim::{alloc, prelude};
