@@ -41,7 +41,7 @@ wasm() {
     local test=(test --locked --target wasm32-wasip1)
     run wasm "${test[@]}" -p wat-lex --lib --test agreement --test stored --test random --test shim --test traits --test refusals "${without_threads[@]}"
     run wasm "${test[@]}" -p wat-parser --lib --test answers --test floats
-    run wasm "${test[@]}" -p wat-modules --lib --tests "${without_threads[@]}"
+    run wasm "${test[@]}" -p wat-modules -p wat-format --lib --tests "${without_threads[@]}"
     run wasm "${test[@]}" -p wat-tokens --test requests
 }
 

@@ -135,7 +135,7 @@ workspace() {
 
 crates() {
     local name
-    for name in wat-lex wat-parser wat-modules wat-tokens; do
+    for name in wat-lex wat-parser wat-modules wat-format wat-tokens; do
         package "$name"
     done
     workspace
