@@ -200,7 +200,8 @@ def files(room):
     named = b"".join(name.encode() + b"\n" for name in rest)
     room.check("fmt --check, five files", ["fmt", "--check", *texts], size=size, times=3.1, writes=5, opens=5, wanted=named, status=1)
     stay("fmt --check, five files", texts)
-    room.check("list, five files", ["list", *texts], size=size, times=1.6, writes=210, opens=5, wanted=b"".join(room.run([], it)[1] for it in texts.values()))
+    lists = b"\n".join(f"==> {name} <==\n".encode() + room.run([], text)[1] for name, text in texts.items())
+    room.check("list, five files", ["list", *texts], size=size, times=1.6, writes=220, opens=5, wanted=lists)
     room.check("fmt --write, five files", ["fmt", "--write", *texts], size=size, times=3.1, writes=0, opens=8, wanted=b"")
     stay("fmt --write, five files", laid)
 
