@@ -1,6 +1,7 @@
 #!/usr/bin/env bash
-# Runs the program on all texts below a folder at once, and on each by itself: what is written and reported must be the same, one after the
-# other, and the exit status the greatest. Without a file, what is written of a text on standard input must be the same again.
+# Runs the program on all texts below a folder at once, and on each by itself. The output of the first must be that of the others, each after a line
+# with the file's name and separated by empty lines; the reports must be the same, and the exit status the greatest. The output for a text on standard
+# input must be the same again.
 #
 # usage: tools/check_files.sh FOLDER [PROGRAM]
 set -eu
@@ -19,11 +20,14 @@ differences=0
 
 # each WORD..: the words on each file by itself
 each() {
-    local file status greatest=0
+    local file status greatest=0 head='==> %s <==\n'
     : > "$room/each_output"
     : > "$room/each_errors"
     for file in "${files[@]}"; do
         status=0
+        # shellcheck disable=SC2059
+        printf "$head" "$file" >> "$room/each_output"
+        head='\n==> %s <==\n'
         "$program" --file "$file" "$@" >> "$room/each_output" 2>> "$room/each_errors" || status=$?
         [ "$status" -le "$greatest" ] || greatest=$status
     done
