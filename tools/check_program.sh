@@ -510,6 +510,7 @@ esac
 expect 'help' 0 "$help\n" '' "$program" --help < /dev/null
 expect 'help, short' 0 "$help\n" '' "$program" -h sig < /dev/null
 expect 'help, a word' 0 "$help\n" '' "$program" help < /dev/null
+expect 'help, after options' 0 "$help\n" '' "$program" --json list help < /dev/null
 version=$(sed -n 's/^version = "\(.*\)"/\1/p' rust/Cargo.toml)
 expect 'version' 0 "wat_tokens $version, of wast 263.0.0\n" '' "$program" --version < /dev/null
 expect 'version, short' 0 "wat_tokens $version, of wast 263.0.0\n" '' "$program" -V < /dev/null
@@ -523,7 +524,7 @@ expect_wrong() {
 }
 # wrong words of the commands beyond those that were asked for
 wrong_words_beyond() {
-    expect_wrong '--help comes too late' --allow-confusing --help
+    expect_wrong '--help comes too late' a.wat --help
     expect_wrong '-V comes too late' list -V
     expect_wrong '-o has no name after it' module -o
     expect_wrong '-o is given twice' module -o a.wasm --output b.wasm

@@ -53,22 +53,24 @@ is_plain_list task.Blank = false
 is_plain_list task.Types = false
 is_plain_list task.Module = false
 
--- what comes before the list of a file: a line with its name, if there are several files; an empty line comes first, if one was opened before
-abbrev pub head : Bool → Bool → Task → List ℕ → List ℕ
-head several begun t file = if several && is_plain_list t then (if begun then codes "\n" else []) ++ (codes "==> " ++ (visible (name_of file) ++ codes " <==\n")) else []
+-- The head of the list of a file: a line with its name, after an empty line if a file was opened before it. Only plain lists of several files have one.
+abbrev pub head : Bool → Bool → Task → List ℕ → Option (List ℕ)
+head several begun t file = if several && is_plain_list t then Some ((if begun then codes "\n" else []) ++ (codes "==> " ++ (visible (name_of file) ++ codes " <==\n"))) else None
 
--- the head was written
-abbrev pub Headed : {T : Type 0} → (T → Option (List ℕ)) → (T → Option Failed) → List ℕ → T → T → Type 0
-Headed held write_failed text output output' = Appends (held output) (held output') text × (write_failed output' ≡ None)
+-- the head, if there is one, was written, and nothing else
+abbrev pub Headed : {T : Type 0} → (T → Option (List ℕ)) → (T → Option Failed) → Option (List ℕ) → T → T → Type 0
+Headed held write_failed None output output' = output' ≡ output
+Headed held write_failed (Some text) output output' = Appends (held output) (held output') text × (write_failed output' ≡ None)
 
--- the write of the head failed, or there was no memory for it
-abbrev pub Unheaded : {T : Type 0} → (T → Option (List ℕ)) → (T → Option Failed) → List ℕ → T → T → Outcome → Type 0
-Unheaded held write_failed text output output' outcome =
+-- there is a head, and its write failed, or there was no memory for it
+abbrev pub Unheaded : {T : Type 0} → (T → Option (List ℕ)) → (T → Option Failed) → Option (List ℕ) → T → T → Outcome → Type 0
+Unheaded held write_failed None output output' outcome = ⊥
+Unheaded held write_failed (Some text) output output' outcome =
     ((failed : Failed) × (outcome ≡ Refused (Write failed)) × (write_failed output' ≡ Some failed) × AppendsPrefix (held output) (held output') text)
     ⊎ ((outcome ≡ Refused (Memory alloc_error)) × (output' ≡ output))
 
 -- What is known of the run over a file: it was opened, and run after its head; or opened alone, or not opened.
-pub data RanFile {S T : Type 0} (left : S → Option (List ℕ)) (read_failed : S → Option Failed) (has_ended : S → Bool) (held : T → Option (List ℕ)) (write_failed : T → Option Failed) (prints : Prints) (head : List ℕ) (found : Found) (output output' : T) (outcome : Outcome) : Type 0 where
+pub data RanFile {S T : Type 0} (left : S → Option (List ℕ)) (read_failed : S → Option Failed) (has_ended : S → Bool) (held : T → Option (List ℕ)) (write_failed : T → Option Failed) (prints : Prints) (head : Option (List ℕ)) (found : Found) (output output' : T) (outcome : Outcome) : Type 0 where
   opened : (input input' : S) (within : T) → Gives found (left input) → read_failed input ≡ None → Headed held write_failed head output within → Ran left read_failed has_ended held write_failed prints input input' within output' outcome → RanFile left read_failed has_ended held write_failed prints head found output output' outcome
   unheaded : (input : S) → Gives found (left input) → Unheaded held write_failed head output output' outcome → RanFile left read_failed has_ended held write_failed prints head found output output' outcome
   unopened : (failed : Failed) → Fails found failed → outcome ≡ Unopened failed → output' ≡ output → RanFile left read_failed has_ended held write_failed prints head found output output' outcome

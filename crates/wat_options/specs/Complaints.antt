@@ -13,12 +13,12 @@ use Rattle.wat_options.specs.declared.options.Verb.{Verb}
 abbrev pub asks_for_words : Word → Bool
 asks_for_words word = spells (codes "--help") word || (spells (codes "-h") word || (spells (codes "help") word || (spells (codes "--version") word || spells (codes "-V") word)))
 
--- an option that the usage line does not show, or `help`
+-- an option with a value, or a request for help or the version
 abbrev pub is_own_option : Word → Bool
 is_own_option word = is_some (named_kind word) || asks_for_words word
 
--- The words after the options say something that goes beyond the usage line: a command of files, an option, or a file. A word that does not show
--- that it is a file is one where such a file is there.
+-- The first word after the leading options goes beyond the usage line: it is a command of files, an option with a value, a request for help or the
+-- version, or a file. A word that does not show that it is a file is one if such a file is there.
 abbrev pub rest_goes_beyond : Bool → List Word → Bool
 rest_goes_beyond there [] = false
 rest_goes_beyond there (word ∷ words) = by (verb_named word)
@@ -27,7 +27,7 @@ rest_goes_beyond there (word ∷ words) = by (verb_named word)
     by None = is_own_option word || (looks_like_file word || (there && is_file word))
     by (Some v) = not (owns_words v)
 
--- the words say something that goes beyond the usage line
+-- the leading options, or the first word after them, go beyond the usage line; later words do not count
 abbrev pub goes_beyond : Bool → List Word → Bool
 goes_beyond there words = gives kind.Json || (gives kind.Named || (gives kind.Output || rest_goes_beyond there (after_front words)))
   where

@@ -182,7 +182,7 @@ files_of p = files_in p.front ++ (files_in p.args ++ p.last)
 abbrev pub file_names : FileNames → List Word
 file_names f = files_in (args_of f.front.now) ++ (files_in (args_of f.args.now) ++ f.last.now)
 
--- these are the files: those before `--`, or those after it, and not too many
+-- these are the files, and not too many; words that name files come before `--` or after it, not both
 pub record HasFiles (p : Parts) (files : List Word) : Type 0 where
   pub all : files ≡ files_of p
   pub alone : (times kind.File (all_args p) ≡ 0) ⊎ (length p.last ≡ 0)
@@ -246,11 +246,11 @@ begins_with_files (word ∷ words) = takes_files (verb_named word)
     takes_files None = false
     takes_files (Some v) = not (owns_words v)
 
--- help is asked for, first of all or of a command that takes files
+-- after the leading options, help is asked for: first, or of a command that takes files
 abbrev pub wants_help : List Word → Bool
-wants_help words = asks_help words || (begins_with_files words && asks_help (after_verb words))
+wants_help words = asks_help (after_front words) || (begins_with_files (after_front words) && asks_help (after_verb (after_front words)))
 
--- the words ask for a task over files, of which neither `--` nor `help` is the first word; it is written to the file of this name, which is given once
+-- the words ask for a task over files, of which `--` is not the first word; it is written to the file of this name, which is given once
 pub record AsksRun (words : List Word) (settings : Settings) (task : Task) (target : Option (List ℕ)) (files : List Word) : Type 0 where
   pub taken : take_all (parts_of words).verb (all_args (parts_of words)) ≡ true
   pub selects : Selects (all_args (parts_of words)) settings
@@ -259,7 +259,6 @@ pub record AsksRun (words : List Word) (settings : Settings) (task : Task) (targ
   pub once : times kind.Output (all_args (parts_of words)) ≤ 1
   pub named : HasFiles (parts_of words) files
   pub begun : begins_with (codes "--") (after_front words) ≡ false
-  pub unhelped : begins_with (codes "help") (after_front words) ≡ false
   pub other : wants_help words ≡ false
 
 -- the words ask for `fmt` over files

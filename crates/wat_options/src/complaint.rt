@@ -169,6 +169,8 @@ fn wrong_argument(word: &String) -> Complaint<'_> {
         Complaint::Nameless(word.as_str())
     } else if asks_for_words(word) {
         Complaint::Late(word.as_str())
+    } else if matches!(word.as_str(), "--check" | "--write" | "--diff") {
+        Complaint::NoMode
     } else {
         Complaint::Unknown(word.as_str())
     }
@@ -232,7 +234,7 @@ fn wrong_beyond(words: &[String], there: bool) -> Complaint<'_> {
     if is_file(word) {
         Complaint::Nothing(word.as_str())
     } else {
-        Complaint::Unknown(word.as_str())
+        wrong_argument(word)
     }
 }
 

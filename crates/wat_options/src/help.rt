@@ -36,10 +36,10 @@ commands; without one it is `list`:
                rewritten; a folder is the `.wat` and `.wast` files below it
   help         this text
 
-`list`, `sig` and `fmt` take any number of files, the others one. Of several files each list comes
-after a line `==> FILE <==`. All words after `sig` and `play` are names and calls: their files are
-options. Without a command the first FILE is `-`, or has a `.` or a `/` in it, or is there. After
-`--` a FILE may begin with a dash.
+`list`, `sig` and `fmt` take any number of files, the others one. Of several files each plain
+list follows a line `==> FILE <==`. All words after `sig` and `play` are names and calls: their
+files are options. Without a command the first FILE is `-`, or has a `.` or a `/` in it, or is
+there. After `--` a FILE may begin with a dash.
 
 options, before the command or, except with `sig` and `play`, anywhere after it:
   --allow-confusing     accept characters that can make a text look other than it is
@@ -49,7 +49,7 @@ options, before the command or, except with `sig` and `play`, anywhere after it:
   --file NAME           read this file; may be given more than once
   -o, --output FILE     write the bytes of `types` or `module` to FILE, if the text compiles; `-` is
                         standard output, also if that is a terminal
-  -h, --help            this text, as first word or directly after a command
+  -h, --help            this text; first, or after `list`, `blank`, `types`, `module` or `fmt`
   -V, --version         the version, as first word
 
 calls of a parser:

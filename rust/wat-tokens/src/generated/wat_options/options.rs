@@ -570,8 +570,7 @@ fn run_of<'a>(
     words: &'a [String],
     line: Line<'a>,
 ) -> Result<Option<Command<'a>>, AllocError> {
-    let rest = after_front(words);
-    if begins_with("--", rest) || begins_with("help", rest) {
+    if begins_with("--", after_front(words)) {
         return Ok(None);
     }
     if !line.takes_all() || !line.has_files() {
@@ -640,7 +639,8 @@ pub(crate) fn begins_with_files(words: &[String]) -> bool {
     }
 }
 
-/// Whether the words ask for help, first of all or of a command that takes files.
+/// Returns `true` if the words after the leading options ask for help, first or of a command that takes
+/// files.
 ///
 /// # Proved
 ///
@@ -648,7 +648,8 @@ pub(crate) fn begins_with_files(words: &[String]) -> bool {
 /// ensures { result ≡ wants_help words.now }
 /// ```
 fn wants_help(words: &[String]) -> bool {
-    asks_help(words) || (begins_with_files(words) && asks_help(split_verb(words).1))
+    let rest = after_front(words);
+    asks_help(rest) || (begins_with_files(rest) && asks_help(split_verb(rest).1))
 }
 
 /// What the words ask for, if they ask for something.
