@@ -1,15 +1,17 @@
-//! The functions of `include/wat.h`, for C and C++: the lexer of the WebAssembly text format, and what is under a parser's calls.
+//! The functions of `include/wat.h`, for C and C++: a lexer of the WebAssembly text format, readers of the values of tokens, and peeks at the
+//! tokens that are visible to a parser.
 //!
-//! Both modules are generated from proved sources by `tools/erase`. What a caller owes is in the header; the `requires` of each function say the same of the
-//! slices that it makes of what C passes.
+//! Both modules are generated from verified sources by `tools/erase`. The header documents the preconditions for callers in C. The `requires` clauses
+//! of each function state the same preconditions for the slices that it builds from its arguments.
 #![warn(missing_docs)]
 #![deny(improper_ctypes_definitions, unsafe_code)]
 
-// Proofs name loops, and each file imports the shim's names, of which it may need none. Clippy's advice on style is for text that is written in Rust.
+// Generated code has labels that only proofs use, and imports of shim names that a file may not use. Clippy's style lints are meant for hand-written
+// code.
 #[allow(unused_imports, unused_labels)]
 #[allow(clippy::style, clippy::complexity, clippy::pedantic)]
 mod generated {
-    // What C passes: pointers, and bytes that are UTF-8.
+    // It builds slices from the pointers that C passes, and strings from bytes that must be UTF-8.
     #[allow(unsafe_code)]
     pub mod wat_parser_c;
     pub mod wat_rows;

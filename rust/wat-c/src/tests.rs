@@ -1,4 +1,4 @@
-//! Rows of texts, their links, and what looks find in them.
+//! Tests of the rows of a text, their links, and peeks at them.
 
 use crate::rows::counting::{Row, fill_counting};
 use crate::rows::links::link;
@@ -12,7 +12,7 @@ const SETTINGS: Settings = Settings {
     strict: false,
 };
 
-/// The rows of a text with their links, and why there are no more.
+/// Returns the rows of a text with their links, and the code of the reason why there are no more.
 fn rows_of(text: &str) -> (Vec<Row>, u32) {
     let none = Row {
         offset: 0,
@@ -27,7 +27,7 @@ fn rows_of(text: &str) -> (Vec<Row>, u32) {
     (rows, filled.why)
 }
 
-/// The row that a look from a row on finds under names, and its status.
+/// Peeks from the row `place` on, under registered names. Returns the index of the row that is found, and the status.
 fn look(text: &str, names: &[&str], place: usize) -> (u32, u32) {
     let (rows, why) = rows_of(text);
     let end = |number| names[..=number].concat().len();
@@ -37,7 +37,7 @@ fn look(text: &str, names: &[&str], place: usize) -> (u32, u32) {
     (found.row(), found.status())
 }
 
-/// A text, the names, the row that a look is from, and the row that it finds with its status.
+/// A text, the registered names, the index of the row to peek from, and the index of the row that is found with the status.
 type Look = (&'static str, &'static [&'static str], usize, (u32, u32));
 
 #[test]
@@ -51,7 +51,7 @@ fn looks_find_a_row_under_names_or_say_why_not() {
         ("(@\"\\61\") b", &["a"], 0, (0, 0)),
         ("(@\"\\61\") b", &["b"], 0, (3, 0)),
         ("(@\"a\") b", &["a"], 0, (0, 0)),
-        // Where the text or its rows end, at a fault, where a group is not closed, and where a name is none.
+        // The end of the text or of its rows, a lexical error, a group that is not closed, and an annotation without a valid name.
         ("", &[], 0, (0, 1)),
         ("a", &[], 1, (1, 1)),
         ("a", &[], 2, (1, 1)),

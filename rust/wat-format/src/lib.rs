@@ -27,8 +27,8 @@ extern crate alloc;
 extern crate std;
 
 mod error;
-// Proofs name loops, contracts speak of parameters and fields that the code leaves alone, and each file imports the shim's names, of which it
-// may need none. Clippy's advice on style is for text that is written in Rust.
+// Generated code has labels that only proofs use, parameters and fields that only contracts use, and imports of shim names that a file may not
+// use. Clippy's style lints are meant for hand-written code.
 #[allow(missing_docs, unused_imports, unused_labels, unused_variables)]
 #[allow(
     clippy::style,
@@ -48,7 +48,7 @@ pub mod shim;
 use alloc::string::String;
 use core::fmt;
 pub use error::FormatError;
-/// The verified formatter and its contracts. [`wat_lex::proved`] says how to read one.
+/// The verified formatter and its contracts. [`wat_lex::proved`] explains how to read a contract.
 #[doc(inline)]
 pub use generated::wat_format as proved;
 /// The token lists of the program `wat_tokens`, and the sinks that the verified formatter writes to.
@@ -106,7 +106,7 @@ pub fn format_to_writer(
     Options::new().format_to_writer(text, output)
 }
 
-/// The examples of the README, as tests.
+/// The README, whose examples are run as doc tests.
 #[cfg(doctest)]
 #[doc = include_str!("../README.md")]
 struct Readme;

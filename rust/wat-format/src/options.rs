@@ -35,7 +35,8 @@ impl Options {
         }
     }
 
-    /// Sets whether comments and strings may contain the nine Unicode characters that change the direction of text.
+    /// Sets whether comments and strings may contain the nine Unicode characters that change how the text around them is displayed: U+202A, U+202B,
+    /// U+202D, U+202E, U+2066 to U+2069, and U+206C. Otherwise each is a lexical error.
     pub const fn allow_confusing_unicode(mut self, allow: bool) -> Options {
         self.allow_confusing_unicode = allow;
         self
@@ -69,7 +70,7 @@ impl Options {
         output: &mut (impl fmt::Write + ?Sized),
     ) -> Result<(), FormatError> {
         self.write_blocks(text, |block| {
-            // A block is of whole tokens.
+            // A block consists of whole tokens, so it is UTF-8.
             let block = core::str::from_utf8(block).map_err(|_| fmt::Error)?;
             Ok(output.write_str(block)?)
         })
@@ -123,7 +124,7 @@ fn check_length(text: &str) -> Result<(), FormatError> {
     }
 }
 
-/// A sink that passes each block of bytes to a function, and keeps its error.
+/// A sink that passes each block of bytes to a function, and records the error that it returns.
 struct Blocks<F> {
     write: F,
     error: Option<FormatError>,
@@ -135,7 +136,7 @@ impl<F: FnMut(&[u8]) -> Result<(), FormatError>> Sink for Blocks<F> {
             Ok(()) => Ok(()),
             Err(error) => {
                 self.error = Some(error);
-                // The failure of a write that accepts no byte.
+                // `Failed` for a write that accepts no bytes.
                 taken(Ok(0)).map(drop)
             }
         }

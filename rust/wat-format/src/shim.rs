@@ -1,4 +1,5 @@
-//! The part of Rattle's library that the verified formatter uses, over Rust's own: the shim of [`wat_lex`], readers and writers, and numbers as text.
+//! The part of Rattle's library that the verified formatter uses, implemented with Rust's standard library: the shim of [`wat_lex`], readers and
+//! writers, and integers as decimal text.
 
 #[cfg(not(feature = "std"))]
 pub mod io;

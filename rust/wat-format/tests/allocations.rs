@@ -1,4 +1,4 @@
-//! The errors of allocations that fail.
+//! Allocation-failure injection: every failed allocation is an error.
 
 #[path = "../../wat-lex/tests/refusing/mod.rs"]
 mod refusing;

@@ -1,4 +1,4 @@
-//! The errors of each function, and what is written before one.
+//! The errors of each function, and the output before an error.
 
 use std::error::Error;
 use std::{fmt, io};

@@ -1,4 +1,4 @@
-//! Formats texts by each of the three functions.
+//! Formats texts with each of the three functions.
 
 #[path = "../../wat-parser/tests/answers/pictures.rs"]
 mod pictures;
@@ -6,10 +6,10 @@ mod pictures;
 use pictures::{drawn, spelled};
 use wat_format::{FormatError, Options, format, format_to, format_to_writer};
 
-/// In each two lines a text, and its formatted text or `fault`.
+/// Pairs of lines: a text, and its formatted text, or `fault` if it has a lexical error.
 const TABLE: &str = include_str!("../../../tests/layouts.txt");
 
-/// Formats a text by each function; the results must agree.
+/// Formats a text with each function, checks that the results agree, and returns the result.
 fn formatted(text: &str, options: Options) -> Result<String, FormatError> {
     let (mut output, mut bytes) = (String::new(), Vec::new());
     let result = options.format(text);
@@ -48,7 +48,7 @@ fn a_formatted_text_is_formatted() {
     }
 }
 
-/// Each option decides whether a text is formatted.
+/// Checks that each option accepts or rejects its texts.
 #[test]
 fn an_option_accepts_or_rejects_a_text() {
     let plain = Options::new();
@@ -91,7 +91,7 @@ fn the_functions_of_the_crate_have_the_default_options() {
     assert_eq!(Options::default(), Options::new());
 }
 
-/// A text of several blocks, with characters of two to four bytes at their ends.
+/// Formats a text of several blocks, with characters of two to four bytes at their ends.
 #[test]
 fn a_long_text_is_written_in_blocks() {
     let text = "( a ;; \u{e9}\u{20ac}\u{1f600}\n )\n".repeat(40_000);

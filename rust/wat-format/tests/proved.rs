@@ -1,4 +1,4 @@
-//! The verified functions: texts as they are laid out, into a string and into sinks, and what is refused.
+//! The verified functions: formatted texts in a string and in a sink, and their errors.
 
 #[path = "../../wat-parser/tests/answers/pictures.rs"]
 mod pictures;
@@ -12,7 +12,7 @@ use wat_format::proved::stream::format_to;
 use wat_format::shim::alloc::Global;
 use wat_lex::proved::lexer::Settings;
 
-/// In each two lines a text, and its layout.
+/// Pairs of lines: a text, and its formatted text, or `fault` if it has a lexical error.
 const TABLE: &str = include_str!("../../../tests/layouts.txt");
 
 const PLAIN: Settings = Settings {
@@ -20,7 +20,7 @@ const PLAIN: Settings = Settings {
     strict: false,
 };
 
-/// The text laid out, or the error as it is printed.
+/// Returns the formatted text, or the printed error.
 fn shown(text: &str, settings: Settings) -> String {
     match format(Global, text, settings) {
         Ok(layout) => layout.into(),
@@ -68,7 +68,7 @@ fn a_string_has_the_layout_or_the_fault() {
     assert_eq!(layout, ";;\u{202e}\n");
 }
 
-/// A sink with room for so many bytes, which knows how many each call wrote.
+/// A sink with capacity for `room` bytes, which records the number of bytes written by each call.
 #[derive(Default)]
 struct Narrow {
     held: Vec<u8>,
@@ -96,7 +96,7 @@ impl Sink for Narrow {
     }
 }
 
-/// A sink of so much room after the text was written to it, and the error as it is printed.
+/// Formats a text to a sink with capacity for `room` bytes. Returns the sink and the printed error, which is empty if there is none.
 fn written(text: &str, room: usize) -> (Narrow, String) {
     let mut sink = Narrow {
         room,
@@ -123,14 +123,14 @@ fn a_sink_that_fails_has_the_front_of_the_layout() {
     }
 }
 
-/// So many groups of a word of so many letters, in lines of their own, and then a string of so many bytes.
+/// Returns a text of `groups` lines, each a group with a word of `letters` letters, followed by a string literal of `string` bytes.
 fn long_text(groups: usize, letters: usize, string: usize) -> String {
     let group = format!("( {} )\n", "a".repeat(letters));
     format!("{}\"{}\"\n", group.repeat(groups), "s".repeat(string))
 }
 
-/// Each block is written by a call of its own, as soon as it has 65,536 bytes. So no call but the last writes less, and none more than the
-/// longest token above that.
+/// Checks that each block is written by a separate call as soon as it has 65,536 bytes. So every call except the last writes at least that many, and
+/// no call exceeds it by more than the longest token.
 #[test]
 fn blocks_are_written_as_they_are_full() {
     let rows = [

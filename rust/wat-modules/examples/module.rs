@@ -1,6 +1,6 @@
-//! Writes the bytes of a module to standard output, from a file of text or standard input.
+//! Compiles the module in a file, or on standard input, and writes its bytes to standard output.
 //!
-//! `cargo run --example module FILE`. What is wrong with the text is written to standard error, and the status is 1.
+//! `cargo run --example module FILE`. An error is written to standard error, and the exit status is then 1.
 
 use std::error::Error;
 use std::fs;
@@ -8,7 +8,7 @@ use std::io::{self, Read, Write};
 use std::path::Path;
 use std::process::ExitCode;
 
-/// The text of a file, or of standard input.
+/// Reads the text of a file, or of standard input if no file is named.
 fn text_of(file: Option<&Path>) -> io::Result<String> {
     let mut text = String::new();
     match file {

@@ -1,4 +1,4 @@
-//! WebAssembly modules from text to bytes, by a proved compiler.
+//! A verified compiler from the WebAssembly text format to the binary format.
 //!
 //! ```
 //! let bytes = wat_modules::parse_str("(module (func (export \"one\") (result i32) i32.const 1))")?;
@@ -14,17 +14,17 @@
 //! # Ok::<(), wat_modules::Error>(())
 //! ```
 //!
-//! It takes the modules that [`parse_str`] names. Any other text is refused with its place.
+//! [`parse_str`] documents the modules that it accepts. For any other text it returns an error with its location.
 //!
-//! The crate is `no_std` with `alloc`. The feature `std`, which is on unless it is turned off, has `Error::set_path`.
+//! The crate is `no_std` with `alloc`. The feature `std`, which is on by default, adds `Error::set_path`.
 #![no_std]
 #![warn(missing_docs)]
 #![forbid(unsafe_code)]
 
 extern crate alloc;
 
-// Proofs name loops, contracts speak of parameters and fields that the code leaves alone, and each file imports the shim's names, of which it
-// may need none. Clippy's advice on style is for text that is written in Rust.
+// Generated code has labels that only proofs use, parameters and fields that only contracts use, and imports of shim names that a file may not
+// use. Clippy's style lints are meant for hand-written code.
 #[allow(
     dead_code,
     missing_docs,
@@ -47,7 +47,7 @@ use alloc::format;
 use alloc::vec::Vec;
 #[doc(hidden)]
 pub use generated::wat_modules as proved;
-/// The bytes of modules that hold nothing but function types, with their contracts. [`wat_lex::proved`] says how to read one.
+/// The verified compiler of modules that contain only function types, and its contracts. [`wat_lex::proved`] explains how to read a contract.
 #[doc(inline)]
 pub use generated::wat_types as types;
 use generated::{
@@ -57,20 +57,27 @@ use generated::{
 use wat_lex::shim::alloc::Global;
 pub use wat_lex::{Error, Span};
 
-/// The bytes of the module that a text spells, in WebAssembly's binary format.
+/// Compiles a module from the text format to the binary format, and returns its bytes.
 ///
-/// A module is `(module $name? field..)`, or `field..` alone, of types, imports, functions, tables, memories, globals, exports, a start function,
-/// elements and data, with names, inline imports, exports, elements and data. Value types and instructions, plain, in blocks and folded, are those of
-/// WebAssembly 2.0.
+/// The text is `(module $name? field..)`, or `field..` without the enclosing `(module )`. Fields are types, imports, functions, tables, memories,
+/// globals, exports, a start function, element segments and data segments, with identifiers and all inline abbreviations. Value types and
+/// instructions (plain, block and folded) are those of WebAssembly 2.0.
 ///
-/// Where the text is such a module the answer is its bytes; where it is none, an error: both are proved of the text that this function is made of. A
-/// text spells one module at most. That the module is valid is not promised: no type of an operand is checked. There is no section of names.
+/// The verified function [`proved::compile`] returns bytes if and only if the text is such a module, unless an allocation fails or the module has
+/// more than `u32::MAX` bytes, and these are the module's bytes. A text matches the grammar of at most one module. The module is not validated: the
+/// types of operands are not checked. The compiler writes no name section.
 ///
 /// # Errors
 ///
-/// The lexer's, or that of the first token that no rule takes: an unknown word or name, a number out of range, any other. Two items of one name,
-/// an import after a definition and a second start function are refused after the module's own name, two variables of one name after the last of them. A text or a module of more than `u32::MAX` bytes is
-/// refused at the text's start. Or memory was refused. An error has its place, and prints the line of it.
+/// Returns an error with the byte offset at which it occurs. `Display` prints its location, and the line of the text unless that is long.
+///
+/// - a lexical error;
+/// - a syntax error at the first token that does not match the grammar, e.g. an unknown keyword, an unknown identifier or an integer out of range;
+/// - at the first field: a duplicate identifier of the module, an import after a definition, or a second start function;
+/// - after the last of a function's parameters and locals: a duplicate identifier among them;
+/// - at offset 0: a text or a module of more than `u32::MAX` bytes.
+///
+/// Returns an error without a location if an allocation fails.
 pub fn parse_str(text: impl AsRef<str>) -> Result<Vec<u8>, Error> {
     let text = text.as_ref();
     // `requires` of `proved::compile`.
@@ -82,10 +89,10 @@ pub fn parse_str(text: impl AsRef<str>) -> Result<Vec<u8>, Error> {
     Ok(bytes.into())
 }
 
-/// Each token that counts takes so much memory.
+/// Asserts that a significant token occupies 6 bytes of memory.
 const _: () = assert!(size_of::<instructions::source::ShortToken>() == 6);
 
-/// The examples of the README, as tests.
+/// The README, whose examples are run as doc tests.
 #[cfg(doctest)]
 #[doc = include_str!("../README.md")]
 struct Readme;

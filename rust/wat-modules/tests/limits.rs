@@ -1,4 +1,4 @@
-//! Integers at the limit of 32 bits, and counted sizes, which must not depend on how many bits a `usize` has.
+//! Integers at the limit of 32 bits, and counted sizes: neither may depend on the width of `usize`.
 
 use wat_modules::parse_str;
 
@@ -14,7 +14,7 @@ fn compile(text: &str) -> Result<Vec<u8>, (String, usize)> {
     }
 }
 
-/// Checks the bytes of a text with `u32::MAX` at `#`, and that the next integer is rejected there.
+/// Checks the bytes of a text with `u32::MAX` in place of `#`, and that the next integer is rejected there.
 fn check(text: &str, wanted: &[u8]) {
     let most = text.replace('#', "4294967295");
     assert_eq!(compile(&most), Ok(wanted.to_vec()), "{most}");
@@ -99,7 +99,7 @@ fn constants_have_their_own_limits() {
     assert_eq!(compile("(func i64.const 18446744073709551615)"), Ok(wanted));
 }
 
-/// A memory has the pages that hold its strings, and a table its elements.
+/// Checks that an inline memory has as many pages as its strings fill, and that an inline table has as many entries as its elements.
 #[test]
 fn memories_and_tables_have_counted_sizes() {
     for (length, pages) in [(0, 0), (1, 1), (0x1_0000, 1), (0x1_0001, 2)] {

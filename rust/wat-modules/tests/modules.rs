@@ -1,19 +1,19 @@
-//! Texts with the bytes that the standard's chapters give them, texts that are refused, and texts that are deep.
+//! Modules and their bytes by the standard's binary format, rejected texts, and deeply nested texts.
 
 use std::thread;
 use wat_modules::parse_str;
 
-/// What each module begins with.
+/// The magic number and the version, with which each module begins.
 const HEADER: &[u8] = b"\0asm\x01\0\0\0";
 
-/// A module of one function without parameters: its body, and the bytes of that in the code section.
+/// Bodies of a function without parameters, each with its bytes in the code section.
 const BODIES: [(&str, &[u8]); 8] = [
     ("", b"\x00\x0b"),
     (
         "(if (result i32) (i32.const 1) (then (i32.const 2)) (else (i32.const -3))) drop",
         b"\x00\x41\x01\x04\x7f\x41\x02\x05\x41\x7d\x0b\x1a\x0b",
     ),
-    // An `else` with nothing after it is an instruction too.
+    // An `else` without instructions is encoded too.
     (
         "(if (i32.const 1) (then) (else))",
         b"\x00\x41\x01\x04\x40\x05\x0b\x0b",
@@ -175,13 +175,13 @@ fn refusals_have_their_place() {
             44,
         ),
         ("(module (func (export \"\\ff\")))", "name is not UTF-8", 22),
-        // Groups that have no end, and ends of none.
+        // Groups without a closing parenthesis, and closing parentheses without a group.
         ("(func $f) (start $f", "unexpected token", 19),
         ("(func $f (start $f)", "unknown keyword", 10),
         ("(func) ) (func)", "unexpected token", 7),
         ("(func $f)) (start $f)", "unexpected token", 9),
         ("(module (func)))", "unexpected token", 15),
-        // Faults of the lexer.
+        // Lexical errors.
         ("(module (func \"", "unexpected end-of-file", 15),
         ("(module (; ", "unterminated block comment", 8),
     ];
@@ -201,7 +201,7 @@ fn refusals_have_their_place() {
     assert!(!error.is_out_of_memory());
 }
 
-/// A text of more than `u32::MAX` bytes, none of which is ever written.
+/// Rejects a text of more than `u32::MAX` bytes.
 #[cfg(target_pointer_width = "64")]
 #[test]
 fn a_text_that_is_too_long_is_refused() {
@@ -210,7 +210,7 @@ fn a_text_that_is_too_long_is_refused() {
     assert_eq!(parse_str(&text).unwrap_err().to_string(), message);
 }
 
-/// What is run on a stack of 64 KiB.
+/// Runs a function on a stack of 64 KiB.
 fn on_a_small_stack(run: impl FnOnce() + Send + 'static) {
     let thread = thread::Builder::new().stack_size(0x1_0000).spawn(run);
     thread.unwrap().join().unwrap();
@@ -241,7 +241,7 @@ fn no_depth_of_the_text_is_a_depth_of_the_stack() {
     });
 }
 
-/// A type of six parameters, other ones for each number below 64, as text and as bytes.
+/// Returns a type of six parameters as text and as bytes, a different one for each `number` below 64.
 fn parameters(number: usize) -> (String, Vec<u8>) {
     let is_wide = |digit: &usize| number >> digit & 1 == 1;
     let words = (0..6).map(|digit| if is_wide(&digit) { " i64" } else { " i32" });

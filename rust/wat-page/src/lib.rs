@@ -1,15 +1,16 @@
-//! The module of the npm package and of the page: a function that reads a text and writes a row for each of its tokens, and those of [`whole`], which
-//! lay a text out and make the bytes of a module of types.
+//! The WebAssembly module of the npm package and of the page. [`page`] has a function that lexes a text and writes a row for each of its tokens;
+//! [`whole`] has functions that format a text and compile a module of function types.
 //!
-//! [`page`] is generated from the proved sources of `wat_page` by `tools/erase`. What JavaScript passes meets rules 1, 5 and 6 of `include/wat.h`; it need not
-//! be UTF-8. `lexer.js` of the package lays the memory out so.
+//! [`page`] is generated from the verified sources of `wat_page` by `tools/erase`. Arguments from JavaScript must follow rules 1, 5 and 6 of
+//! `include/wat.h`; the text need not be UTF-8. `lexer.js` of the package arranges the memory according to these rules.
 #![warn(missing_docs)]
 #![deny(improper_ctypes_definitions, unsafe_code)]
 
-// Proofs name loops, and each file imports the shim's names, of which it may need none. Clippy's advice on style is for text that is written in Rust.
+// Generated code has labels that only proofs use, and imports of shim names that a file may not use. Clippy's style lints are meant for hand-written
+// code.
 #[allow(unused_imports, unused_labels)]
 #[allow(clippy::style, clippy::complexity, clippy::pedantic)]
-// What JavaScript passes: pointers.
+// It builds slices from the pointers that JavaScript passes.
 #[allow(unsafe_code)]
 mod generated {
     pub mod wat_page;
@@ -18,7 +19,7 @@ mod generated {
 mod memory;
 #[cfg(test)]
 mod tests;
-// The names of functions.
+// `no_mangle` counts as unsafe code.
 #[allow(unsafe_code)]
 pub mod whole;
 

@@ -1,6 +1,10 @@
-//! The module's memory. JavaScript lays out all of that of an instance in which [`wat_page_read`](crate::page::wat_page_read) is called, so there each
-//! request is refused. One call of it asks for some, for the width of more than 1,024 bytes without a space or a letter before a fault's place. It goes
-//! on without: a sequence of characters over the end of a part counts as its two halves. An instance that was asked for room takes memory from then on.
+//! The allocator of the module. In an instance that calls [`wat_page_read`](crate::page::wat_page_read), JavaScript arranges all of the memory, so
+//! every allocation fails.
+//!
+//! That function allocates in one case: for the width of more than 1,024 bytes without a space or an ASCII letter, in the line before a lexical
+//! error. If the allocation fails, the width is computed in parts, and a sequence of characters across the end of a part is measured as two.
+//!
+//! In an instance that calls [`wat_page_room`](crate::whole::wat_page_room), allocations succeed from then on.
 
 use std::alloc::{GlobalAlloc, Layout, System};
 use std::ptr::null_mut;
@@ -8,18 +12,18 @@ use std::sync::atomic::{AtomicBool, Ordering};
 
 static IS_GRANTED: AtomicBool = AtomicBool::new(false);
 
-/// From here on memory is given.
+/// Enables allocation in this instance.
 pub fn grant() {
     IS_GRANTED.store(true, Ordering::Relaxed);
 }
 
-/// The system's memory, or none.
+/// The system's allocator, or one that always fails until [`grant`] is called.
 struct Memory;
 
 #[global_allocator]
 static MEMORY: Memory = Memory;
 
-// SAFETY: null says that a request is refused, and each other block is the system's.
+// SAFETY: null reports an allocation failure, and every other block is the system allocator's.
 #[allow(unsafe_code)]
 unsafe impl GlobalAlloc for Memory {
     unsafe fn alloc(&self, layout: Layout) -> *mut u8 {

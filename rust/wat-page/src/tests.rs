@@ -1,4 +1,4 @@
-//! Reports of texts, whose rows and messages are from outside.
+//! Tests of the exported functions: reports with the caller's rows and message, and results over whole texts.
 
 use crate::page::{Report, Row, wat_page_read};
 use crate::whole::{
@@ -15,7 +15,7 @@ const UNWRITTEN: Report = Report {
     message: 9,
 };
 
-/// Reads a text into rows and a message.
+/// Lexes a text with these settings into rows and a message, and returns the report.
 #[allow(unsafe_code)]
 fn read_with(
     text: &[u8],
@@ -24,7 +24,7 @@ fn read_with(
     message: &mut [u8],
 ) -> Report {
     let mut report = UNWRITTEN;
-    // SAFETY: each pointer is that of a slice, with its length.
+    // SAFETY: each pointer and length are those of a slice.
     unsafe {
         wat_page_read(
             text.as_ptr(),
@@ -110,11 +110,11 @@ fn the_flags() {
     assert_eq!(ending(doubled, (false, false)), 0);
 }
 
-/// What a call makes of a text, None where it makes nothing.
+/// Calls a function over a text, and returns its result, or `None` if it has none.
 #[allow(unsafe_code)]
 fn made(text: &[u8], call: impl Fn() -> bool) -> Option<Vec<u8>> {
     let room = wat_page_room(text.len());
-    // SAFETY: the room is for so many bytes, and the answer has as many as it says.
+    // SAFETY: the buffer has the length of the text, and the result has the length that `wat_page_answer_len` returns.
     unsafe {
         room.copy_from_nonoverlapping(text.as_ptr(), text.len());
         call()
@@ -122,7 +122,7 @@ fn made(text: &[u8], call: impl Fn() -> bool) -> Option<Vec<u8>> {
     }
 }
 
-// One test, since there is one room.
+// This is a single test, since the tests of a process share one buffer.
 #[test]
 fn whole_texts() {
     let laid_out =

@@ -1,8 +1,9 @@
-//! What is made of a whole text, in memory of the module's own: its layout, and the bytes of a module of types. Both are proved; this file is tested.
+//! Functions over a whole text that allocate: [`wat_page_lay_out`] formats it, and [`wat_page_types`] compiles a module of function types. The
+//! formatter and the compiler are verified; this file is tested.
 //!
-//! A text is put into the room that [`wat_page_room`] gives. After it a call answers whether there is an answer, which is then at
-//! [`wat_page_answer`]. Room and answer hold until the next room is asked for. An instance that is called so is not one that [`wat_page_read`] reads
-//! in, of which JavaScript lays out all memory.
+//! The caller writes the text into the buffer that [`wat_page_room`] returns. If one of the functions then returns `true`, its result is at
+//! [`wat_page_answer`]. Buffer and result are valid until the next call of [`wat_page_room`]; a result is also replaced by the next one. Such an
+//! instance must not call [`wat_page_read`], since JavaScript arranges all of the memory for that function.
 //!
 //! [`wat_page_read`]: crate::page::wat_page_read
 
@@ -11,7 +12,7 @@ use wat_format::Options;
 use wat_lex::shim::alloc::Global;
 use wat_modules::types::compile_types;
 
-/// A text and what was made of it.
+/// The text, and the result of the last function over it.
 struct Whole {
     text: Vec<u8>,
     answer: Vec<u8>,
@@ -26,7 +27,8 @@ fn with_whole<T>(use_it: impl FnOnce(&mut Whole) -> T) -> T {
     use_it(&mut WHOLE.lock().unwrap_or_else(PoisonError::into_inner))
 }
 
-/// Keeps what is made of the text, and answers whether anything is.
+/// Calls a function with the text and stores its result, which is empty if there is none. Returns `true` if there is a result. A text that is not
+/// UTF-8 has none.
 fn keep(answer_to: impl FnOnce(&str) -> Option<Vec<u8>>) -> bool {
     with_whole(|whole| {
         let answer = str::from_utf8(&whole.text).ok().and_then(answer_to);
@@ -36,7 +38,7 @@ fn keep(answer_to: impl FnOnce(&str) -> Option<Vec<u8>>) -> bool {
     })
 }
 
-/// A copy of bytes, None where memory for it is refused.
+/// Copies bytes. Returns `None` if the allocation fails.
 fn copied(bytes: &[u8]) -> Option<Vec<u8>> {
     let mut copy = Vec::new();
     copy.try_reserve_exact(bytes.len()).ok()?;
@@ -44,7 +46,7 @@ fn copied(bytes: &[u8]) -> Option<Vec<u8>> {
     Some(copy)
 }
 
-/// Room for a text of so many bytes, null where memory for it is refused. The room and the answer of before are given back.
+/// Returns a buffer for a text of `len` bytes, or null if the allocation fails. Frees the previous buffer and result.
 #[unsafe(no_mangle)]
 pub extern "C" fn wat_page_room(len: usize) -> *mut u8 {
     #[cfg(target_family = "wasm")]
@@ -59,7 +61,8 @@ pub extern "C" fn wat_page_room(len: usize) -> *mut u8 {
     })
 }
 
-/// Lays the text in the room out, and answers whether it could be: a text with a fault is not, nor one for which memory is refused.
+/// Formats the text in the buffer. Returns `true` if the result is the formatted text, and `false` if the text is not UTF-8, has a lexical error, is
+/// too long, or if an allocation fails.
 #[unsafe(no_mangle)]
 pub extern "C" fn wat_page_lay_out(allow: bool, strict: bool) -> bool {
     let options = Options::new()
@@ -68,19 +71,20 @@ pub extern "C" fn wat_page_lay_out(allow: bool, strict: bool) -> bool {
     keep(|text| Some(options.format(text).ok()?.into_bytes()))
 }
 
-/// Makes the bytes of the module of types in the room, and answers whether the text is one.
+/// Compiles the module of function types in the buffer. Returns `true` if the result is the module's bytes, and `false` if the text is not such a
+/// module or if an allocation fails.
 #[unsafe(no_mangle)]
 pub extern "C" fn wat_page_types() -> bool {
     keep(|text| copied(compile_types(Global, text).ok()?.as_slice()))
 }
 
-/// Where the answer is.
+/// Returns a pointer to the result of the last function over the text.
 #[unsafe(no_mangle)]
 pub extern "C" fn wat_page_answer() -> *const u8 {
     with_whole(|whole| whole.answer.as_ptr())
 }
 
-/// How many bytes the answer has.
+/// Returns the length in bytes of the result of the last function over the text.
 #[unsafe(no_mangle)]
 pub extern "C" fn wat_page_answer_len() -> usize {
     with_whole(|whole| whole.answer.len())

@@ -1,10 +1,10 @@
-//! Prints the layout of each line of standard input as a line, or `fault`, for `tools/compare_layouts.py`. In a line `\n`, `\r`, `\t` and `\\`
-//! are a line feed, a carriage return, a tab and a backslash.
+//! Formats each line of standard input, and prints the formatted text as a line, or `fault` if there is a lexical error, for
+//! `tools/compare_layouts.py`. In a line `\n`, `\r`, `\t` and `\\` stand for a line feed, a carriage return, a tab and a backslash.
 
 use std::io::{self, Write};
 use wat_format::FormatError;
 
-/// The text of a line.
+/// Decodes the escapes of a line.
 fn unescaped(line: &str) -> String {
     let mut text = String::new();
     let mut letters = line.chars();
@@ -22,7 +22,7 @@ fn unescaped(line: &str) -> String {
     text
 }
 
-/// The line of a text.
+/// Encodes a text as a line, with escapes.
 fn escaped(text: &str) -> String {
     text.replace('\\', "\\\\")
         .replace('\n', "\\n")

@@ -1,8 +1,8 @@
-//! What the program `wat_tokens` does, as a library: lists of the tokens of WebAssembly text, plain or as JSON, a parser's replies, the text
-//! with its comments blanked or laid out, and the bytes of a module of types.
+//! The program `wat_tokens` as a library. It lists the tokens of a WebAssembly text, as lines or as JSON, replays calls of a parser, blanks the
+//! comments of a text, formats a text, and compiles modules.
 //!
-//! All modules but [`shim`] are generated from proved sources, and documented by their contracts. A call that takes memory takes a handle of the
-//! allocator, [`Global`](shim::alloc::Global), and answers where it is refused.
+//! All modules except [`shim`] are generated from verified sources, and documented by their contracts. A function that allocates has a handle of the
+//! allocator, [`Global`](shim::alloc::Global), as a parameter, and returns an error if an allocation fails.
 //!
 //! ```
 //! use wat_lex::proved::lexer::Settings;
@@ -14,7 +14,7 @@
 //! assert_eq!(laid_out.unwrap().as_str(), "(module\n  (func))\n");
 //! ```
 //!
-//! The bytes of a module that holds nothing but types:
+//! This compiles a module that contains only function types:
 //!
 //! ```
 //! use wat_tokens::shim::alloc::Global;
@@ -26,8 +26,8 @@
 #![warn(missing_docs)]
 #![forbid(unsafe_code)]
 
-// Proofs name loops, contracts speak of parameters and fields that the code leaves alone, and each file imports the shim's names, of which it
-// may need none. Clippy's advice on style is for text that is written in Rust.
+// Generated code has labels that only proofs use, parameters and fields that only contracts use, and imports of shim names that a file may not
+// use. Clippy's style lints are meant for hand-written code.
 #[allow(missing_docs, unused_imports, unused_labels, unused_variables)]
 #[allow(
     clippy::style,
@@ -42,7 +42,7 @@ mod generated {
     pub mod wat_tokens;
 }
 
-// Names and signatures are those of Rattle's library, whose documentation has their errors.
+// Names and signatures are those of Rattle's library, whose documentation describes their errors.
 #[allow(clippy::pedantic)]
 pub mod shim;
 
@@ -57,7 +57,7 @@ pub use wat_format::proved as format;
 #[doc(inline)]
 pub use wat_modules::types;
 
-/// The examples of the README, as tests.
+/// The README, whose examples are run as doc tests.
 #[cfg(doctest)]
 #[doc = include_str!("../README.md")]
 struct Readme;

@@ -1,4 +1,4 @@
-//! The program `wat_tokens`.
+//! The entry point of the program `wat_tokens`.
 #![forbid(unsafe_code)]
 
 use std::process::ExitCode;

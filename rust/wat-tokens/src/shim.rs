@@ -1,5 +1,5 @@
-//! The part of Rattle's library that the commands use, over Rust's own: what the shims of the lexer and the formatter have, the words of the command
-//! line, files and streams.
+//! The part of Rattle's library that the commands use, implemented with Rust's standard library: the shims of the lexer and the formatter,
+//! command-line arguments, files and streams.
 
 pub mod env;
 pub mod fs;
@@ -12,7 +12,7 @@ pub use std::{cmp, fmt, io, marker, process, str};
 pub use wat_format::shim::itoa;
 pub use wat_lex::shim::alloc;
 
-/// The names that a Rattle source has without an import, and the traits whose methods it has so.
+/// The names that are in scope in each Rattle source without an import, and the traits whose methods are in scope.
 pub mod prelude {
     pub use crate::shim::macros::{try_eprintln, try_println};
     pub use crate::shim::rt::HostRuntime;

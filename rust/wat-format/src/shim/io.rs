@@ -1,4 +1,4 @@
-//! Readers and writers for targets without an operating system. Errors have no number.
+//! Readers and writers for targets without an operating system. Errors have no error code.
 
 /// An error of a reader or writer.
 #[derive(Clone, Copy, Debug, Default, PartialEq, Eq)]

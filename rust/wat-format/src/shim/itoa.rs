@@ -1,9 +1,9 @@
-//! Numbers as decimal text.
+//! Integers as decimal text.
 
-/// How many digits the longest number has.
+/// The number of digits of `u64::MAX`, the greatest integer of any `usize`.
 const MOST_DIGITS: usize = 20;
 
-/// The room for the text of a number.
+/// A buffer for the decimal digits of an integer.
 #[derive(Clone, Copy, Debug)]
 pub struct Buffer([u8; MOST_DIGITS]);
 
@@ -14,13 +14,13 @@ impl Default for Buffer {
 }
 
 impl Buffer {
-    /// No number.
+    /// Returns a buffer without an integer.
     #[inline]
     pub fn new() -> Buffer {
         Buffer([b'0'; MOST_DIGITS])
     }
 
-    /// The digits of a number, without zeros in front.
+    /// Formats an integer in decimal without leading zeros, and returns its digits.
     #[inline]
     pub fn format(&mut self, number: usize) -> &str {
         let (mut at, mut rest) = (MOST_DIGITS - 1, number);

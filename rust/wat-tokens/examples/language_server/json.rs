@@ -1,14 +1,15 @@
-//! As much of JSON as the protocol needs: values are read, and strings printed.
+//! The part of JSON that the protocol needs: a parser of values and a printer of strings.
 
 use std::iter::Peekable;
 use std::str::Chars;
 
-/// How deep arrays and objects may be in one another.
+/// Maximum nesting depth of arrays and objects.
 const DEPTH: usize = 100;
 
+/// A JSON value.
 #[derive(Clone, Debug)]
 pub enum Json {
-    /// `null`, `true` and `false`.
+    /// One of `null`, `true` and `false`, which are not distinguished.
     Word,
     Number(f64),
     String(String),
@@ -17,13 +18,13 @@ pub enum Json {
 }
 
 impl Json {
-    /// The value that a text begins with, None where it is no JSON.
+    /// Parses the value at the start of a text. Returns `None` if there is no JSON value. Text after the value is ignored.
     pub fn read(text: &str) -> Option<Json> {
         let rest = text.chars().peekable();
         Reader { rest, depth: 0 }.value()
     }
 
-    /// The value of a key of an object, and a word where it has none.
+    /// Returns the value of a key of an object, or [`Json::Word`] if this is not an object or has no such key.
     pub fn get(&self, key: &str) -> &Json {
         let Json::Object(members) = self else {
             return &Json::Word;
@@ -32,7 +33,7 @@ impl Json {
         member.map_or(&Json::Word, |(_, value)| value)
     }
 
-    /// A string, empty where it is none.
+    /// Returns the value of a string, or an empty string for any other value.
     pub fn text(&self) -> &str {
         match self {
             Json::String(text) => text,
@@ -40,7 +41,7 @@ impl Json {
         }
     }
 
-    /// What a number counts, 0 where it is none.
+    /// Returns the value of a nonnegative integer, or 0 for any other value.
     pub fn count(&self) -> usize {
         match self {
             Json::Number(number) => number.to_string().parse().unwrap_or(0),
@@ -49,7 +50,7 @@ impl Json {
     }
 }
 
-/// A string as JSON has it.
+/// Quotes and escapes a string for JSON.
 pub fn quoted(text: &str) -> String {
     let quoted = text.chars().map(|c| match c {
         '"' | '\\' => format!("\\{c}"),
@@ -65,7 +66,7 @@ struct Reader<'t> {
 }
 
 impl Reader<'_> {
-    /// Takes a character after white space, where it is there.
+    /// Skips whitespace, and consumes `wanted` if it is the next character. Returns `true` if it was.
     fn takes(&mut self, wanted: char) -> bool {
         while self.rest.next_if(char::is_ascii_whitespace).is_some() {}
         self.rest.next_if_eq(&wanted).is_some()
@@ -112,7 +113,7 @@ impl Reader<'_> {
         Some(items)
     }
 
-    /// A string after its first quote. Escapes are code units of UTF-16.
+    /// Parses a string after its opening quote. An escape stands for one UTF-16 code unit.
     fn string(&mut self) -> Option<String> {
         let mut units = Vec::new();
         loop {

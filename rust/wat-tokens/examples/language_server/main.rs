@@ -1,6 +1,7 @@
-//! A language server for WebAssembly text, over standard input and output: faults, colours, folding and the proved layout.
+//! A language server for WebAssembly text, over standard input and output. It provides diagnostics of lexical errors, semantic tokens, folding
+//! ranges and the verified formatter.
 //!
-//! An editor runs it as the server of files `.wat` and `.wast`, with no arguments.
+//! An editor runs it without arguments as the server of `.wat` and `.wast` files.
 
 mod json;
 mod server;

@@ -1,16 +1,20 @@
-//! What the server answers to each message of the language server protocol.
+//! The server's responses to messages of the Language Server Protocol.
 
 use crate::json::{Json, quoted};
 use std::collections::HashMap;
 use std::io::{self, BufRead, Write};
 use wat_lex::{Document, Fault, Span, Token, TokenKind};
 
-/// Places are in UTF-16, changes are of ranges, and tokens have these types, by number.
+/// The result of `initialize`: positions count UTF-16 code units, changes are incremental, and a semantic token's type is an index into `tokenTypes`.
 const CAPABILITIES: &str = r#"{"capabilities":{"positionEncoding":"utf-16","textDocumentSync":2,
 "semanticTokensProvider":{"legend":{"tokenTypes":["comment","string","keyword","number","variable","decorator","operator"],
 "tokenModifiers":[]},"full":true},"foldingRangeProvider":true,"documentFormattingProvider":true}}"#;
 
-/// Answers messages up to `exit` or the input's end; whether the client asked for the end before.
+/// Responds to messages until `exit` or the end of the input. Returns `true` if the client sent `shutdown` before.
+///
+/// # Errors
+///
+/// Returns an error if a read or write fails, if a message is not valid (its header, UTF-8 or JSON), or if a change does not fit its document.
 pub fn serve(mut input: impl BufRead, output: impl Write) -> io::Result<bool> {
     let mut server = Server {
         output,
@@ -26,7 +30,7 @@ pub fn serve(mut input: impl BufRead, output: impl Write) -> io::Result<bool> {
     Ok(server.has_shut_down)
 }
 
-/// The next message, None at the input's end.
+/// Reads the next message. Returns `None` at the end of the input.
 fn read_message(input: &mut impl BufRead) -> io::Result<Option<Json>> {
     let (mut length, mut line) = (0, String::new());
     while line != "\r\n" {
@@ -44,22 +48,23 @@ fn read_message(input: &mut impl BufRead) -> io::Result<Option<Json>> {
     message.map(Some).ok_or(io::ErrorKind::InvalidData.into())
 }
 
+/// A connection to a client, and the state of the server.
 struct Server<W> {
     output: W,
-    /// By their URIs.
+    /// The open documents, by their URIs.
     documents: HashMap<String, Document>,
     has_shut_down: bool,
 }
 
 impl<W: Write> Server<W> {
-    /// Sends a message of these members.
+    /// Sends a message with these members of its JSON object.
     fn send(&mut self, members: &str) -> io::Result<()> {
         let body = format!(r#"{{"jsonrpc":"2.0",{members}}}"#);
         write!(self.output, "Content-Length: {}\r\n\r\n{body}", body.len())?;
         self.output.flush()
     }
 
-    /// Answers a request, or takes a notification, which has no `id`.
+    /// Responds to a request, or handles a notification, which has no `id`.
     fn take(&mut self, message: &Json) -> io::Result<()> {
         let method = message.get("method").text();
         let params = message.get("params");
@@ -75,7 +80,7 @@ impl<W: Write> Server<W> {
         self.send(&format!(r#""id":{id},{answer}"#))
     }
 
-    /// The result of a request, None where there is none of this name.
+    /// Returns the result of a request, or `None` if the server has no method of this name.
     fn answer(&mut self, method: &str, params: &Json) -> Option<String> {
         let document = self.documents.get(uri(params));
         let of = |answer: fn(&Document) -> String| document.map_or("null".to_owned(), answer);
@@ -111,7 +116,7 @@ impl<W: Write> Server<W> {
         self.publish(uri)
     }
 
-    /// Sends the faults of a document, and none of one that is closed.
+    /// Sends the lexical errors of a document, or an empty list if it is closed.
     fn publish(&mut self, uri: &str) -> io::Result<()> {
         let faults = self.documents.get(uri).map(diagnostics);
         let (uri, faults) = (quoted(uri), faults.unwrap_or_default());
@@ -125,7 +130,7 @@ fn uri(params: &Json) -> &str {
     params.get("textDocument").get("uri").text()
 }
 
-/// Makes a change: of a range, or of all where none is given.
+/// Applies a change to a document: to its range, or to the whole text if it has no range.
 fn change(document: &mut Document, change: &Json) -> io::Result<()> {
     let offset = |place: &Json| {
         let (line, column) = (place.get("line").count(), place.get("character").count());
@@ -142,7 +147,7 @@ fn change(document: &mut Document, change: &Json) -> io::Result<()> {
     changed.map(drop).map_err(io::Error::other)
 }
 
-/// A stretch of a document, as the protocol has it.
+/// Returns a range of a document, from one byte offset to another, as JSON of the protocol.
 fn range(document: &Document, from: usize, to: usize) -> String {
     let place = |offset| {
         let (line, column) = document.utf16_linecol(Span::from_offset(offset));
@@ -164,7 +169,7 @@ fn diagnostics(document: &Document) -> String {
         .join(",")
 }
 
-/// The number of the type of a token, None for white space and parentheses.
+/// Returns the index of a token's type in `tokenTypes`, or `None` for whitespace and parentheses.
 fn type_of(token: Token) -> Option<usize> {
     match token.kind {
         TokenKind::LineComment | TokenKind::BlockComment => Some(0),
@@ -178,12 +183,13 @@ fn type_of(token: Token) -> Option<usize> {
     }
 }
 
-/// Five numbers for each token. One of several lines is sent line by line.
+/// The encoding of semantic tokens: five integers for each. A token of several lines is encoded as one per line.
 #[derive(Default)]
 struct Numbers {
     all: Vec<String>,
-    /// Where the text was read to, and where the last token is that was sent: a line and a column.
+    /// Line and column of the current position in the text.
     at: (usize, usize),
+    /// Line and column of the last encoded token, to which the next one is relative.
     sent: (usize, usize),
 }
 
@@ -213,7 +219,7 @@ fn semantic_tokens(document: &Document) -> String {
     format!(r#"{{"data":[{}]}}"#, numbers.all.join(","))
 }
 
-/// The groups and the comments that have several lines.
+/// Returns the folding ranges of a document: its groups and block comments that span several lines.
 fn folds(document: &Document) -> String {
     let line = |offset| document.linecol(Span::from_offset(offset)).0;
     let (mut open, mut folds) = (Vec::new(), Vec::new());
@@ -235,7 +241,7 @@ fn folds(document: &Document) -> String {
     format!("[{}]", folds.join(","))
 }
 
-/// The edit that lays the text out, null where the text has a fault.
+/// Returns the edit that formats the document, or `null` if the formatter returns an error.
 fn layout(document: &Document) -> String {
     let text = document.text();
     let Ok(laid_out) = wat_format::format(text) else {

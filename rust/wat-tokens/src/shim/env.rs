@@ -1,10 +1,13 @@
-//! The words of the command line.
+//! Command-line arguments.
 use crate::shim::io::{Error, ErrorKind, Result};
 use crate::shim::prelude::{HostRuntime, String, Vec};
 use std::ffi::OsString;
 
-/// The words of the command line, the program's name first. They are read whole: where one is no UTF-8 there are none, and the error is
-/// `InvalidData`.
+/// Returns the command-line arguments, starting with the program's name.
+///
+/// # Errors
+///
+/// Returns an error of the kind `InvalidData` if any argument is not UTF-8, and one of the kind `OutOfMemory` if an allocation fails.
 pub fn args(rt: &HostRuntime) -> Result<std::vec::IntoIter<String>> {
     let mut words = Vec::new(rt.alloc());
     for word in std::env::args_os() {
@@ -13,7 +16,7 @@ pub fn args(rt: &HostRuntime) -> Result<std::vec::IntoIter<String>> {
     Ok(words.into_iter())
 }
 
-/// A word, which keeps its memory.
+/// Converts an argument to a string without copying it.
 fn word_of(word: OsString) -> Result<String> {
     match word.into_string() {
         Ok(text) => Ok(String::from(text)),

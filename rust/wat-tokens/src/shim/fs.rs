@@ -1,4 +1,5 @@
-//! Files and folders, by paths that are UTF-8. What a name that is not leads to is an error of the kind `InvalidFilename`.
+//! Files and directories, with UTF-8 paths. A path that the system returns and that is not UTF-8 is an error of the kind `InvalidFilename`.
+//! Other errors are those of `std::fs`, or of the kind `OutOfMemory` if an allocation fails.
 use crate::shim::alloc::{AllocError, Global};
 use crate::shim::io::{Error, ErrorKind, Read, Result, Write};
 use crate::shim::path::{Path, PathBuf};
@@ -7,45 +8,46 @@ use std::ffi::OsStr;
 use std::fs;
 pub use std::fs::{Metadata, Permissions};
 
-/// An open file, which is closed where it is dropped.
+/// An open file, which is closed when it is dropped.
 #[derive(Debug)]
 pub struct File(fs::File);
 
 impl File {
-    /// Opens a file to read it.
+    /// Opens an existing file for reading.
     pub fn open(_: &HostRuntime, path: &str) -> Result<File> {
         fs::File::open(path).map(File)
     }
 
-    /// Opens a file to write it. It is made if it is not there, and emptied if it is.
+    /// Opens a file for writing. Creates it if it does not exist, and truncates it otherwise.
     pub fn create(_: &HostRuntime, path: &str) -> Result<File> {
         fs::File::create(path).map(File)
     }
 
-    /// Makes a file, to read and write it. One that is there is an error of the kind `AlreadyExists`, and stays as it is.
+    /// Creates a file for reading and writing. If it exists, it is not changed, and the error is of the kind `AlreadyExists`.
     pub fn create_new(_: &HostRuntime, path: &str) -> Result<File> {
         fs::File::create_new(path).map(File)
     }
 
-    /// Who may read and write it.
+    /// Sets the permissions of the file.
     pub fn set_permissions(&self, permissions: Permissions) -> Result<()> {
         self.0.set_permissions(permissions)
     }
 
-    /// Waits until all that was written is on the disk.
+    /// Writes all data and metadata of the file to the disk before it returns.
     pub fn sync_all(&self) -> Result<()> {
         self.0.sync_all()
     }
 }
 
-/// A call is one of the system: it is short where that is, and fails where that is interrupted.
+/// Each read is a single system call, which may read fewer bytes than the buffer holds and fails if it is interrupted.
 impl Read for File {
     fn read(&mut self, buffer: &mut [u8]) -> Result<usize> {
         self.0.read(buffer)
     }
 }
 
-/// A call is one of the system: it is short where that is, and fails where that is interrupted. `write_all` goes on after both.
+/// Each `write` is a single system call, which may write fewer bytes than specified and fails if it is interrupted. `write_all` continues after a
+/// short write and retries after an interrupted one.
 impl Write for File {
     fn write(&mut self, bytes: &[u8]) -> Result<usize> {
         self.0.write(bytes)
@@ -56,28 +58,28 @@ impl Write for File {
     }
 }
 
-/// What a path leads to.
+/// Returns the metadata of the file or directory at a path. Symbolic links are followed.
 pub fn metadata(_: &HostRuntime, path: &str) -> Result<Metadata> {
     fs::metadata(path)
 }
 
-/// What a path leads to, where a link at its end is not followed.
+/// Returns the metadata of the file, directory or symbolic link at a path. A link in the last component is not followed.
 pub fn symlink_metadata(_: &HostRuntime, path: &str) -> Result<Metadata> {
     fs::symlink_metadata(path)
 }
 
-/// The path from the root without links.
+/// Returns the absolute path of a file or directory, with all symbolic links resolved.
 pub fn canonicalize(rt: &HostRuntime, path: &str) -> Result<PathBuf> {
     let found = fs::canonicalize(path)?;
     Ok(PathBuf::from_str(rt.alloc(), text_of(found.as_os_str())?)?)
 }
 
-/// Gives a file another name, in place of the file that had it.
+/// Renames a file, and replaces the file at the new path if there is one.
 pub fn rename(_: &HostRuntime, from: &str, to: &str) -> Result<()> {
     fs::rename(from, to)
 }
 
-/// Removes a file, or a link.
+/// Removes a file, or a symbolic link without the file that it refers to.
 pub fn remove_file(_: &HostRuntime, path: &str) -> Result<()> {
     fs::remove_file(path)
 }
@@ -86,29 +88,29 @@ fn text_of(name: &OsStr) -> Result<&str> {
     name.to_str().ok_or(Error::from(ErrorKind::InvalidFilename))
 }
 
-/// The entries of a folder, in the system's order, without `.` and `..`.
+/// An iterator over the entries of a directory, in the system's order, without `.` and `..`.
 #[derive(Debug)]
 pub struct ReadDir {
-    /// What comes before each name.
+    /// The directory's path, which ends with `/` unless it is empty: the prefix of each entry's path.
     folder: String,
     entries: fs::ReadDir,
     alloc: Global,
 }
 
-/// An entry of a folder.
+/// An entry of a directory.
 #[derive(Debug)]
 pub struct DirEntry {
     path: String,
 }
 
 impl DirEntry {
-    /// The folder's path as it was given, and the name.
+    /// Returns the entry's path: the directory's path as passed to [`read_dir`], a `/` if it does not end with one, and the entry's name.
     pub fn path(&self) -> Path<'_> {
         Path::new(self.path.as_str())
     }
 }
 
-/// The entries of a folder, or of one that a link leads to.
+/// Returns an iterator over the entries of a directory. A symbolic link to a directory is followed.
 pub fn read_dir(rt: &HostRuntime, path: &str) -> Result<ReadDir> {
     let mut folder = String::from_str(rt.alloc(), path)?;
     if !path.is_empty() && !path.ends_with('/') {
@@ -130,7 +132,7 @@ impl ReadDir {
     }
 }
 
-/// After an entry that is an error come the others.
+/// An entry that is an error does not end the iteration.
 impl Iterator for ReadDir {
     type Item = Result<DirEntry>;
 

@@ -1,8 +1,8 @@
-//! The macros that print.
+//! Macros that print a line to a standard stream.
 
 #[macro_export]
 #[doc(hidden)]
-/// `println!(rt; ..)` of Rattle.
+/// Prints a line to standard output, like `println!(rt; ..)` of Rattle.
 macro_rules! try_println {
     ($rt:expr; $($rest:tt)*) => {
         $rt.println(format_args!($($rest)*))
@@ -11,7 +11,7 @@ macro_rules! try_println {
 
 #[macro_export]
 #[doc(hidden)]
-/// `eprintln!(rt; ..)` of Rattle.
+/// Prints a line to standard error, like `eprintln!(rt; ..)` of Rattle.
 macro_rules! try_eprintln {
     ($rt:expr; $($rest:tt)*) => {
         $rt.eprintln(format_args!($($rest)*))

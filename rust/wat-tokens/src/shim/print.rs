@@ -1,19 +1,19 @@
-//! Printing to a stream without memory.
+//! Prints to a stream without allocating.
 use crate::shim::io::{Error, Result, Write};
 use core::fmt;
 
 #[cfg(test)]
 mod tests;
 
-/// How many bytes are gathered before they are written, so that a short line takes one call.
+/// Capacity of the buffer, in bytes: a line of at most this length is written in a single call.
 const ROOM: usize = 1024;
 
-/// Text on its way to a stream.
+/// A formatter that buffers text in front of a stream.
 struct Printer<W> {
     output: W,
     bytes: [u8; ROOM],
     used: usize,
-    /// Why a write failed.
+    /// The error of the write that failed, if one did.
     error: Option<Error>,
 }
 
@@ -46,7 +46,11 @@ impl<W: Write> fmt::Write for Printer<W> {
     }
 }
 
-/// Prints a value and a line end. What a value printed before it failed is written too.
+/// Prints a value and a line feed. If the value's `Display` fails, the text that it printed before is still written.
+///
+/// # Errors
+///
+/// Returns the error of the write that failed, or an error of the kind `Other` if the value's `Display` failed.
 pub fn println<W: Write>(output: W, value: impl fmt::Display) -> Result<()> {
     let mut printer = Printer {
         output,

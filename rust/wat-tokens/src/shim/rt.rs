@@ -1,38 +1,38 @@
-//! The handle of the process, and its standard streams.
+//! A handle of the process, and its standard streams.
 use crate::shim::alloc::Global;
 use crate::shim::io::{self, IsTerminal, Read, Write};
 use crate::shim::print;
 use core::fmt::Display;
 pub use std::io::Stderr;
 
-/// The process: what reaches outside of it takes this.
+/// A handle of the process, which every function that accesses the process or the system has as a parameter.
 #[derive(Clone, Copy, Debug)]
 pub struct HostRuntime(());
 
 impl HostRuntime {
-    /// The handle of this process. Rust's library asks here for the buffers of its standard streams, a request that ends the process where it is
-    /// refused: so nothing is read or written yet.
+    /// Returns the handle of this process, and opens the standard streams. Rust's standard library then allocates the buffers of its streams, and
+    /// terminates the process if that fails: this happens before anything is read or written.
     pub fn of_process() -> HostRuntime {
         streams::open();
         HostRuntime(())
     }
 
-    /// The allocator.
+    /// Returns the allocator.
     pub fn alloc(&self) -> Global {
         Global
     }
 
-    /// Standard input.
+    /// Returns standard input.
     pub fn stdin(&self) -> Stdin {
         Stdin
     }
 
-    /// Standard output.
+    /// Returns standard output.
     pub fn stdout(&self) -> Stdout {
         Stdout
     }
 
-    /// Standard error, which has no buffer.
+    /// Returns standard error, which is unbuffered.
     pub fn stderr(&self) -> Stderr {
         io::stderr()
     }
@@ -48,16 +48,16 @@ impl HostRuntime {
     }
 }
 
-/// Standard input. A read is one of the system, and reads nothing ahead.
+/// Standard input. On Unix it is unbuffered: each read is a single system call.
 #[derive(Clone, Copy, Debug)]
 pub struct Stdin;
 
-/// Standard output. A write is one of the system: nothing is kept to be written later, or again.
+/// Standard output. On Unix it is unbuffered: each write is a single system call.
 #[derive(Clone, Copy, Debug)]
 pub struct Stdout;
 
 impl Stdout {
-    /// Returns `true` if it is a terminal.
+    /// Returns `true` if standard output is a terminal.
     pub fn is_terminal(&self) -> bool {
         io::stdout().is_terminal()
     }
@@ -79,8 +79,8 @@ impl Write for Stdout {
     }
 }
 
-/// Rust's own streams have a buffer each, and standard output tries again at the end what could not be written. So these are files over the same
-/// descriptors.
+/// Unbuffered standard streams: files over duplicates of the descriptors. Those of Rust's standard library are buffered, and its standard output
+/// writes again, when the process ends, what it could not write before.
 #[cfg(unix)]
 mod streams {
     use std::fs::File;
@@ -100,7 +100,7 @@ mod streams {
         LazyLock::force(&OUTPUT);
     }
 
-    /// The file, or the error of its opening once more.
+    /// Returns the file, or a copy of the error with which it failed to open.
     fn opened(file: &'static Result<File>) -> Result<&'static File> {
         file.as_ref().map_err(|error| match error.raw_os_error() {
             Some(code) => Error::from_raw_os_error(code),

@@ -1,8 +1,8 @@
-//! A stream that is short, is interrupted or fails.
+//! Tests of `println` with a stream whose writes are short, are interrupted or fail.
 use super::*;
 use std::io::ErrorKind;
 
-/// A writer that takes so many bytes a call, is interrupted before each, and fails after so many calls.
+/// A writer that accepts at most `most` bytes per call, is interrupted before each call, and fails after `left` calls.
 struct Slow {
     held: std::string::String,
     most: usize,
@@ -39,7 +39,7 @@ fn slow(most: usize, left: usize) -> Slow {
     }
 }
 
-/// A value that prints a text a character at a time.
+/// A value that prints a text one character at a time.
 struct Characters<'a>(&'a str);
 
 impl fmt::Display for Characters<'_> {
@@ -87,7 +87,7 @@ fn a_write_that_fails_ends_it_with_its_error() {
     assert_eq!(error.kind(), ErrorKind::WriteZero);
 }
 
-/// A value that fails.
+/// A value whose `Display` prints a part and fails.
 struct Failing;
 
 impl fmt::Display for Failing {
