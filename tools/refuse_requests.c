@@ -1,9 +1,16 @@
-/* Refuses requests of the program that it is loaded in front of. Of those for memory the Nth where REFUSE_AT is N, and each from the Nth on
- * where REFUSE_FROM is; a request to make a block no larger is neither counted nor refused, so the sizes of the blocks are kept. Of the reads of
- * standard input the Nth where FAIL_READ is N, and of the writes on standard output the Nth where FAIL_WRITE is; where MOST is N, each moves N
- * bytes at most. The others go to the C library. Where TELL is the number of an open file, it is written there at the end how many of each
- * there were, and how many files were opened; how many bytes were asked for, where a block that grows asks for what it grows by; how many were held at most; and how many are still
- * held. It includes no header, so that a compiler alone builds it. */
+/* A library to preload into a program, which makes some of its allocations, reads and writes fail, and counts them. All other calls are forwarded to
+ * the C library. These environment variables control it, each with a number N:
+ *
+ *   REFUSE_AT    the Nth allocation fails.
+ *   REFUSE_FROM  the Nth allocation and all after it fail.
+ *   FAIL_READ    the Nth read of standard input fails.
+ *   FAIL_WRITE   the Nth write to standard output fails.
+ *   MOST         each of these reads and writes transfers at most N bytes.
+ *   TELL         counts are written to the file descriptor N when the program ends.
+ *
+ * A reallocation that does not grow a block is not counted and does not fail; the sizes of all blocks are recorded to decide this. The counts are
+ * those of allocations, opened files, reads and writes; the bytes allocated, to which a growing block adds the bytes that it grows by; the maximum of
+ * the bytes held at a time; and the bytes held at the end. The library includes no header, so that a compiler alone builds it. */
 
 typedef unsigned long size;
 
@@ -30,7 +37,7 @@ static long number(const char *name)
     return text ? atol(text) : 0;
 }
 
-/* Counts a request, and says whether it is refused. */
+/* Counts an allocation. Returns 1, with errno set, if it must fail. */
 static int is_refused(void)
 {
     long at = number("REFUSE_AT");
@@ -44,14 +51,14 @@ static int is_refused(void)
     return 1;
 }
 
-/* The blocks that are held, by their address. */
+/* A hash table of the allocated blocks, by address. */
 #define MOST_BLOCKS (1ul << 20)
 #define GIVEN_BACK ((void *)1)
 
 static struct { void *start; size bytes; } blocks[MOST_BLOCKS];
 static size used;
 
-/* The place where a block is kept, or one that never had a block. */
+/* Returns the index of a block in the table, or of a slot that never held a block. */
 static size place_of(void *start)
 {
     size at = (size)start / 16 * 2654435761ul % MOST_BLOCKS;
@@ -61,7 +68,7 @@ static size place_of(void *start)
     return at;
 }
 
-/* A free place for a block, that of one that was given back among them: many blocks have the same address one after another. */
+/* Returns the index of a free slot for a block. Slots of freed blocks are reused, since many blocks have the same address one after another. */
 static size free_place_of(void *start)
 {
     size at = (size)start / 16 * 2654435761ul % MOST_BLOCKS;
@@ -143,7 +150,7 @@ void free(void *start)
     __libc_free(start);
 }
 
-/* How many bytes of those are moved. */
+/* Returns the number of bytes to transfer, at most `count`. */
 static size at_most(size count)
 {
     size most = number("MOST");
@@ -163,13 +170,13 @@ int open(const char *name, int flags, int mode)
     return __open(name, flags, mode);
 }
 
-/* By this name Rust's library opens files; on 64 bits it is the same call. */
+/* Opens a file. Rust's standard library calls it by this name; on 64-bit systems it is the same function as `open`. */
 int open64(const char *name, int flags, int mode)
 {
     return open(name, flags, mode);
 }
 
-/* Standard input and output, or the last copy of each, which a program by cargo reads and writes. */
+/* The file descriptors of standard input and output, or of the last duplicate of each, which a program built with cargo reads and writes. */
 static int copies[2] = {0, 1};
 
 int fcntl(int file, int command, long argument)

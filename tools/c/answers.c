@@ -1,4 +1,4 @@
-/* Calls each function of wat.h and compares its results with stored ones. Prints each wrong result, and the number of results compared.
+/* Calls each function of wat.h and compares its results with the expected ones. Prints each wrong result, and the number of results compared.
  *
  * usage: answers */
 #include "wat.h"
@@ -111,7 +111,7 @@ static bool is_row(struct wat_token token, size_t offset, uint32_t len, uint8_t 
            !token.kind.has_underscores && !token.kind.hex;
 }
 
-/* Checks raw tokens, and where they stop. */
+/* Checks raw tokens, and the offset and reason at which they stop. */
 static void tokens(void) {
     static const char text[] = "(1 \xc2\x80";
     struct wat_token rows[4] = {{0, 0, {0, 0, false, false}}};
@@ -189,7 +189,7 @@ static bool looks(struct wat_look look, uint32_t row, uint32_t status) {
     return look.row == row && look.status == status;
 }
 
-/* Checks rows of significant tokens, and which are visible. */
+/* Checks rows of significant tokens, their links, and the rows that are visible under registered names. */
 static void shown(void) {
     static const char text[] = "(a (@b \")\" (c)) d) (@";
     static const size_t end = 1;

@@ -1,5 +1,5 @@
 /* Prints hexadecimal and decimal floating-point numbers, one a line, each with the bits that `strtof` and `strtod` read, or `-` if they read
- * infinity. Many are midpoints, subnormal numbers, or close to the greatest numbers. For a subnormal hexadecimal number it prints `?`, since the
+ * infinity. Many are close to a midpoint, subnormal, or close to the greatest finite number. For a subnormal hexadecimal number it prints `?`, since the
  * GNU C library rounds some of them incorrectly (its bug 30220).
  *
  * usage: floats COUNT

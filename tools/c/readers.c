@@ -9,7 +9,7 @@
 #include <stdlib.h>
 #include <string.h>
 
-/* The bytes of a buffer before a call, which must also be valid as a `bool`. */
+/* UNTOUCHED is the value of each byte of a buffer before a call. It must also be valid as a `bool`. */
 enum { CAPACITY = 7, READERS = 9, UNTOUCHED = 1 };
 
 static unsigned long long texts, tokens_seen, faults_seen, values_seen, wrong;
@@ -149,7 +149,7 @@ static void compare_integer(struct setting s, const struct wat_row *row) {
     }
 }
 
-/* Calls every function that takes one row. */
+/* Calls every function whose input is a single row. */
 static void look_by_row(struct setting s, struct wat_found found) {
     struct wat_row row = row_of(s, found.token);
     uint8_t code = found.token.kind.code, none = 0;
@@ -333,7 +333,7 @@ static void read_text(struct setting s) {
     texts++;
 }
 
-/* Returns the rows of a text, in a block of exactly their size, so that a sanitizer reports a read after them. */
+/* The rows of a text, in a block of exactly their size, so that a sanitizer reports a read after them. */
 struct rows {
     struct wat_row *rows;
     size_t count;

@@ -1,10 +1,10 @@
-/* Loops over the C library, as programs in C call it. Their names stay as they are, for callgrind. The text is UTF-8 of at most UINT32_MAX bytes, and
- * what a loop answers is a sum over what it saw. */
+/* Loops over the C library for benchmarks, which call it like a program in C. Each is an exported function, so that callgrind reports it by name. The
+ * text must be UTF-8 of at most UINT32_MAX bytes. The result of a loop is a checksum of its input. */
 #include "wat.h"
 
 enum { ROOM = 1024, BYTES = 1 << 24 };
 
-/* By a kind's code, what the loops of Rust and Rattle add up of the kind. */
+/* The weight of each kind of token in the checksum, by the kind's code. The loops in Rust and Rattle have the same weights. */
 static const uint64_t weights[17] = {0, 1, 2, 3, 5, 7, 11, 13, 17, 19, 23, 29, 31, 31, 31, 31, 5};
 
 static uint64_t weight(struct wat_kind kind) {
@@ -73,7 +73,7 @@ static uint64_t ends(const uint8_t *bytes, size_t len) {
     return len == 0 ? 0 : len + bytes[0] + bytes[len - 1];
 }
 
-/* What a reader wrote: no value is longer. */
+/* Returns the checksum of the value that a reader wrote, or 0 if there is none. No value is longer than BYTES. */
 static uint64_t written(struct wat_answer answer, const uint8_t *out) {
     return answer.status == WAT_GIVEN && answer.needed <= BYTES ? ends(out, answer.needed) : 0;
 }
@@ -95,7 +95,7 @@ static uint64_t parts(const uint8_t *text, size_t len, const struct wat_row *row
     }
 }
 
-/* What a row's token reads as: a number of its length and ends. */
+/* Returns the checksum of the value of a row's token: of its length and of its first and last byte. */
 static uint64_t value(const uint8_t *text, size_t len, const struct wat_row *row, uint8_t *out) {
     struct wat_word word;
     switch (row->kind.code) {
@@ -142,7 +142,7 @@ static uint64_t part_at(const uint8_t *text, size_t len, size_t pos, uint32_t nu
     return answer.status == WAT_ABSENT ? 1 : written(answer, out);
 }
 
-/* As `value`, by the readers at a place, which scan the token again. */
+/* Returns the checksum of a token's value, like `value`, with the readers at an offset, which lex the token again. */
 static uint64_t value_at(const uint8_t *text, size_t len, struct wat_token token, uint8_t *out) {
     const size_t pos = token.offset;
     switch (token.kind.code) {
@@ -198,7 +198,7 @@ uint64_t library_comments(const uint8_t *text, size_t len) {
     return sum;
 }
 
-/* The value of each integer of 32 bits. */
+/* Returns the sum of the values of all integers that are unsigned with 32 bits. */
 uint64_t library_u32s(const uint8_t *text, size_t len) {
     static struct wat_row rows[ROOM];
     struct wat_filled filled = {0, 0, WAT_FULL};
@@ -222,7 +222,7 @@ uint64_t library_linecol(const uint8_t *text, size_t len) {
     return position.line + position.column;
 }
 
-/* How many bytes the fault at the last byte prints. */
+/* Returns the length in bytes of the printed lexical error at the last byte. */
 uint64_t library_error(const uint8_t *text, size_t len) {
     static uint8_t out[BYTES];
     return wat_fault(text, len, len - 1, false, false, out, BYTES).needed;

@@ -201,7 +201,7 @@ fn refusals_have_their_place() {
     assert!(!error.is_out_of_memory());
 }
 
-/// Rejects a text of more than `u32::MAX` bytes.
+/// Rejects a text of more than `u32::MAX` bytes. Its zeroed memory is never written.
 #[cfg(target_pointer_width = "64")]
 #[test]
 fn a_text_that_is_too_long_is_refused() {

@@ -1,4 +1,4 @@
-//! The program over the stored cases, each a text, words after it where there are some, and the list that is wanted.
+//! Golden tests of the program: each case has a text, the arguments if there are any, and the expected standard output.
 
 use std::fs::{File, read, read_dir, read_to_string};
 use std::path::{Path, PathBuf};
@@ -9,7 +9,7 @@ const CASES: &str = concat!(
     "/../../crates/wat_tokens/agreement"
 );
 
-/// The texts of the cases; none where their folder is not here.
+/// Returns the sorted paths of the texts of all cases, or `None` if their directory does not exist.
 fn texts() -> Option<Vec<PathBuf>> {
     let entries = read_dir(CASES).ok()?;
     let mut texts: Vec<PathBuf> = entries.map(|entry| entry.unwrap().path()).collect();
@@ -18,12 +18,12 @@ fn texts() -> Option<Vec<PathBuf>> {
     Some(texts)
 }
 
-/// The words of a case, a line each.
+/// Reads the arguments of a case, one per line. There are none if the file does not exist.
 fn words_of(text: &Path) -> String {
     read_to_string(text.with_extension("args")).unwrap_or_default()
 }
 
-/// Whether the program writes what a case wants.
+/// Returns `true` if the program's standard output is that of the case.
 fn agrees(text: &Path) -> bool {
     let done = Command::new(env!("CARGO_BIN_EXE_wat_tokens"))
         .args(words_of(text).lines())

@@ -1,4 +1,4 @@
-//! The commands over streams that are short or fail at each call in turn, and with each request for memory refused.
+//! The commands over streams whose calls are short or fail, and with allocation-failure injection: each read, write and allocation fails in turn.
 
 #[path = "../../wat-lex/tests/refusing/mod.rs"]
 mod refusing;
@@ -14,7 +14,7 @@ use wat_tokens::lists::fmt::run_fmt;
 use wat_tokens::shim::alloc::{AllocError, Global};
 use wat_tokens::shim::prelude::String as Word;
 
-/// A text that is read so many bytes a call, and fails at a call.
+/// A reader of a text that returns at most `most` bytes per call, and fails after `calls_left` calls.
 struct Text<'a> {
     rest: &'a [u8],
     most: usize,
@@ -34,7 +34,7 @@ impl Read for Text<'_> {
     }
 }
 
-/// Room for what is written, which takes no memory. It takes so many bytes a call, and fails at a call.
+/// A writer into a buffer that does not grow. It accepts at most `most` bytes per call, and fails after `calls_left` calls.
 struct Page {
     held: Vec<u8>,
     most: usize,
@@ -71,7 +71,7 @@ impl Write for Page {
     }
 }
 
-/// How a run goes: bytes a call, reads before one fails, writes before one fails, requests before one is refused.
+/// The limits of a run: bytes per call, and the numbers of reads, writes and allocations that succeed.
 #[derive(Clone, Copy)]
 struct Way {
     most: usize,
@@ -87,7 +87,7 @@ const ALL: Way = Way {
     granted: usize::MAX,
 };
 
-/// One text, whatever its name.
+/// Inputs in which each file name refers to the same text.
 struct One<'a> {
     text: &'a str,
     way: Way,
@@ -134,7 +134,8 @@ impl<'a> Inputs for One<'a> {
     }
 }
 
-/// Status, output and report of a run, and how many requests, and writes to the output, it made.
+/// Runs the program with these arguments. Returns the status, output and report of the run, the number of its allocations, and the number of its
+/// writes to the output.
 fn run(words: &str, text: &str, way: Way) -> ((u8, Vec<u8>, Vec<u8>), usize, usize) {
     let words: Vec<Word> = words
         .split(' ')
@@ -181,7 +182,7 @@ const RUNS: [(&str, &str, u8); 13] = [
     ("--help", "", 0),
 ];
 
-/// What is reported of a run that was refused for a reason.
+/// Returns the report of a run that failed for this reason.
 fn refused(reason: &str) -> Vec<u8> {
     format!("wat_tokens: {reason}\n").into_bytes()
 }
@@ -198,7 +199,7 @@ fn short_reads_and_writes_change_nothing() {
     }
 }
 
-/// Each read fails in turn where so many bytes are read a call, and after the last nothing does.
+/// Fails each read of a run in turn, with `most` bytes per read, and checks the run in which none fails.
 fn fail_each_read(words: &str, text: &str, most: usize) {
     let answer = |reads| {
         let way = Way { most, reads, ..ALL };

@@ -1,4 +1,4 @@
-//! Sources that give few bytes or fail, sinks that take few or fail, and what the runs between them answer and leave.
+//! Runs over sources and sinks whose calls are short or fail: their results, the bytes left to read, and the bytes written.
 
 use std::io::{self, Read, Write};
 use wat_parser::proved::parser::Call;
@@ -14,7 +14,7 @@ const OFF: Settings = Settings {
     strict: false,
 };
 
-/// The error that Rust's own calls would try again.
+/// Returns an error of the kind `Interrupted`, after which the calls of Rust's standard library retry.
 fn interrupted() -> io::Error {
     io::ErrorKind::Interrupted.into()
 }
@@ -23,7 +23,7 @@ fn failed() -> Failed {
     Failed::of(&interrupted())
 }
 
-/// A reader that gives so many bytes a call, and fails at one call only.
+/// A reader that returns at most `most` bytes per call. Only the call `fails_at`, counted from 0, fails.
 struct Reader<'a> {
     rest: &'a [u8],
     most: usize,
@@ -54,7 +54,8 @@ impl Read for Reader<'_> {
     }
 }
 
-/// A writer that takes so many bytes a call, and so many in all, and fails at one call only, or at each flush.
+/// A writer that accepts at most `most` bytes per call and `room` bytes in total. The call `fails_at`, counted from 0, fails, and each flush if
+/// `flush_fails`.
 struct Writer {
     held: Vec<u8>,
     most: usize,
@@ -100,7 +101,7 @@ impl Write for Writer {
     }
 }
 
-/// A source that is none of std's readers: it gives so many bytes a call, and fails at one of the calls.
+/// A user-defined source that is not a reader of `std`. It returns at most `most` bytes per call, and fails after `fails_in` calls.
 struct Pieces<'a> {
     rest: &'a [u8],
     most: usize,
@@ -144,7 +145,7 @@ impl Source for Pieces<'_> {
     }
 }
 
-/// A sink that is none of std's writers, and may be broken.
+/// A user-defined sink that is not a writer of `std`. Each write fails if it is broken.
 struct Room {
     held: Vec<u8>,
     is_broken: bool,
@@ -180,7 +181,7 @@ const TEXT: &str = "(@a \"x\") b";
 
 type Run = fn(&mut Pieces, &mut Room) -> Result<(), RunError>;
 
-/// The three calls, with what each writes of the text.
+/// The names of the three functions, with a call of each and its expected output for the text.
 const RUNS: [(&str, Run, &str); 3] = [
     (
         "run_list",
@@ -205,7 +206,7 @@ const RUNS: [(&str, Run, &str); 3] = [
     ),
 ];
 
-/// Fails each read of a call that gets so many bytes a read, and then none.
+/// Fails each read of a run in turn, with `most` bytes per read, and then none.
 fn fail_each_read((name, run, lines): (&str, Run, &str), most: usize) {
     let reads = TEXT.len().div_ceil(most) + 1;
     for fails_in in 0..=reads {
@@ -242,7 +243,7 @@ fn a_sink_that_fails_is_a_failed_write() {
     }
 }
 
-/// What a read into eight bytes gives, and then whether one has failed, and whether this one found the end.
+/// Reads into a buffer of 8 bytes. Returns the bytes or the failure, `true` if any read has failed, and `true` if this read found the end.
 fn read(input: &mut Plain<Reader>) -> (Result<Vec<u8>, Failed>, bool, bool) {
     let mut buffer = [0; 8];
     let given = input
@@ -288,7 +289,7 @@ fn nothing_is_written_after_a_failed_write() {
     }
 }
 
-/// How the list of a text ends, whether it has a fault, and its writer.
+/// Lists the tokens of a text. Returns `true` if it has a lexical error, or the error of the run, and the writer.
 fn list(text: &str, writer: Writer) -> (Result<bool, RunError>, Writer) {
     let mut output = Plain::new(writer);
     let ended = run_list(Global, &mut Plain::new(text.as_bytes()), &mut output, OFF);
@@ -352,7 +353,7 @@ fn each_output_ends_in_one_flush() {
     }
 }
 
-/// So many parentheses that their lines fill two blocks and some of a third.
+/// A number of parentheses whose lines fill two blocks and a part of a third.
 const PARENS: usize = 9_000;
 
 fn lines_of_parens() -> Vec<u8> {
@@ -390,7 +391,7 @@ fn no_block_is_written_after_one_that_failed() {
     );
 }
 
-/// How the layout of a text ends where a read or write fails, and what is held then.
+/// Formats a text with a read or write that fails. Returns the failure, and the bytes that were written before it.
 fn lay_out(text: &str, fails_at: usize, room: usize) -> (RunFailure, Vec<u8>) {
     let mut input = Plain::new(Reader::new(text, 1, fails_at));
     let mut writer = Writer::new(usize::MAX, usize::MAX);

@@ -1,4 +1,4 @@
-//! What the shim's calls on files and folders answer, and that of a refused request for memory they answer so.
+//! The shim's functions for files and directories: their results, and their errors if an allocation fails.
 
 #[path = "../../wat-lex/tests/refusing/mod.rs"]
 mod refusing;
@@ -10,7 +10,7 @@ use std::path::{Path, PathBuf};
 use wat_tokens::shim::fs::{self, File};
 use wat_tokens::shim::rt::HostRuntime;
 
-/// A folder of a test, which goes where it is dropped.
+/// A temporary directory of a test, which is removed when it is dropped.
 struct Folder(PathBuf);
 
 impl Folder {
@@ -167,7 +167,7 @@ mod of_unix {
         );
     }
 
-    /// The paths of a folder's entries, and the errors of the others.
+    /// Returns the paths of a directory's entries, and the errors of those without a path.
     fn entries(path: &str) -> (BTreeSet<String>, Vec<Error>) {
         let (mut paths, mut errors) = (BTreeSet::new(), Vec::new());
         for entry in fs::read_dir(&rt(), path).unwrap() {
@@ -218,7 +218,8 @@ mod of_unix {
     }
 }
 
-/// How many requests a call makes, and how it fails where the last is refused. Those before it are Rust's own library's, which can't be.
+/// Fails the last allocation of a call. Returns the number of allocations, and the kind of the error. Allocations before it may be those of Rust's
+/// standard library, which terminates the process if one fails.
 fn without_the_last<T>(call: impl Fn() -> Result<T>) -> (usize, ErrorKind) {
     let (answer, asked) = granting(usize::MAX, &call);
     assert!(answer.is_ok());
@@ -238,13 +239,13 @@ fn a_path_that_gets_no_memory_is_an_error() {
         without_the_last(|| fs::canonicalize(&rt, "/")).1,
         ErrorKind::OutOfMemory
     );
-    // The first request is for the folder's name, which comes before each entry's.
+    // The first allocation is for the directory's path, which is the prefix of each entry's path.
     let path = folder.path("");
     let (answer, _) = granting(0, || fs::read_dir(&rt, &path));
     assert_eq!(kind(answer), ErrorKind::OutOfMemory);
     let next = || {
         let mut entries = fs::read_dir(&rt, &path)?;
-        // Two requests for the path: one for the folder, and one that makes room for the name.
+        // The path takes two allocations: one for the directory's path, and one that grows it for the name.
         entries.next().unwrap().map(|_| ())
     };
     let (asked, failure) = without_the_last(next);

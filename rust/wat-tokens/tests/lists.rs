@@ -1,5 +1,5 @@
-//! The calls of `lists`: words of calls, lines of replies, names in errors, layouts; and the list of a text that is cut.
-// A string for each line of a text that is made once does no harm.
+//! The functions of `lists`: arguments as calls, replies as lines, file names in errors and formatted texts; and the list of a prefix of a text.
+// Each of these texts is built once, so a string per line is fast enough.
 #![allow(clippy::format_collect)]
 
 use wat_lex::proved::error::Error;
@@ -37,7 +37,7 @@ const EACH: [Settings; 4] = [
     },
 ];
 
-/// Words, and the calls that they stand for.
+/// Arguments of `play`, and the calls that they are parsed as.
 const CALLS: &[(&str, &str)] = &[
     ("look", "Some(Look)"),
     ("take", "Some(Take)"),
@@ -108,12 +108,12 @@ fn each_reply_has_a_line() {
     assert!(reply_lines(Global, &[]).unwrap().is_empty());
 }
 
-/// An error of the lexer at a byte of a text.
+/// Returns the lexical error `EmptyId` at a byte offset of a text.
 fn empty_id(text: &str, offset: usize) -> Error {
     Error::lex(Global, Span::from_offset(offset), text, LexError::EmptyId)
 }
 
-/// A message that has a place of its own in it.
+/// Returns a message that itself contains a location of `<anon>`.
 fn message() -> Text {
     Text::from("\n     --> <anon>".to_owned())
 }
@@ -143,7 +143,7 @@ fn a_name_takes_the_place_of_anon_where_the_place_is() {
     }
 }
 
-/// Texts and their layouts.
+/// Texts and their formatted texts.
 const LAYOUTS: &[(&str, &str)] = &[
     ("", ""),
     ("( a\n b )", "(a\n  b)\n"),
@@ -155,7 +155,7 @@ const LAYOUTS: &[(&str, &str)] = &[
     ("a\r\n\r\nb", "a\n\nb\n"),
 ];
 
-/// What comes of comparing bytes with their layout: a text that is another, or what is reported.
+/// Compares bytes with their formatted text. Returns the formatted text if it differs, or the error as it is reported.
 fn compared(bytes: &[u8]) -> Result<Option<String>, String> {
     match run_compare(Global, &mut Plain::new(bytes), OFF) {
         Ok(Compared::Same) => Ok(None),
@@ -194,7 +194,7 @@ fn nothing_is_laid_out_of_a_text_with_a_fault() {
     );
 }
 
-/// The list of a text, and what is reported of its fault.
+/// Returns the list of the tokens of a text, and the printed lexical error if there is one.
 fn list(text: &str, settings: Settings) -> (String, Option<String>) {
     let mut output = Plain::new(Vec::new());
     let ended = run_list(
@@ -207,7 +207,7 @@ fn list(text: &str, settings: Settings) -> (String, Option<String>) {
     (String::from_utf8(output.into_inner()).unwrap(), fault)
 }
 
-/// Texts of each kind of token and fault.
+/// Texts with each kind of token and of lexical error.
 const TEXTS: &[&str] = &[
     "(module (func $foo))",
     "",
@@ -273,7 +273,8 @@ fn long_line() -> String {
     " ".repeat(500) + "(;"
 }
 
-/// The lines of a text that is cut begin those of the whole: all of them before a fault, all but the last before the end.
+/// Checks for each prefix of a text that its lines are the first lines of the whole text: all of them if the prefix has a lexical error, and all
+/// except the last otherwise.
 fn cut(text: &str, settings: Settings) {
     let (whole, _) = list(text, settings);
     for (end, _) in text.char_indices() {

@@ -1,4 +1,4 @@
-//! What a run ends in: its status, and what is reported of an input with a name or without one.
+//! Outcomes of a run: the exit status, and the report for an input with or without a name.
 
 use wat_lex::proved::error::Error;
 use wat_lex::proved::lexer::LexError;
@@ -10,12 +10,12 @@ use wat_tokens::lines::ends::Failed;
 use wat_tokens::shim::alloc::{AllocError, Global};
 use wat_tokens::shim::prelude::String as Text;
 
-/// A failure with this error number of the system.
+/// Returns a failure with this error code of the system.
 fn failed(code: i32) -> Failed {
     Failed::of(&std::io::Error::from_raw_os_error(code))
 }
 
-/// The status of an outcome, and what is reported of it.
+/// Returns the exit status of an outcome, and its report.
 fn reported(outcome: &Outcome, name: Option<&str>) -> (u8, String) {
     let mut report = Vec::new();
     outcome.report(Global, name, &mut report).unwrap();

@@ -1,5 +1,5 @@
-//! What words ask of files, in which order, and the answers to long texts and many words.
-// A string for each line of a text that is made once does no harm.
+//! Command lines: the files that they open, in order, and the results for long texts and many arguments.
+// Each of these texts is built once, so a string per line is fast enough.
 #![allow(clippy::format_collect)]
 
 use std::cell::RefCell;
@@ -12,7 +12,7 @@ use wat_tokens::lines::ends::{Failed, Plain, Sink};
 use wat_tokens::shim::alloc::{AllocError, Global};
 use wat_tokens::shim::prelude::String as Word;
 
-/// Files with their texts, and no others, and what was asked of them.
+/// In-memory files with their texts, which record the operations on them.
 struct Files<'a> {
     texts: &'a [(&'a str, &'a [u8])],
     asked: Vec<String>,
@@ -20,7 +20,7 @@ struct Files<'a> {
     written: Rc<RefCell<Vec<u8>>>,
 }
 
-/// A file that is written.
+/// The in-memory file of an output.
 struct Target(Rc<RefCell<Vec<u8>>>);
 
 impl Sink for Target {
@@ -86,7 +86,7 @@ impl<'a> Inputs for Files<'a> {
     }
 }
 
-/// Status, output and report of words.
+/// Runs the program with these arguments, and returns its status, output and report.
 fn answer(words: &str, files: &mut Files) -> (u8, Vec<u8>, Vec<u8>) {
     let words: Vec<Word> = words
         .split_whitespace()
@@ -105,7 +105,7 @@ const FILES: &[(&str, &[u8])] = &[
     ("bytes", b"ab\xff"),
 ];
 
-/// Words, their status, and what they ask of files.
+/// Command lines, each with its exit status and its operations on files.
 const ASKED: &[(&str, u8, &[&str])] = &[
     ("", 0, &["open -"]),
     ("sig a", 0, &["open -"]),
@@ -199,7 +199,7 @@ fn as_strings(lines: &[&str]) -> Vec<String> {
     lines.iter().copied().map(str::to_owned).collect()
 }
 
-/// Status, output and report of words over a text on standard input.
+/// Runs the program with these arguments and a text on standard input, and returns its status, output and report.
 fn answer_to(words: &str, text: &str) -> (u8, String, String) {
     let inputs = [("-", text.as_bytes())];
     let mut files = Files::new(&inputs);
@@ -208,7 +208,7 @@ fn answer_to(words: &str, text: &str) -> (u8, String, String) {
     (status, text(output), text(report))
 }
 
-/// The answer of a run that reports nothing.
+/// Returns the result of a successful run with this output and an empty report.
 fn done(output: String) -> (u8, String, String) {
     (0, output, String::new())
 }
@@ -266,14 +266,14 @@ fn a_string_that_stays_may_be_longer_than_a_block() {
     assert!(answer_to("blank", &text) == done(format!("x      {string}   ")));
 }
 
-/// Words over files, and where the bytes of a module go.
+/// A command line that compiles a module, and the expected destinations of the bytes.
 struct Written {
     words: &'static str,
     is_shown: bool,
     status: u8,
-    /// What comes to standard output.
+    /// The bytes written to standard output.
     output: &'static [u8],
-    /// What comes to other files, after their names.
+    /// The bytes written to another file, after its name and `: `.
     elsewhere: &'static [u8],
 }
 

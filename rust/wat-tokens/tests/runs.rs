@@ -1,4 +1,4 @@
-//! The table of runs: over the program that cargo builds, and over the calls that list, show and play.
+//! The table of runs: tests of the program that cargo builds, and of the functions `run_list`, `run_sig` and `run_play`.
 
 #[path = "../../wat-lex/tests/refusing/mod.rs"]
 mod refusing;
@@ -19,7 +19,7 @@ use wat_tokens::lists::calls::read_call;
 use wat_tokens::shim::alloc::Global;
 use wat_tokens::shim::prelude::String as Word;
 
-/// A folder with the files of the table, which goes where it is dropped.
+/// A temporary directory with the files of the table, which is removed when it is dropped.
 struct Folder(PathBuf);
 
 impl Folder {
@@ -52,7 +52,7 @@ fn run_program(words: &[String], input: &[u8], folder: &Path) -> Answer {
         .stderr(Stdio::piped())
         .spawn()
         .unwrap();
-    // Words that ask for nothing leave it unread.
+    // A write fails if the program ends without reading its input, e.g. after a usage error.
     let _ = running.stdin.take().unwrap().write_all(input);
     let done = running.wait_with_output().unwrap();
     Answer {
@@ -74,14 +74,14 @@ fn the_program_does_what_the_table_says() {
     assert!(table.files.iter().all(stays), "a file is other than it was");
 }
 
-/// One of the three calls, and what it takes beside the text.
+/// One of the three functions, with its arguments except the text.
 enum Asked {
     List,
     Sig(Vec<Word>),
     Play(Vec<Call>),
 }
 
-/// The settings that words begin with, and the words after them.
+/// Parses the settings at the start of a command line, and returns them with the remaining arguments.
 fn settings_of(words: &[String]) -> (Settings, &[String]) {
     let is_setting =
         |word: &&String| matches!(word.as_str(), "--allow-confusing" | "--strict-underscores");
@@ -94,7 +94,7 @@ fn settings_of(words: &[String]) -> (Settings, &[String]) {
     (settings, rest)
 }
 
-/// The call that words stand for, where they are those of one.
+/// Parses a command and its arguments. Returns `None` if it is not one of the three, or if its arguments are not valid.
 fn asked(words: &[String]) -> Option<Asked> {
     let Some((verb, rest)) = words.split_first() else {
         return Some(Asked::List);
@@ -110,7 +110,7 @@ fn asked(words: &[String]) -> Option<Asked> {
     }
 }
 
-/// A text that is read so many bytes a call.
+/// A reader of a text that returns at most `most` bytes per call.
 struct Text<'a> {
     rest: &'a [u8],
     most: usize,
@@ -123,7 +123,7 @@ impl Read for Text<'_> {
     }
 }
 
-/// How a call ends, and what it writes to the room.
+/// Calls one of the three functions. Returns its result, and the buffer `room` with the output.
 fn run_call(
     asked: &Asked,
     settings: Settings,
@@ -140,7 +140,7 @@ fn run_call(
     (ended, output.into_inner())
 }
 
-/// What the program makes of how a call ends.
+/// Returns the status, output and report of the program for the result and output of a function.
 fn answer_of((ended, output): (Result<Option<Error>, RunError>, Vec<u8>)) -> Answer {
     let (status, report) = match ended {
         Ok(None) => (0, String::new()),
@@ -154,7 +154,7 @@ fn answer_of((ended, output): (Result<Option<Error>, RunError>, Vec<u8>)) -> Ans
     }
 }
 
-/// A run of the table that is one of the three calls.
+/// A test case of the table whose command is one of the three functions.
 struct Case<'a> {
     words: &'a [String],
     asked: Asked,
@@ -163,7 +163,8 @@ struct Case<'a> {
 }
 
 impl Case<'_> {
-    /// The answer where so many bytes are read a call and so many requests for memory granted, and how many there are.
+    /// Runs the case with `most` bytes per read, and with allocations that fail after the first `granted`. Returns the result, and the number of
+    /// allocations.
     fn answer(&self, most: usize, granted: usize) -> (Answer, usize) {
         let rest = &self.record.input;
         let room = Vec::with_capacity(self.record.answer.output.len());
@@ -199,10 +200,10 @@ fn the_calls_do_what_the_table_says_however_short_the_reads_are() {
     }
 }
 
-/// Refuses each request of a run with all after it.
+/// Fails each allocation of a run in turn, together with all allocations after it.
 fn refuse_each(case: &Case) {
     let (_, requests) = case.answer(usize::MAX, usize::MAX);
-    // Only what reads nothing and writes nothing does without.
+    // Only a run with neither input nor output does not allocate.
     let is_idle = case.record.input.is_empty() && case.record.answer.output.is_empty();
     assert_eq!(requests == 0, is_idle, "{:?}: {requests}", case.words);
     let refused = Answer {

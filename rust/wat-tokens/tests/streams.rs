@@ -1,4 +1,4 @@
-//! The program's standard streams and its words, as the system gives them.
+//! The program's standard streams and command-line arguments, with those of the operating system.
 #![cfg(unix)]
 
 use std::ffi::OsStr;
@@ -18,7 +18,7 @@ fn program(words: &[&str]) -> Command {
     command
 }
 
-/// Status, output and report of a run.
+/// Runs a command, and returns its status, output and report.
 fn ended(command: &mut Command) -> (i32, String, String) {
     let Output {
         status,
@@ -33,7 +33,7 @@ fn refused(report: &str) -> (i32, String, String) {
     (2, String::new(), report.to_owned())
 }
 
-/// A file of a test, which goes where it is dropped.
+/// A temporary file of a test, which is removed when it is dropped.
 struct Kept(PathBuf);
 
 impl Kept {

@@ -14,7 +14,8 @@ const CAPABILITIES: &str = r#"{"capabilities":{"positionEncoding":"utf-16","text
 ///
 /// # Errors
 ///
-/// Returns an error if a read or write fails, if a message is not valid (its header, UTF-8 or JSON), or if a change does not fit its document.
+/// Returns an error if a read or write fails, if the header, the UTF-8 or the JSON of a message is not valid, if a changed document is not open or
+/// the range of the change is reversed, or if a document is too long.
 pub fn serve(mut input: impl BufRead, output: impl Write) -> io::Result<bool> {
     let mut server = Server {
         output,

@@ -1,4 +1,5 @@
-//! The language server of the examples: a session with a client, and many changes, after each of which a document is as one that was just opened.
+//! Tests of the example language server: a golden session with a client, and random changes, after each of which the server must respond as for a
+//! document that was opened with the changed text.
 
 #[path = "../../examples/language_server/json.rs"]
 mod json;
@@ -8,14 +9,14 @@ mod server;
 use json::{Json, quoted};
 use std::io::ErrorKind;
 
-/// What a client sends after `>`, and what it is answered after `<`.
+/// A session: the bodies of the client's messages after `>`, and those of the server's after `<`.
 const SESSION: &str = include_str!("session.txt");
 
 fn message(body: &str) -> String {
     format!("Content-Length: {}\r\n\r\n{body}", body.len())
 }
 
-/// The bodies of the messages that the server sends, and whether it was shut down.
+/// Returns the bodies of the server's messages, and `true` if the client sent `shutdown`.
 fn answers(messages: &str) -> (Vec<String>, bool) {
     let mut output = Vec::new();
     let has_shut_down = server::serve(messages.as_bytes(), &mut output).unwrap();
@@ -92,7 +93,7 @@ fn json_is_read() {
     assert!(Json::read(&"[".repeat(1_000_000)).is_none());
 }
 
-/// Random numbers below a count.
+/// A generator of pseudorandom numbers, a linear congruential one.
 struct Random(u64);
 
 impl Random {
@@ -126,7 +127,7 @@ impl Random {
     }
 }
 
-/// The place of a character of a text, as the protocol has it.
+/// Returns the position after the first `characters` characters of a text, as JSON of the protocol.
 fn place(text: &str, characters: usize) -> String {
     let before: String = text.chars().take(characters).collect();
     let line = before.matches('\n').count();
@@ -141,7 +142,7 @@ fn opened(text: &str) -> String {
     ))
 }
 
-/// The requests after which the answers tell what the server knows of a document.
+/// Returns the requests whose results depend on the text of a document.
 fn asked() -> String {
     let ask = |method| {
         message(&format!(

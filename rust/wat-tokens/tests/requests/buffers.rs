@@ -1,4 +1,4 @@
-//! Buffers of texts, a text with spaces over a comment, and modules, from text to bytes.
+//! Test cases of buffers, of blanking a comment, and of the compiler of function types.
 
 use crate::refusing::ended;
 use crate::row::{Ending, Row};
@@ -15,21 +15,21 @@ fn lexer(row: &Row) -> Lexer<'_> {
     lexer
 }
 
-/// How a buffer was made: how many raw tokens it has, and which fault.
+/// Checks a new buffer: the number of its raw tokens, and its lexical error.
 fn made(row: &Row, buffer: Result<ParseBuffer, Error>) -> Ending {
     let buffer = ended(buffer);
     let made = buffer.map(|buffer| (buffer.raw().len(), buffer.lex_fault()));
     row.ending(&made)
 }
 
-/// The text with spaces over its second raw token, which is a comment.
+/// Blanks the second raw token of the text, which is a comment.
 fn blanked(row: &Row) -> Result<Ending, Error> {
     let buffer = ParseBuffer::new_with_lexer(Global, lexer(row))?;
     let other = ended(laws::blanked(Global, &row.text, &buffer.raw()[1]));
     Ok(row.ending(&other.map_err(Error::from)))
 }
 
-/// What a buffer of a word and a fault answers, and a parser of it.
+/// Checks the getters of a buffer with two raw tokens and a lexical error, and those of its parser.
 fn asked(row: &Row) -> Result<Ending, Error> {
     let buffer = row.source.buffer_with_lexer(lexer(row))?;
     let parser = buffer.parser();
@@ -45,7 +45,7 @@ fn asked(row: &Row) -> Result<Ending, Error> {
     Ok(Ending::Answer)
 }
 
-/// A buffer that tracks spans.
+/// Checks a buffer that tracks the spans of instructions.
 fn tracked(row: &Row) -> Result<Ending, Error> {
     let mut buffer = row.source.buffer(&row.text)?;
     buffer.track_instr_spans(true);
@@ -53,7 +53,7 @@ fn tracked(row: &Row) -> Result<Ending, Error> {
     Ok(Ending::Answer)
 }
 
-/// What buffers without a table answer, and parsers of them. They are made without memory, and their parsers look without any.
+/// Checks the getters of buffers without a token table, and those of their parsers. Neither the buffers nor the peeks allocate.
 fn lazy(row: &Row) -> Ending {
     let mut buffer = LazyBuffer::new(Global, &row.text);
     let with_lexer = LazyBuffer::new_with_lexer(Global, lexer(row));

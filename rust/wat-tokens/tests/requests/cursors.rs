@@ -1,11 +1,11 @@
-//! Looks and takers of cursors: at faults, which they report, and at words that have to be decoded.
+//! Test cases of a cursor's peeks and parse calls, at lexical errors and at tokens whose value must be decoded.
 
 use crate::refusing::ended;
 use crate::row::{Ending, Row};
 use wat_lex::proved::error::Error;
 use wat_parser::proved::parser::{Cursor, Parser};
 
-/// Whether a call of a cursor sees or finds what it looks for.
+/// Calls a method of a cursor. Returns `true` if it finds the expected kind of token.
 fn is_seen(cursor: Cursor, call: &str) -> Result<bool, Error> {
     Ok(match call {
         "peek-lparen" => cursor.peek_lparen()?,
@@ -33,19 +33,19 @@ fn is_seen(cursor: Cursor, call: &str) -> Result<bool, Error> {
     })
 }
 
-/// Whether a parser is at the start, within no group.
+/// Returns `true` if a parser is at the start of its text, outside of any group.
 pub fn is_at_start(parser: &Parser) -> bool {
     parser.prev_span().offset() == 0 && parser.parens_depth() == 0
 }
 
-/// One call of a cursor, which leaves the parser.
+/// Makes one call of a cursor, which must not advance the parser.
 pub fn look(row: &Row, parser: &mut Parser) -> Ending {
     let result = ended(parser.step(|cursor| Ok((is_seen(cursor, row.of)?, cursor))));
     assert!(is_at_start(parser), "{}", row.name);
     row.ending(&result)
 }
 
-/// A step that refuses after a token leaves the place.
+/// Checks that a step that fails after a token does not advance the parser.
 pub fn refused_step(row: &Row, parser: &mut Parser) -> Ending {
     let result = ended(parser.step(|cursor| match cursor.keyword()? {
         Some((_, next)) => Err(next.error("no such word")),

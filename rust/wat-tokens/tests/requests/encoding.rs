@@ -1,4 +1,4 @@
-//! The bytes of values.
+//! Test cases of encoding values to bytes.
 
 use crate::refusing::ended;
 use crate::row::{Ending, Row};
@@ -11,7 +11,7 @@ use wat_lex::shim::vec::Vec;
 
 type Written = Result<(), EncodeError>;
 
-/// Writes to a buffer with one byte and no room, which keeps that byte, and no other where memory is refused.
+/// Encodes to a buffer of one byte that is full. The byte must stay, and if an allocation fails, no other byte may be written.
 fn written(row: &Row, write: impl FnOnce(&mut Vec<u8>) -> Written) -> Result<Ending, Error> {
     let mut buffer = Vec::with_capacity(Global, 1)?;
     buffer.push(0xff)?;
@@ -53,7 +53,7 @@ pub fn ending(row: &Row) -> Result<Ending, Error> {
         "box" => value(row, Box::new(Global, 300u32)?),
         "string" => value(row, Text::from_str(Global, "ab")?),
         "slice" => written(row, |buffer| encode_slice(&[1u32, 300], buffer)),
-        // More bytes than the buffer takes at its first growth.
+        // More bytes than the capacity of the buffer after it first grows.
         "long-slice" => written(row, |buffer| encode_slice(&[7u8; 40], buffer)),
         "str" => written(row, |buffer| encode_str("ab", buffer)),
         of => panic!("{}: no {of}", row.name),

@@ -1,4 +1,4 @@
-//! Errors, and their texts.
+//! Test cases of errors and of the source texts that are attached to them.
 
 use crate::cursors::is_at_start;
 use crate::refusing::ended;
@@ -11,7 +11,7 @@ use wat_lex::shim::string::String as Text;
 
 const WITH_TEXT: &str = "m\n     --> <anon>:1:2\n      |\n    1 | a(;\n      |  ^";
 
-/// A fault at the row's byte.
+/// Builds a lexical error at the byte offset of the test case.
 fn lexical(row: &Row, error: LexError) -> Ending {
     let span = Span::from_offset(row.offset.expect("a byte"));
     row.refusal(&ended(Error::lex(Global, span, &row.text, error)))
@@ -23,13 +23,13 @@ fn message(row: &Row) -> Result<Ending, Error> {
     Ok(row.refusal(&ended(Error::parse(Global, span, &row.text, message))))
 }
 
-/// An error at byte 1 without a text.
+/// Returns an error at byte offset 1 without a source text.
 fn plain() -> Result<Error, Error> {
     let message = Text::from_str(Global, "m")?;
     Ok(Error::new(Span::from_offset(1), message))
 }
 
-/// Gives an error its text. Where that is refused the error is as it was.
+/// Attaches a source text to an error. If an allocation fails, the error must be unchanged.
 fn text(row: &Row) -> Result<Ending, Error> {
     let mut error = plain()?;
     let result = ended(error.set_text(Global, "a(;"));
@@ -42,7 +42,7 @@ fn text(row: &Row) -> Result<Ending, Error> {
     Ok(ending)
 }
 
-/// A text for an error that has one.
+/// Checks that a second source text is ignored.
 fn second_text(row: &Row) -> Result<Ending, Error> {
     let mut error = plain()?;
     error.set_text(Global, "a(;")?;
@@ -52,7 +52,7 @@ fn second_text(row: &Row) -> Result<Ending, Error> {
     Ok(Ending::Answer)
 }
 
-/// The message of a fault, in memory of its own.
+/// Checks the message of a lexical error as an owned string.
 fn message_of_fault(row: &Row) -> Result<Ending, Error> {
     let span = Span::from_offset(0);
     let error = Error::lex(Global, span, "é", LexError::Unexpected('é'));
@@ -70,7 +70,7 @@ fn message_of_fault(row: &Row) -> Result<Ending, Error> {
     })
 }
 
-/// What an error without its text answers.
+/// Checks the getters of an error without a source text.
 fn asked(row: &Row) -> Result<Ending, Error> {
     let error = plain()?;
     let lacking = Error::out_of_memory();
@@ -93,7 +93,7 @@ fn places(row: &Row) -> Ending {
     Ending::Answer
 }
 
-/// An error that a parser makes at its place, or at another one.
+/// Builds an error at the position of a parser, or at another offset.
 fn of_parser(row: &Row) -> Result<Ending, Error> {
     let buffer = row.source.buffer(&row.text)?;
     let parser = buffer.parser();

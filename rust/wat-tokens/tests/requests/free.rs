@@ -1,4 +1,4 @@
-//! Calls of a parser that take no memory.
+//! Test cases of a parser's calls that do not allocate.
 
 use crate::refusing::ended;
 use crate::row::{Ending, Row};
@@ -7,12 +7,12 @@ use wat_lex::proved::lexer::{Float, Integer};
 use wat_lex::shim::borrow::{CowSlice, CowStr};
 use wat_parser::proved::parser::Parser;
 
-/// Where a parser is, by the calls that answer no error.
+/// Checks the position of a parser with the calls that return no error.
 fn place(row: &Row, parser: &Parser) -> Ending {
     row.ending(&Ok(ended((parser.is_empty(), parser.cur_span().offset()))))
 }
 
-/// A group of a type, and one that is taken by a function.
+/// Parses a group whose contents are of a type, and one whose contents a function parses.
 fn groups(row: &Row, parser: &mut Parser) -> Ending {
     let first = parser.parens_of::<u32>();
     let second = ended(parser.parens(Parser::parse::<u32>));
@@ -21,7 +21,7 @@ fn groups(row: &Row, parser: &mut Parser) -> Ending {
     Ending::Answer
 }
 
-/// A value of each kind, one after the other.
+/// The values of a token of each kind, in the order of the text.
 type Values<'a> = (
     Float<'a>,
     Integer<'a>,
@@ -39,7 +39,7 @@ fn values<'a>(parser: &mut Parser<'a>) -> Result<Values<'a>, Error> {
     Ok((float, integer, id, string, name))
 }
 
-/// Takes a value of each kind, each of which is a part of the text.
+/// Parses a token of each kind with a value. Each value is borrowed from the text.
 fn steps(row: &Row, parser: &mut Parser) -> Ending {
     let values = ended(values(parser));
     assert_eq!(parser.prev_span().offset(), row.place, "{}", row.name);

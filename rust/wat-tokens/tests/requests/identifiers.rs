@@ -1,4 +1,4 @@
-//! Copies of identifiers, and fresh ones.
+//! Test cases of cloned and generated identifiers.
 
 use crate::refusing::ended;
 use crate::row::{Ending, Row};
@@ -9,7 +9,7 @@ use wat_lex::shim::alloc::Global;
 use wat_lex::shim::borrow::CowStr;
 use wat_lex::shim::string::String as Text;
 
-/// An identifier at byte 7 whose name is owned.
+/// Returns an identifier with an owned name, at byte offset 7.
 fn owned_id() -> Result<Id<'static>, Error> {
     let name = CowStr::Owned(Text::from_str(Global, "x")?);
     Ok(Id::from_cow(name, Span::from_offset(7)))
@@ -41,7 +41,7 @@ fn index_copy() -> Result<Ending, Error> {
     Ok(Ending::Answer)
 }
 
-/// A slot that holds an identifier is left as it is, and so is the counter.
+/// Checks that filling a slot with an identifier changes neither the slot nor the counter.
 fn filled_slot() -> Result<Ending, Error> {
     let (mut gensym, span) = (Gensym::new(), Span::from_offset(0));
     let mut slot = Some(owned_id()?);
@@ -59,7 +59,7 @@ fn filled_slot() -> Result<Ending, Error> {
     }
 }
 
-/// Identifiers that are made, asked and copied, with a borrowed name and with none.
+/// Checks new and cloned identifiers with a borrowed name, and a cloned numeric index.
 fn borrowed_copies() -> Ending {
     let span = Span::from_offset(4);
     let id = Id::new("x", span);
@@ -71,7 +71,7 @@ fn borrowed_copies() -> Ending {
     Ending::Answer
 }
 
-/// Identifiers that a counter makes, and copies of borrowed ones in slots.
+/// Checks identifiers that a counter generates, and clones of those with a borrowed name in a slot.
 fn fresh() -> Ending {
     let (mut gensym, span) = (Gensym::new(), Span::from_offset(4));
     let (mut empty, mut full) = (None, Some(Id::new("x", span)));

@@ -1,4 +1,4 @@
-//! The calls of the lexer, and the readers of its tokens.
+//! Test cases of the lexer and of the accessors of its tokens.
 
 use crate::refusing::ended;
 use crate::row::{Ending, Row};
@@ -6,7 +6,7 @@ use wat_lex::proved::error::Error;
 use wat_lex::proved::lexer::{Integer, Lexer, Token, TokenKind};
 use wat_lex::shim::alloc::Global;
 
-/// One call at the start of the text, which leaves the position where it reports a fault.
+/// Lexes one token at the start of the text. If there is a lexical error, the position must be unchanged.
 fn parse(row: &Row) -> Ending {
     let mut pos = 0;
     let result = ended(Lexer::new(&row.text).parse(Global, &mut pos));
@@ -14,7 +14,7 @@ fn parse(row: &Row) -> Ending {
     row.ending(&result)
 }
 
-/// The fault after all tokens of the text, after which nothing comes.
+/// Checks the lexical error after the tokens of the text. The iterator must end after it.
 fn fault(row: &Row) -> Ending {
     let lexer = Lexer::new(&row.text);
     let mut tokens = lexer.iter(Global, 0);
@@ -32,7 +32,7 @@ fn annotation(row: &Row) -> Ending {
     row.ending(&ended(Lexer::new(&row.text).annotation(Global, 0)))
 }
 
-/// An annotation, and a word that is none.
+/// Checks an annotation, and a keyword, which is not an annotation.
 fn annotations(row: &Row) -> Ending {
     let lexer = Lexer::new("@a x");
     let (found, other) = ended((lexer.annotation(Global, 0), lexer.annotation(Global, 3)));
@@ -65,7 +65,7 @@ fn first(row: &Row) -> Token {
     first.expect("no fault").expect("a token")
 }
 
-/// Reads the first word by the reader of its kind.
+/// Calls the accessor of the first token that its kind determines.
 fn read(row: &Row) -> Ending {
     let (token, text) = (first(row), row.text.as_str());
     match token.kind {
@@ -86,18 +86,18 @@ fn read(row: &Row) -> Ending {
     }
 }
 
-/// Reads the name of an identifier, without an error of its own.
+/// Decodes the name of the first token. An invalid name is a value of the result; only an allocation failure is an error.
 fn name(row: &Row) -> Ending {
     let name = ended(first(row).name(Global, &row.text));
     row.ending(&name.map_err(Error::from))
 }
 
-/// Whether the first word has a name.
+/// Checks `has_name` of the first token, with the name of the test case.
 fn has_name(row: &Row) -> Ending {
     row.ending(&Ok(ended(first(row).has_name(&row.text, row.names))))
 }
 
-/// What is wrong with the name of the first word.
+/// Checks `name_fault` of the first token.
 fn name_fault(row: &Row) -> Ending {
     row.ending(&Ok(ended(first(row).name_fault(&row.text))))
 }

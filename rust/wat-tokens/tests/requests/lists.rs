@@ -1,4 +1,4 @@
-//! Groups in parentheses that are refused, which puts place and depth back, and lists.
+//! Test cases of lists, and of groups in parentheses that are rejected, after which position and depth must be restored.
 
 use crate::cursors::is_at_start;
 use crate::refusing::ended;
@@ -8,7 +8,7 @@ use wat_lex::proved::error::Error;
 use wat_parser::proved::parser::Parser;
 use wat_parser::proved::token::Parens;
 
-/// Takes so many groups, each in the one before, and asks in each whether it is too deep.
+/// Parses `count` nested groups, and checks the depth in each.
 fn nested(parser: &mut Parser, count: usize) -> Result<(), Error> {
     if count == 0 {
         return Ok(());
@@ -32,7 +32,7 @@ fn group_of_type(row: &Row, parser: &mut Parser) -> Ending {
     row.ending(&result)
 }
 
-/// How reading ended. The depth stays, and where memory is wanting the place is not past what was read.
+/// Checks the result of parsing. The depth must be 0, and the parser at the expected position, or not after it if an allocation failed.
 pub fn read<T: Debug>(row: &Row, parser: &Parser, result: &Result<T, Error>) -> Ending {
     let ending = row.ending(result);
     let place = parser.prev_span().offset();
@@ -44,7 +44,7 @@ pub fn read<T: Debug>(row: &Row, parser: &Parser, result: &Result<T, Error>) -> 
     ending
 }
 
-/// Reads a list of numbers: of all, as long as one is seen, or as long as one is seen in parentheses.
+/// Parses a list of integers: up to the end, while a peek finds one, or while a peek finds one in parentheses.
 fn list(row: &Row, parser: &mut Parser) -> Ending {
     match row.of {
         "of" => {

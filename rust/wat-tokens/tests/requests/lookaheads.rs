@@ -1,4 +1,4 @@
-//! Looks at several types, none of which is there.
+//! Test cases of peeks at several types with a lookahead, none of which matches the next token.
 
 use crate::cursors::is_at_start;
 use crate::refusing::ended;
@@ -11,7 +11,7 @@ const FOUR: &str = "unexpected token, expected one of: u32, an identifier, left 
 const FIVE: &str =
     "unexpected token, expected one of: u32, an identifier, left paren, u32, an identifier";
 
-/// Peeks at the first so many of three types.
+/// Peeks at the first `types` of three types.
 fn peek_at(lookahead: &mut Lookahead1, types: usize) -> Result<(), Error> {
     if types > 0 {
         lookahead.peek::<u32>()?;
@@ -25,7 +25,7 @@ fn peek_at(lookahead: &mut Lookahead1, types: usize) -> Result<(), Error> {
     Ok(())
 }
 
-/// The error that one of the types was expected which were not seen.
+/// Checks the error that lists the types of the peeks.
 fn expected_one(row: &Row, parser: &Parser, types: usize) -> Result<Ending, Error> {
     let mut lookahead = parser.lookahead1();
     peek_at(&mut lookahead, types)?;
@@ -34,13 +34,13 @@ fn expected_one(row: &Row, parser: &Parser, types: usize) -> Result<Ending, Erro
     Ok(row.refusal(&error))
 }
 
-/// Whether a lookahead is at the start, and reports the types that were not seen.
+/// Returns `true` if a lookahead is at the start of the text, and its error has this first line.
 fn reports(lookahead: Lookahead1, types: &str) -> bool {
     let is_at_start = is_at_start(lookahead.parser());
     is_at_start && lookahead.error().to_string().lines().next() == Some(types)
 }
 
-/// Looks that find nothing keep the types, four of them without memory.
+/// Checks that peeks record the types that they do not find, and that the first four do not allocate.
 fn four_missed(row: &Row, parser: &Parser) -> Ending {
     let mut lookahead = parser.lookahead1();
     let three = peek_at(&mut lookahead, 3);
@@ -49,7 +49,7 @@ fn four_missed(row: &Row, parser: &Parser) -> Ending {
     row.ending(&fourth)
 }
 
-/// The look after four others keeps the type in memory. One that is refused leaves those that were kept.
+/// Checks the fifth peek, which allocates to record its type. If the allocation fails, the recorded types must be unchanged.
 fn fifth_missed(row: &Row, parser: &Parser) -> Result<Ending, Error> {
     let mut lookahead = parser.lookahead1();
     peek_at(&mut lookahead, 3)?;

@@ -1,12 +1,12 @@
-//! `tests/requests.txt`: each row is a call, of which each request for memory is refused in turn, alone and with all after it. Parsers read both
-//! buffers, and make the same requests over both.
+//! Allocation-failure injection with the table `tests/requests.txt`. Each test case is a call; each of its allocations fails in turn, once alone and
+//! once with all allocations after it. Parsers run over both kinds of buffer, and must make the same allocations over both.
 
 mod buffers;
 mod cursors;
 mod encoding;
 mod errors;
 mod free;
-// A format has more than its rows ask.
+// The test cases use only a part of the generated format.
 #[allow(dead_code, non_camel_case_types, unused_imports)]
 mod generated {
     pub mod wat_imports;
@@ -39,13 +39,14 @@ use wat_lex::proved::error::Error;
 use wat_parser::proved::parser::Parser;
 
 const TABLE: &str = include_str!("../../../../tests/requests.txt");
-/// The rows of the table, and the requests of all their calls.
+/// The number of test cases in the table.
 const ROWS: usize = 414;
+/// The number of allocations of all calls.
 const REQUESTS: usize = 531;
-/// More requests than any row makes.
+/// An upper bound of the number of allocations of a test case.
 const MOST_REQUESTS: usize = 500;
 
-/// The rows, all of one source and then all of the other.
+/// Returns the test cases, first all with a token table and then all without.
 fn rows() -> impl Iterator<Item = Row> {
     let of = |source: Source| {
         TABLE
@@ -56,7 +57,7 @@ fn rows() -> impl Iterator<Item = Row> {
     SOURCES.into_iter().flat_map(of)
 }
 
-/// How a call of a parser ended that is at the start of the row's text.
+/// Makes the call of a test case with a parser at the start of its text.
 fn ending_of(row: &Row, parser: &mut Parser) -> Result<Ending, Error> {
     match row.call {
         "look" => Ok(cursors::look(row, parser)),
@@ -73,7 +74,7 @@ fn ending_of(row: &Row, parser: &mut Parser) -> Result<Ending, Error> {
     }
 }
 
-/// How the call of a row ended; an error where what it needs could not be made.
+/// Makes the call of a test case. Returns an error if its set-up failed.
 fn ending(row: &Row) -> Result<Ending, Error> {
     match row.call {
         "lexer" => Ok(lexing::ending(row)),
@@ -94,19 +95,20 @@ fn ending(row: &Row) -> Result<Ending, Error> {
     }
 }
 
+/// The effect of a failed allocation on a test case.
 #[derive(Clone, Copy, Debug, PartialEq, Eq)]
 enum Word {
-    /// A request before the call was refused.
+    /// An allocation before the call failed, and the set-up returned an error.
     SetUp,
-    /// One of the call was, which said so.
+    /// An allocation of the call failed, and the call returned an error.
     Memory,
-    /// None was, or the call did without it.
+    /// No allocation was to fail, or one failed and the call returned its expected result.
     Answer,
-    /// One after the call would have been.
+    /// The allocation that was to fail did not occur up to the end of the call.
     After,
 }
 
-/// How a row ends where these requests are refused, and what it asks for.
+/// Runs a test case with these allocations failing, and counts its allocations.
 fn run(row: &Row, refused: Refused) -> (Word, Counts) {
     let (ended, counts) = refusing(refused, || ending(row));
     let is_refused = match refused {
@@ -139,16 +141,19 @@ fn word(row: &Row, refused: Refused) -> Word {
     word
 }
 
-/// The requests before a row's call, and those of the call.
+/// The numbers of a test case's allocations, by the effect of a failure of one.
 #[derive(Default)]
 struct Requests {
+    /// Allocations of the set-up.
     set_up: usize,
+    /// Allocations of the call without which it returns an error.
     memory: usize,
+    /// Allocations of the call without which it returns the expected result.
     answer: usize,
 }
 
 impl Requests {
-    /// Refuses each request alone.
+    /// Fails each allocation of a test case alone, and classifies it.
     fn of(row: &Row) -> Requests {
         let mut requests = Requests::default();
         for number in 1..MOST_REQUESTS {
@@ -173,7 +178,7 @@ impl Requests {
         self.memory + self.answer
     }
 
-    /// Refuses all requests from each one of the call's on, and at last all after the call.
+    /// Fails each allocation of the call together with all allocations after it, and finally all allocations after the call.
     fn refuse_rest(&self, row: &Row) {
         let after = self.set_up + self.of_call() + 1;
         for number in self.set_up + 1..after {
@@ -188,7 +193,7 @@ impl Requests {
     }
 }
 
-/// Tries all rows, and names those that fail.
+/// Runs a check for each test case, and lists those that fail.
 fn try_each(check: impl Fn(&Row)) {
     assert_eq!(rows().count(), ROWS * SOURCES.len(), "rows of the table");
     let fails = |row: &Row| catch_unwind(AssertUnwindSafe(|| check(row))).is_err();

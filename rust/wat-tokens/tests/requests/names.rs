@@ -1,4 +1,4 @@
-//! Names of annotations, registered for good or while a type is read.
+//! Test cases of annotation names that are registered, permanently or while a type is parsed.
 
 use crate::cursors::is_at_start;
 use crate::refusing::ended;
@@ -15,7 +15,7 @@ const STANDARD: [&str; 5] = [
     "metadata.code.branch_hint",
 ];
 
-/// Registers `b`, and answers whether the other names, of which `c` is none, were kept, and `b` is there where it has to be.
+/// Registers `b`. Checks that it is registered if and only if the call succeeded, and that `c` is not.
 fn registered(row: &Row, parser: &mut Parser) -> Ending {
     let result = ended(parser.register_annotation("b"));
     assert!(
@@ -27,7 +27,7 @@ fn registered(row: &Row, parser: &mut Parser) -> Ending {
     row.ending(&result)
 }
 
-/// Registers a name, which is shown from then on. A refusal leaves the names as they were.
+/// Registers a name, whose annotations are visible from then on. If an allocation fails, the names must be unchanged.
 fn register(row: &Row, parser: &mut Parser) -> Ending {
     let ending = registered(row, parser);
     let shown = if ending == Ending::Memory { 5 } else { 0 };
@@ -35,7 +35,7 @@ fn register(row: &Row, parser: &mut Parser) -> Ending {
     ending
 }
 
-/// Registers a name beside the standard annotations.
+/// Registers a name in addition to the standard annotations.
 fn register_more(row: &Row, parser: &mut Parser) -> Ending {
     let ending = registered(row, parser);
     assert!(
@@ -46,7 +46,7 @@ fn register_more(row: &Row, parser: &mut Parser) -> Ending {
     ending
 }
 
-/// A name that is registered as often as can be is refused, and stays so.
+/// Checks that a name with the maximum count of registrations cannot be registered again, and stays registered.
 fn register_too_often(row: &Row, parser: &mut Parser) -> Result<Ending, Error> {
     register_fully(parser)?;
     let result = ended(parser.register_annotation("b"));
@@ -58,14 +58,14 @@ fn register_too_often(row: &Row, parser: &mut Parser) -> Result<Ending, Error> {
     Ok(row.ending(&result))
 }
 
-/// Registers `b` as often as a name may be registered.
+/// Registers `b` with the maximum count of registrations.
 pub fn register_fully(parser: &mut Parser) -> Result<(), Error> {
     parser.register_annotation("b")?;
     parser.set_registrations("b", usize::MAX);
     Ok(())
 }
 
-/// Registers a name once more, and takes it back as often.
+/// Registers a registered name again, and unregisters it once.
 fn register_again(row: &Row, parser: &mut Parser) -> Ending {
     let result = parser.register_annotation("b");
     let is_registered = parser.is_registered("b");
@@ -80,7 +80,7 @@ fn register_again(row: &Row, parser: &mut Parser) -> Ending {
     Ending::Answer
 }
 
-/// An optional name, as a type.
+/// A type that parses an optional `(@name ..)` annotation.
 #[derive(Debug)]
 struct OptionalName<'a>(Option<NameAnnotation<'a>>);
 
@@ -90,7 +90,7 @@ impl<'a> Parse<'a> for OptionalName<'a> {
     }
 }
 
-/// Reads a type where a name is shown. On both outcomes it is registered as often as before.
+/// Parses a type with a name registered during the call. Whether it succeeds or not, the name must be registered afterwards if it was before.
 fn under_name(row: &Row, parser: &mut Parser) -> Ending {
     let is_registered = parser.is_registered("b");
     let result = ended(parser.with_annotation::<Option<u32>>("b"));
@@ -99,7 +99,7 @@ fn under_name(row: &Row, parser: &mut Parser) -> Ending {
     row.ending(&result)
 }
 
-/// The same of a type that is refused.
+/// Parses a type that is rejected, with a name registered during the call that was registered before.
 fn under_registered_name(row: &Row, parser: &mut Parser) -> Ending {
     let result = ended(parser.with_annotation::<u32>("b"));
     assert!(
@@ -110,7 +110,7 @@ fn under_registered_name(row: &Row, parser: &mut Parser) -> Ending {
     row.ending(&result)
 }
 
-/// Reads a type where the standard annotations are shown, all of which are taken back.
+/// Parses a type with the standard annotations registered during the call. All of them must be unregistered afterwards.
 fn under_standard(row: &Row, parser: &mut Parser) -> Ending {
     let result = ended(parser.with_standard_annotations_registered::<OptionalName>());
     let none = STANDARD.iter().all(|name| !parser.is_registered(name));
@@ -121,7 +121,7 @@ fn under_standard(row: &Row, parser: &mut Parser) -> Ending {
     row.ending(&result)
 }
 
-/// An optional name that has to be decoded.
+/// Parses an optional name that must be decoded.
 pub fn optional(row: &Row, parser: &mut Parser) -> Ending {
     let result = ended(NameAnnotation::parse_option(parser));
     let place = if result.is_ok() { row.place } else { 0 };

@@ -1,4 +1,4 @@
-//! Peeks at types, which leave the parser at the start.
+//! Test cases of peeks at types, which must not advance the parser.
 
 use crate::cursors::is_at_start;
 use crate::refusing::ended;
@@ -36,7 +36,7 @@ fn is_seen(row: &Row, parser: &Parser) -> Result<bool, Error> {
     }
 }
 
-/// Peeks up to the text's end.
+/// Peeks at the second token, which is the last of the text, and at the missing third.
 fn at_end(row: &Row, parser: &Parser) -> Ending {
     let (second, third) = (parser.peek2::<RParen>(), parser.peek3::<RParen>());
     let is_empty = ended(parser.is_empty());

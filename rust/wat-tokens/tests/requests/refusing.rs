@@ -1,36 +1,38 @@
-//! Requests for memory that are refused and counted, those of each thread alone.
+//! Allocation-failure injection: an allocator that counts the allocations of each thread and makes some of them fail.
 
 use std::alloc::{GlobalAlloc, Layout, System};
 use std::cell::Cell;
 use std::ptr::null_mut;
 
-/// Which requests are refused, by their numbers from 1 on.
+/// The allocations that fail, by their index from 1.
 #[derive(Clone, Copy, Debug)]
 pub enum Refused {
+    /// None of them.
     None,
-    /// One alone.
+    /// The allocation with this index.
     At(usize),
-    /// One, and all after it.
+    /// The allocation with this index, and all after it.
     From(usize),
 }
 
+/// Counts of a run's allocations.
 #[derive(Clone, Copy, Debug, Default)]
 pub struct Counts {
-    /// The requests up to the end of the call.
+    /// The number of allocations up to the end of the call, including those that fail.
     pub requests: usize,
-    /// The bytes of these; where a block grows, those that it grows by.
+    /// The bytes of these allocations. A block that grows counts with the bytes that are added.
     pub asked: usize,
-    /// The bytes that are held at last.
+    /// The bytes allocated and not freed at the end.
     pub held: isize,
 }
 
 thread_local! {
-    /// What is refused, as long as requests are counted.
+    /// The allocations that fail, while allocations are counted.
     static REFUSED: Cell<Option<Refused>> = const { Cell::new(None) };
     static COUNTS: Cell<Counts> = const { Cell::new(Counts { requests: 0, asked: 0, held: 0 }) };
 }
 
-/// What a run answers where these requests are refused, and what it asks for.
+/// Runs a function with these allocations failing. Returns its result, and the counts of its allocations.
 pub fn refusing<T>(refused: Refused, run: impl FnOnce() -> T) -> (T, Counts) {
     COUNTS.take();
     REFUSED.set(Some(refused));
@@ -38,12 +40,13 @@ pub fn refusing<T>(refused: Refused, run: impl FnOnce() -> T) -> (T, Counts) {
     (answer, COUNTS.get())
 }
 
-/// What a call has answered. From here on each request is granted, and none is counted.
+/// Ends the injection: from here on allocations succeed and are not counted. Returns its argument, the result of the call.
 pub fn ended<T>(answer: T) -> T {
     REFUSED.set(None);
     answer
 }
 
+/// The allocator that counts allocations and makes some of them fail.
 struct Refusing;
 
 fn is_refused(bytes: usize) -> bool {
@@ -67,7 +70,7 @@ fn hold(bytes: isize) {
     COUNTS.set(counts);
 }
 
-// SAFETY: each block is the system's.
+// SAFETY: every block is the system allocator's.
 unsafe impl GlobalAlloc for Refusing {
     unsafe fn alloc(&self, layout: Layout) -> *mut u8 {
         if is_refused(layout.size()) {
@@ -82,7 +85,7 @@ unsafe impl GlobalAlloc for Refusing {
         unsafe { System.dealloc(block, layout) }
     }
 
-    /// A block that gets no larger is neither counted nor refused.
+    /// Resizes a block. If it does not grow, it is not counted and does not fail.
     unsafe fn realloc(&self, block: *mut u8, layout: Layout, size: usize) -> *mut u8 {
         let more = size.saturating_sub(layout.size());
         if more > 0 && is_refused(more) {

@@ -1,4 +1,4 @@
-//! Lists of calls.
+//! Test cases of replaying a list of a parser's calls.
 
 use crate::cursors::is_at_start;
 use crate::names::register_fully;
@@ -10,7 +10,7 @@ use wat_lex::shim::string::String as Text;
 use wat_lex::shim::vec::Vec;
 use wat_parser::proved::parser::{Call, Parser, replay};
 
-/// The call of a word: `reg=NAME`, `unreg=NAME`, `take` or `look`.
+/// Parses a call: `reg=NAME`, `unreg=NAME`, `take` or `look`.
 fn call(word: &str) -> Result<Call, AllocError> {
     Ok(match word.split_once('=').unwrap_or((word, "")) {
         ("reg", name) => Call::Register(Text::from_str(Global, name)?),
@@ -29,7 +29,7 @@ fn calls(words: &str) -> Result<Vec<Call>, Error> {
     Ok(calls)
 }
 
-/// Calls that register a name and take it back, after a token. Where memory is wanting the parser is after some of them.
+/// Replays calls that register and unregister a name after a token. If an allocation fails, some of the calls may have taken effect.
 fn all(row: &Row, parser: &mut Parser) -> Result<Ending, Error> {
     let calls = calls("take,look,reg=name,look,unreg=name,look,unreg=name")?;
     let result = ended(replay(Global, parser, &calls));
@@ -43,7 +43,7 @@ fn all(row: &Row, parser: &mut Parser) -> Result<Ending, Error> {
     Ok(row.ending(&result.map_err(Error::from)))
 }
 
-/// A name that is registered as often as can be is not registered once more.
+/// Checks that a name with the maximum count of registrations is not registered again.
 fn too_often(row: &Row, parser: &mut Parser) -> Result<Ending, Error> {
     let calls = calls("reg=b")?;
     register_fully(parser)?;

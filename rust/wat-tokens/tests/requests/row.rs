@@ -1,4 +1,4 @@
-//! Rows of the table, and how their calls end.
+//! Test cases of the table, and the results of their calls.
 
 use crate::pictures::{drawn, spelled};
 use crate::printed::printed;
@@ -6,30 +6,30 @@ use crate::sources::Source;
 use std::fmt::Debug;
 use wat_lex::proved::error::Error;
 
-/// A row, whose columns the table's first line names.
+/// A test case of the table, whose first line names the columns.
 pub struct Row {
     pub name: &'static str,
-    /// The requests of the call.
+    /// The number of allocations of the call.
     pub requests: usize,
-    /// The bytes of these and of those before the call, at most.
+    /// The maximum number of bytes allocated by the set-up and the call.
     pub bytes: usize,
     pub call: &'static str,
-    /// The names after the call's `@`, which are registered before.
+    /// The names after `@` in the column `call`, which are registered before the call.
     pub names: &'static str,
-    /// Which of the calls of that kind, or of which type.
+    /// The variant of the call, or the type that it parses.
     pub of: &'static str,
-    /// Where a refusal is reported.
+    /// The byte offset of the expected error, or `None` if the call succeeds.
     pub offset: Option<usize>,
-    /// Where the call leaves a parser.
+    /// The byte offset of the token before the parser after the call. For a call of the lexer, the byte offset of the lexer.
     pub place: usize,
     pub text: String,
-    /// What the row's parser reads.
+    /// The kind of buffer that the parser reads.
     pub source: Source,
-    /// What is answered, or the first line of a refusal, or all of it.
+    /// The expected value, or the first line or all lines of the expected error.
     pub answer: &'static str,
 }
 
-/// How a call ended: with the row's answer, or for want of memory. Anything else fails the test.
+/// The end of a call: with the expected result, or with an allocation failure. Any other end fails the test.
 #[derive(Clone, Copy, Debug, PartialEq, Eq)]
 pub enum Ending {
     Answer,
@@ -58,7 +58,7 @@ impl Row {
         }
     }
 
-    /// How a call ended that answers a value or an error.
+    /// Checks the result of a call, a value or an error.
     pub fn ending<T: Debug>(&self, result: &Result<T, Error>) -> Ending {
         match result {
             Ok(value) => {
@@ -70,7 +70,7 @@ impl Row {
         }
     }
 
-    /// How a call ended that answers an error: the row has all of it, or its first line.
+    /// Checks the error of a call. The test case has all of its lines, or the first one.
     pub fn refusal(&self, error: &Error) -> Ending {
         if error.is_out_of_memory() {
             return Ending::Memory;

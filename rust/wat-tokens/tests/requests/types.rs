@@ -1,4 +1,4 @@
-//! Types that are read, in whole texts and by a parser.
+//! Test cases of parsing types, from whole texts and with a parser.
 
 use crate::imports::Imports;
 use crate::lists::read;
@@ -15,7 +15,7 @@ use wat_parser::proved::parser::{Parse, Parser};
 use wat_parser::proved::token::{Id, Index, ItemRef, NameAnnotation, Parens, ReservedSymbol, Span};
 use wat_parser::proved::{annotation, kw};
 
-/// Reads a whole text.
+/// Parses a whole text as a type.
 fn whole<'a, T: Parse<'a> + Debug>(row: &Row, buffer: &'a Buffer<'_>) -> Ending {
     row.ending(&ended(buffer.parse::<T>()))
 }
@@ -36,7 +36,7 @@ pub fn whole_ending(row: &Row) -> Result<Ending, Error> {
     })
 }
 
-/// Reads a type where `a` is registered; names and depth stay, and the place never goes back.
+/// Parses a type with `a` registered. The name must stay registered, the depth must be 0, and the parser must be at the expected offset.
 fn part<'a, T: Parse<'a> + Debug>(row: &Row, parser: &mut Parser<'a>) -> Ending {
     let result = ended(parser.parse::<T>());
     assert!(parser.is_registered("a"), "{}", row.name);

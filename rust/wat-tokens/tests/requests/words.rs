@@ -1,4 +1,4 @@
-//! Words of one's own, and syntax that is made without a text.
+//! Test cases of a user-defined word, and of syntax that is built without a text.
 
 use crate::refusing::ended;
 use crate::row::{Ending, Row};
@@ -26,7 +26,7 @@ impl Word for Comma {
     }
 }
 
-/// `(func $f)`, whose name is at byte 7.
+/// Returns the reference `(func $f)` with `$f` at byte offset 7.
 fn item(name: CowStr<'_>) -> ItemRef<'_, kw::func> {
     ItemRef {
         kind: kw::func::new(Span::from_offset(2)),
@@ -38,7 +38,7 @@ fn is_copy(item: &ItemRef<kw::func>, copy: &ItemRef<kw::func>) -> bool {
     copy.kind.span == item.kind.span && copy.idx == item.idx
 }
 
-/// A copy of a reference whose name is owned.
+/// Clones a reference with an owned name.
 fn item_copy(row: &Row) -> Result<Ending, Error> {
     let item = item(CowStr::Owned(Text::from_str(Global, "f")?));
     let copy = ended(item.clone(Global));
@@ -50,7 +50,7 @@ fn item_copy(row: &Row) -> Result<Ending, Error> {
     Ok(Ending::Answer)
 }
 
-/// A copy of a name that is owned.
+/// Clones an annotation with an owned name.
 fn name_copy(row: &Row) -> Result<Ending, Error> {
     let name = NameAnnotation {
         name: CowStr::Owned(Text::from_str(Global, "m")?),
@@ -64,7 +64,7 @@ fn name_copy(row: &Row) -> Result<Ending, Error> {
     Ok(Ending::Answer)
 }
 
-/// A copy of a reference whose name is borrowed, words at a place, and calls that do nothing.
+/// Checks calls that do not allocate: cloning a reference with a borrowed name, words with a span, and lemmas, which have no effect.
 fn made(row: &Row) -> Result<Ending, Error> {
     let buffer = row.source.buffer(&row.text)?;
     let (mut parser, at) = (buffer.parser(), Span::from_offset(2));

@@ -1,18 +1,18 @@
-//! The table of runs, `tests/runs.txt` at the root.
+//! A parser of the table of runs, `tests/runs.txt` of the repository.
 
 use std::fmt;
 use std::fs::read_to_string;
 
 const TABLE: &str = concat!(env!("CARGO_MANIFEST_DIR"), "/../../tests/runs.txt");
 
-/// The files that each run finds, and the runs.
+/// The table: the files that exist before the runs, and the runs.
 #[derive(Default)]
 pub struct Table {
     pub files: Vec<(String, Vec<u8>)>,
     records: Vec<Record>,
 }
 
-/// The words of runs that come to the same, their standard input, and what they come to.
+/// Command lines with the same standard input and the same expected result.
 #[derive(Default)]
 pub struct Record {
     runs: Vec<Vec<String>>,
@@ -20,7 +20,7 @@ pub struct Record {
     pub answer: Answer,
 }
 
-/// What a run comes to.
+/// The result of a run: its exit status, standard output and standard error.
 #[derive(Default, PartialEq)]
 pub struct Answer {
     pub status: u8,
@@ -55,14 +55,14 @@ impl Table {
         table
     }
 
-    /// The words of each run, and its record.
+    /// Returns the arguments of each run, with its record.
     pub fn runs(&self) -> impl Iterator<Item = (&[String], &Record)> {
         self.records
             .iter()
             .flat_map(|record| record.runs.iter().map(move |words| (&words[..], record)))
     }
 
-    /// The record that a paragraph is; its files are those of the table.
+    /// Parses a paragraph to a record, and adds its files to the table.
     fn record_of(&mut self, paragraph: &str) -> Record {
         let mut record = Record::default();
         for line in paragraph.lines() {
@@ -87,7 +87,7 @@ impl Table {
     }
 }
 
-/// Whether a paragraph only says what the table is, or which files it has.
+/// Returns `true` if a paragraph has only comments and files, and no run.
 fn is_head(paragraph: &str) -> bool {
     paragraph.lines().all(|line| line.starts_with(['#', '@']))
 }
@@ -100,7 +100,7 @@ fn word_of(text: &str) -> String {
     }
 }
 
-/// The bytes that a text with escapes stands for.
+/// Decodes the escapes of a text.
 fn bytes_of(text: &str) -> Vec<u8> {
     let mut bytes = Vec::new();
     let mut rest = text;
@@ -112,7 +112,7 @@ fn bytes_of(text: &str) -> Vec<u8> {
     bytes
 }
 
-/// Adds what the escape at the start of a text stands for, and answers the text after it.
+/// Decodes the escape at the start of a text, after its backslash, and returns the text after it.
 fn push_escape<'a>(bytes: &mut Vec<u8>, text: &'a str) -> &'a str {
     let (kind, rest) = text.split_at(1);
     match kind {

@@ -1,4 +1,4 @@
-//! Texts of types and their bytes: those of `tests/types.txt`, and parts and edits of these texts, as a second reader reads them.
+//! The compiler of function types: the texts of `tests/types.txt`, and their prefixes and mutants, compared with a reference implementation.
 
 mod second;
 
@@ -6,20 +6,20 @@ use wat_lex::Lexer;
 use wat_tokens::shim::alloc::Global;
 use wat_tokens::types::compile_types;
 
-/// A text, and in the line after it the bytes of its module, which are those that `wat2wasm` writes, or what is wrong with the text, and where.
+/// Pairs of lines: a text, and the bytes of its module in hexadecimal, as `wat2wasm` writes them, or its error with the byte offset.
 const TYPES: &str = include_str!("../../../../tests/types.txt");
 
-/// What each module begins with.
+/// The magic number and the version, with which each module begins.
 const HEADER: &[u8] = b"\0asm\x01\0\0\0";
 
-/// Each text of the table, and its answer.
+/// Returns each text of the table, with its expected result.
 fn rows() -> Vec<(&'static str, &'static str)> {
     let lines: Vec<&str> = TYPES.lines().collect();
     let row = |pair: &[&'static str]| (pair[0], pair[1].strip_prefix("    ").expect("an answer"));
     lines.chunks(2).map(row).collect()
 }
 
-/// What the compiler answers, as the table has it.
+/// Compiles a text, and returns the result as the table writes it.
 fn answer(text: &str) -> String {
     match compile_types(Global, text) {
         Ok(bytes) => bytes
@@ -41,7 +41,7 @@ fn texts_have_the_bytes_of_the_table() {
     }
 }
 
-/// More than a thousand types, whose count and bytes need two bytes each for their numbers.
+/// Compiles 1,001 types. Their count and the length of their section each take two bytes of LEB128.
 #[test]
 fn many_types_have_their_bytes() {
     let text = format!("(module{})", "(type (func))".repeat(1001));
@@ -50,7 +50,7 @@ fn many_types_have_their_bytes() {
     assert_eq!(*compile_types(Global, &text).unwrap(), wanted);
 }
 
-/// Whether a text has bytes, which are those that the second reader finds; where it finds none there are none.
+/// Checks that the compiler and the reference implementation agree on a text. Returns `true` if it is a module of types.
 fn agrees(text: &str) -> bool {
     let found = compile_types(Global, text).ok().map(Vec::from);
     let wanted = second::section(text).map(|section| [HEADER, &section].concat());
@@ -65,12 +65,12 @@ fn parts_of_texts_are_read_as_the_second_reader_reads_them() {
         .flat_map(|(text, _)| (0..=text.len()).map(|end| &text[..end]))
         .filter(|part| agrees(part))
         .count();
-    // Each text that has bytes, and two parts of `(module) x`.
+    // Each text that is a module, and two prefixes of `(module) x`.
     let texts = rows().into_iter().filter(|(text, _)| agrees(text)).count();
     assert_eq!(parts, texts + 2);
 }
 
-/// The tokens of a text, and white space and comments, with one left out, one twice, or one before the one before it.
+/// Returns the mutants of a text in which one raw token is deleted, repeated after a space, or swapped with the next.
 fn edits(text: &str) -> Vec<String> {
     let lexer = Lexer::new(text);
     let words: Vec<&str> = lexer

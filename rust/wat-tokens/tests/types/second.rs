@@ -1,8 +1,9 @@
-//! A second reader of type sections, to compare with.
+//! A reference implementation of the compiler of function types.
 
 use wat_lex::{Lexer, TokenKind};
 
-/// The section of a text's types, empty where it has none; `None` where the text is no module of types. It is for sections of less than 128 bytes.
+/// Compiles the type section of a text, which is empty if there are no types. Returns `None` if the text is not a module of function types. The
+/// section must have fewer than 128 bytes, since its length is encoded in one byte.
 pub fn section(text: &str) -> Option<Vec<u8>> {
     let words = words(text)?;
     let (mut rest, mut count, mut types) = match words.as_slice() {
@@ -22,8 +23,8 @@ pub fn section(text: &str) -> Option<Vec<u8>> {
     Some([&[0x01, length], types.as_slice()].concat())
 }
 
-/// The words of a text that count: no white space, no comments, and no annotations. `None` where it has a fault, an identifier without a name or an
-/// annotation that is not closed.
+/// Returns the significant tokens of a text outside of annotations. Returns `None` if the text has a lexical error, an identifier without a name or
+/// an annotation that is not closed.
 fn words(text: &str) -> Option<Vec<&str>> {
     let mut words = Vec::new();
     let mut depth = 0;
@@ -42,7 +43,7 @@ fn words(text: &str) -> Option<Vec<&str>> {
     (depth == 0 && !words.contains(&"$")).then_some(words)
 }
 
-/// The bytes of the function type that words begin with, and the words after it.
+/// Compiles the function type at the start of the tokens, and returns its bytes and the tokens after it.
 fn function_type<'a, 'w>(words: &'w [&'a str]) -> Option<(Vec<u8>, &'w [&'a str])> {
     let words = words.strip_prefix(&["(", "type"])?;
     let words = match words {
@@ -56,7 +57,7 @@ fn function_type<'a, 'w>(words: &'w [&'a str]) -> Option<(Vec<u8>, &'w [&'a str]
     Some(([&[0x60], params.as_slice(), &results].concat(), after))
 }
 
-/// The number types in the groups of a name that words begin with, after their count, and the words after them.
+/// Compiles the groups `(name ..)` at the start of the tokens to a vector of number types, and returns its bytes and the tokens after the groups.
 fn values<'a, 'w>(mut words: &'w [&'a str], name: &str) -> Option<(Vec<u8>, &'w [&'a str])> {
     let mut types = vec![0];
     while let ["(", first, group @ ..] = words {
