@@ -5,7 +5,7 @@
  *   REFUSE_FROM  the Nth allocation and all after it fail.
  *   FAIL_READ    the Nth read of standard input fails.
  *   FAIL_WRITE   the Nth write to standard output fails.
- *   MOST         each of these reads and writes transfers at most N bytes.
+ *   MOST         each read of standard input and each write to standard output transfers at most N bytes.
  *   TELL         counts are written to the file descriptor N when the program ends.
  *
  * A reallocation that does not grow a block is not counted and does not fail; the sizes of all blocks are recorded to decide this. The counts are

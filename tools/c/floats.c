@@ -1,6 +1,6 @@
-/* Prints hexadecimal and decimal floating-point numbers, one a line, each with the bits that `strtof` and `strtod` read, or `-` if they read
- * infinity. Many are close to a midpoint, subnormal, or close to the greatest finite number. For a subnormal hexadecimal number it prints `?`, since the
- * GNU C library rounds some of them incorrectly (its bug 30220).
+/* Prints hexadecimal and decimal floating-point numbers, one per line, each with the bits that `strtof` and `strtod` return, or `-` if they return
+ * infinity. Many are close to a midpoint, subnormal, or close to the greatest finite number. For a subnormal hexadecimal number it prints `?`,
+ * since the GNU C library rounds some of them incorrectly (its bug 30220).
  *
  * usage: floats COUNT
  */
@@ -28,7 +28,7 @@ static int exponent(int hex) {
     return edge + (int)below(hex ? 160 : 40) - (hex ? 80 : 20);
 }
 
-/* Writes digits, most of them the least or the greatest, so that the number is close to a midpoint. */
+/* Writes `count` digits, and a null byte. A run of the least or the greatest digit comes first, so that many numbers are close to a midpoint. */
 static void put_digits(char *text, int hex, size_t count) {
     size_t same = below(count + 1);
     int digit = (int)below(3) == 0 ? (hex ? 15 : 9) : 0;
@@ -44,12 +44,12 @@ static void put_number(char *text, size_t capacity) {
     int hex = (int)below(2);
     put_digits(integral, hex, 1 + below(20));
     put_digits(fractional, hex, below(40));
-    /* The point moves the exponent back to the limit. */
+    /* The exponent is reduced by the weight of the integral digits, so that the number is close to the limit. */
     int moved = (int)strlen(integral) * (hex ? 4 : 1);
     snprintf(text, capacity, "%s%s%s.%s%c%d", below(2) ? "-" : "", hex ? "0x" : "", integral, fractional, hex ? 'p' : 'e', exponent(hex) - moved);
 }
 
-/* Prints the bits of the number that was read. */
+/* Prints the bits of a number in hexadecimal, `-` for infinity, or `?` for a subnormal number if `hex`. */
 static void print_bits(int hex, int class, uint64_t bits) {
     if (class == FP_INFINITE) printf(" -");
     else if (hex && class == FP_SUBNORMAL) printf(" ?");

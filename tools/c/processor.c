@@ -1,5 +1,5 @@
-/* Ends a program before `main`, with a line that says why, if the processor lacks an instruction set of x86-64-v2. Without this check an unknown
- * instruction would end the program later, without a message. */
+/* Terminates a program before `main`, with a message, if the processor lacks an instruction set of x86-64-v2. Without this check an unsupported
+ * instruction would terminate the program later, without a message. */
 #include <cpuid.h>
 #include <stdio.h>
 #include <stdlib.h>

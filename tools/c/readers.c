@@ -75,7 +75,7 @@ static struct wat_row row_of(struct setting s, struct wat_token token) {
     return row;
 }
 
-/* Calls the reader of a row that corresponds to a reader at an offset, from 1 on; there is none for the error of a name. */
+/* Calls the reader by row with the same index as a reader by offset. There is none for 0 and 3, the printed error and the error of a name. */
 static struct wat_answer read_row(unsigned reader, struct setting s, const struct wat_row *row, uint8_t *out, size_t capacity) {
     switch (reader) {
     case 1:
@@ -185,7 +185,8 @@ static void look_for_comment(struct setting s, size_t pos, struct wat_found foun
     }
 }
 
-/* Checks that printing the message of a lexical error prints the error, with the name of a file in place of `<anon>`. */
+/* Checks that `wat_print` with the message of a lexical error, or with its first 2 bytes, prints what `wat_fault` prints after the message, and that a
+ * file name replaces `<anon>`. `whole` is the output of `wat_fault`. */
 static void print_error(struct setting s, size_t offset, const uint8_t *message, size_t len, const uint8_t *whole, size_t whole_len) {
     static const uint8_t name[] = "a longer name", anonymous[] = "<anon>";
     size_t named_len = whole_len + sizeof name - sizeof anonymous, at = len;
@@ -222,7 +223,7 @@ static void read_message(struct setting s, size_t pos, struct wat_found found) {
     free(whole);
 }
 
-/* Returns `true` if the reader reads tokens of this kind; all others must return WAT_OTHER. */
+/* Returns `true` if the reader accepts what was found at an offset. Otherwise it must return WAT_OTHER. */
 static bool may_read(unsigned reader, struct wat_found found) {
     uint8_t code = found.token.kind.code;
     switch (reader) {
@@ -278,7 +279,7 @@ static void look_after(struct setting s, size_t pos, struct wat_found found) {
     }
 }
 
-/* Calls every function at an offset. */
+/* Calls every function whose input is an offset, and compares the results. Returns the token or the lexical error there. */
 static struct wat_found look(struct setting s, size_t pos) {
     struct wat_found found = wat_scan(s.text, s.len, pos, s.allow, s.strict);
     struct wat_token token = wat_token_at(s.text, s.len, pos, s.allow, s.strict);
@@ -306,7 +307,7 @@ static struct wat_found look(struct setting s, size_t pos) {
     return found;
 }
 
-/* Reads a text by rows, and then each row alone. */
+/* Lexes a text with several calls of `wat_fill`, and calls every other function at the offset of each raw token. */
 static void read_text(struct setting s) {
     struct wat_token *rows = block_of(CAPACITY * sizeof *rows);
     struct wat_filled filled = {0, 0, WAT_FULL};
@@ -340,7 +341,7 @@ struct rows {
     uint32_t why;
 };
 
-/* Fills rows in several calls, and checks that they are consecutive. */
+/* Returns the linked rows of a text, from several calls of `wat_rows`. */
 static struct rows rows_of(struct setting s) {
     struct rows all = {NULL, 0, WAT_FULL};
     struct wat_row *piece = block_of(CAPACITY * sizeof *piece);
@@ -383,7 +384,7 @@ static void compare_rows(struct setting s, struct rows all) {
     expect(wat_after(all.rows, all.count, 0) == 0, "after no row", 0);
 }
 
-/* Peeks at each row, under these names. */
+/* Peeks from each row on, and after the last, under these names. */
 static void look_at_rows(struct setting s, struct rows all, const char *names, const size_t *ends, size_t count) {
     size_t place, len = strlen(names);
     uint8_t *own = block_of(len);
@@ -401,7 +402,7 @@ static void look_at_rows(struct setting s, struct rows all, const char *names, c
     free(own);
 }
 
-/* Prints a message at each byte, with and without a file's name. */
+/* Prints a message at an offset with a file name, which may be empty, and checks that the output begins with the message. */
 static void print_at(struct setting s, size_t offset, const char *message, const char *file) {
     uint8_t *text = block_of(strlen(message) + strlen(file)), none = 0, *out;
     struct wat_answer first, given;
@@ -430,7 +431,7 @@ static void read_rows(struct setting s) {
     free(all.rows);
 }
 
-/* Checks the line and column of each byte, with the line feeds of the text. */
+/* Checks the line and column of each byte, in bytes and in UTF-16, by the line feeds of the text. */
 static void read_lines(struct setting s) {
     struct wat_position wanted = {0, 0}, found, wide;
     size_t none = 0, count = wat_line_feeds(s.text, s.len, &none, 0), units = 0, offset;
@@ -455,7 +456,8 @@ static void read_lines(struct setting s) {
     free(feeds);
 }
 
-/* Copies bytes to a block of exactly their size, so that a sanitizer reports a read after them. */
+/* Runs all checks on a text under all settings, if it is UTF-8. It is copied to a block of exactly its size, so that a sanitizer reports a read after
+ * it. */
 static void read_bytes(const uint8_t *bytes, size_t len) {
     uint8_t *text = block_of(len);
     unsigned flags;
@@ -482,7 +484,7 @@ static const char *const pieces[] = {"(;",  ";)",     ";;", "\n",   "\"",       
                                      "$",   "$\"a\"", "@",  "@\"",  "0x",        "1_0",       "-0x1.8p-3", "nan:0x7f", "+inf",
                                      "1e5", "_",      ",",  "\xe2\x80\xae", "\xc3\xa9", "\xf0\x9f\x98\x80", "\t",  "(@a)",  ""};
 
-/* Mutates a text: replaces or deletes a few bytes, or inserts a lexeme before them. */
+/* Mutates a text 1 to 4 times, and runs all checks on it. Each mutation replaces 0 to 2 bytes by a lexeme, which may be empty. */
 static void mutate(const uint8_t *bytes, size_t len) {
     uint8_t *mutant = block_of(len + 64);
     unsigned turns = 1 + (unsigned)(next_random() % 4);

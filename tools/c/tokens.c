@@ -1,6 +1,6 @@
 /* Compares `wat_token_at_inline` with `wat_token_at`, and checks that it calls that function for the tokens that wat.h says, and for no others. The
- * texts are of one byte; of all pairs of a one-byte character and a character of each first byte; and of three bytes that begin, end or continue
- * one-byte tokens. Each is tried at each offset, under all settings. It is C and C++.
+ * texts are one character for each first byte of a character, all pairs of these characters, and all triples of bytes that begin, end or continue
+ * one-byte tokens. Each text is tried at each char boundary, under all settings. This file is valid C and C++.
  *
  * usage: tokens */
 #define wat_token_at wat_token_at_counted /* the header's function calls this one */
@@ -54,7 +54,7 @@ static void compare(const uint8_t *text, size_t len, size_t pos, bool allow, boo
     }
 }
 
-/* Compares at each offset of a text, in a block that a sanitizer guards to its last byte. */
+/* Compares the functions at each char boundary of a text, in a block of exactly its size, so that a sanitizer reports a read after it. */
 static void compare_all(const uint8_t *bytes, size_t len) {
     uint8_t *text = (uint8_t *)malloc(len);
     unsigned settings;
@@ -74,7 +74,7 @@ static void compare_all(const uint8_t *bytes, size_t len) {
 /* Writes a character with this first byte, and returns its length, or 0 if there is none. */
 static size_t character(unsigned first, uint8_t *out) {
     size_t len = first < 0x80 ? 1 : first < 0xc2 ? 0 : first < 0xe0 ? 2 : first < 0xf0 ? 3 : first < 0xf5 ? 4 : 0;
-    /* (the second byte of U+0800 and of U+10000 is the least that begins a character so) */
+    /* After 0xe0 and 0xf0 the least second byte is that of U+0800 and of U+10000. */
     memset(out, first == 0xe0 ? 0xa0 : first == 0xf0 ? 0x90 : 0x80, 4);
     out[0] = (uint8_t)first;
     return len;

@@ -1,5 +1,5 @@
 /* Loops over the C library for benchmarks, which call it like a program in C. Each is an exported function, so that callgrind reports it by name. The
- * text must be UTF-8 of at most UINT32_MAX bytes. The result of a loop is a checksum of its input. */
+ * text must be UTF-8 of at most UINT32_MAX bytes. The result of a loop is a checksum of what it read. */
 #include "wat.h"
 
 enum { ROOM = 1024, BYTES = 1 << 24 };
@@ -73,7 +73,7 @@ static uint64_t ends(const uint8_t *bytes, size_t len) {
     return len == 0 ? 0 : len + bytes[0] + bytes[len - 1];
 }
 
-/* Returns the checksum of the value that a reader wrote, or 0 if there is none. No value is longer than BYTES. */
+/* Returns the checksum of the value that a reader wrote, or 0 if it wrote none, e.g. since the value is longer than BYTES. */
 static uint64_t written(struct wat_answer answer, const uint8_t *out) {
     return answer.status == WAT_GIVEN && answer.needed <= BYTES ? ends(out, answer.needed) : 0;
 }
@@ -198,7 +198,7 @@ uint64_t library_comments(const uint8_t *text, size_t len) {
     return sum;
 }
 
-/* Returns the sum of the values of all integers that are unsigned with 32 bits. */
+/* Returns the sum of the values of the integers that fit in 32 unsigned bits. */
 uint64_t library_u32s(const uint8_t *text, size_t len) {
     static struct wat_row rows[ROOM];
     struct wat_filled filled = {0, 0, WAT_FULL};

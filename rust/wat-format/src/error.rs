@@ -12,7 +12,7 @@ pub enum FormatError {
     Lexical {
         /// The kind of the error.
         error: LexError,
-        /// The position of the error in the text.
+        /// The byte offset of the error in the text.
         span: Span,
     },
     /// The text, or the formatted text that [`format`](crate::format()) returns, has more than `u32::MAX` bytes.
@@ -27,7 +27,7 @@ pub enum FormatError {
 }
 
 impl FormatError {
-    /// Returns the position of a lexical error in the text, or `None` for any other error.
+    /// Returns the byte offset of a lexical error in the text as a span, or `None` for any other error.
     #[must_use]
     pub fn span(&self) -> Option<Span> {
         match self {

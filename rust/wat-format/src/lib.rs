@@ -68,8 +68,8 @@ pub fn format(text: &str) -> Result<String, FormatError> {
 
 /// Writes the formatted text to `output`, with the default [`Options`].
 ///
-/// The text is lexed before anything is written. The text is written in blocks of at least 64 KiB; memory is allocated for one block and for the open
-/// groups, and not for the whole text.
+/// The text is lexed before anything is written. The formatted text is written in blocks of at least 64 KiB, except for the last. Memory is
+/// allocated for one block and for the open groups, and not for the whole text.
 ///
 /// # Errors
 ///

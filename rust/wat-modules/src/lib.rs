@@ -60,24 +60,24 @@ pub use wat_lex::{Error, Span};
 /// Compiles a module from the text format to the binary format, and returns its bytes.
 ///
 /// The text is `(module $name? field..)`, or `field..` without the enclosing `(module )`. Fields are types, imports, functions, tables, memories,
-/// globals, exports, a start function, element segments and data segments, with identifiers and all inline abbreviations. Value types and
-/// instructions (plain, block and folded) are those of WebAssembly 2.0.
+/// globals, exports, a start function, element segments and data segments, with identifiers and with inline imports, exports, elements and data.
+/// Value types and instructions (plain, block and folded) are those of WebAssembly 2.0.
 ///
-/// The verified function [`proved::compile`] returns bytes if and only if the text is such a module, unless an allocation fails or the module has
-/// more than `u32::MAX` bytes, and these are the module's bytes. A text matches the grammar of at most one module. The module is not validated: the
-/// types of operands are not checked. The compiler writes no name section.
+/// The underlying compiler is verified. Unless an allocation fails or the module has more than `u32::MAX` bytes, it returns bytes if and only if the
+/// text is such a module, and these are the module's bytes. A text matches the grammar of at most one module. The module is not validated: the types
+/// of operands are not checked. The compiler writes no name section.
 ///
 /// # Errors
 ///
-/// Returns an error with the byte offset at which it occurs. `Display` prints its location, and the line of the text unless that is long.
+/// Returns one of these errors, with a byte offset:
 ///
-/// - a lexical error;
+/// - a lexical error, at its offset;
 /// - a syntax error at the first token that does not match the grammar, e.g. an unknown keyword, an unknown identifier or an integer out of range;
-/// - at the first field: a duplicate identifier of the module, an import after a definition, or a second start function;
-/// - after the last of a function's parameters and locals: a duplicate identifier among them;
-/// - at offset 0: a text or a module of more than `u32::MAX` bytes.
+/// - a duplicate identifier in an index space, an import after a definition, or a second start function, at the first field;
+/// - a duplicate identifier among the parameters and locals of a function, after the last of them;
+/// - a text or a module of more than `u32::MAX` bytes, at offset 0.
 ///
-/// Returns an error without a location if an allocation fails.
+/// `Display` prints the location, and the line of the text unless it is long. If an allocation fails, the error is out of memory.
 pub fn parse_str(text: impl AsRef<str>) -> Result<Vec<u8>, Error> {
     let text = text.as_ref();
     // `requires` of `proved::compile`.

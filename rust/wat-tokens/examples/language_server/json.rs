@@ -18,7 +18,7 @@ pub enum Json {
 }
 
 impl Json {
-    /// Parses the value at the start of a text. Returns `None` if there is no JSON value. Text after the value is ignored.
+    /// Parses the value at the start of a text. Returns `None` if the text does not begin with one. Ignores the text after it.
     pub fn read(text: &str) -> Option<Json> {
         let rest = text.chars().peekable();
         Reader { rest, depth: 0 }.value()

@@ -8,7 +8,7 @@ mod tests;
 /// Capacity of the buffer, in bytes: a line of at most this length is written in a single call.
 const ROOM: usize = 1024;
 
-/// A formatter that buffers text in front of a stream.
+/// A [`fmt::Write`] that buffers text and writes it to a stream.
 struct Printer<W> {
     output: W,
     bytes: [u8; ROOM],

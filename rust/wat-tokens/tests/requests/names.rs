@@ -90,7 +90,7 @@ impl<'a> Parse<'a> for OptionalName<'a> {
     }
 }
 
-/// Parses a type with a name registered during the call. Whether it succeeds or not, the name must be registered afterwards if it was before.
+/// Parses a type with a name registered during the call. Even if it fails, the name must be registered afterwards if and only if it was before.
 fn under_name(row: &Row, parser: &mut Parser) -> Ending {
     let is_registered = parser.is_registered("b");
     let result = ended(parser.with_annotation::<Option<u32>>("b"));

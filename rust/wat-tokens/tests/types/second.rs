@@ -2,7 +2,7 @@
 
 use wat_lex::{Lexer, TokenKind};
 
-/// Compiles the type section of a text, which is empty if there are no types. Returns `None` if the text is not a module of function types. The
+/// Compiles the type section of a text, which is empty for a module without types. Returns `None` if the text is not a module of function types. The
 /// section must have fewer than 128 bytes, since its length is encoded in one byte.
 pub fn section(text: &str) -> Option<Vec<u8>> {
     let words = words(text)?;
