@@ -1,5 +1,5 @@
-/* The three functions with which an archive of Rattle's compilers allocates, implemented with those of the C library. The toolchain provides them only
- * for x86-64. Blocks have the alignment of `malloc`. An allocation of 0 bytes allocates `align` bytes. */
+/* The three functions with which an archive of Rattle's compilers allocates, implemented with those of the C library. The toolchain provides them
+ * only for x86-64. Blocks have the alignment of `malloc`. An allocation of 0 bytes allocates `align` bytes. */
 #include <stdlib.h>
 
 struct answer {

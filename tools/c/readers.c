@@ -185,8 +185,8 @@ static void look_for_comment(struct setting s, size_t pos, struct wat_found foun
     }
 }
 
-/* Checks that `wat_print` with the message of a lexical error, or with its first 2 bytes, prints what `wat_fault` prints after the message, and that a
- * file name replaces `<anon>`. `whole` is the output of `wat_fault`. */
+/* Checks that `wat_print` with the message of a lexical error, or with its first 2 bytes, prints after it what `wat_fault` prints, and that a file
+ * name replaces `<anon>`. `whole` is the output of `wat_fault`. */
 static void print_error(struct setting s, size_t offset, const uint8_t *message, size_t len, const uint8_t *whole, size_t whole_len) {
     static const uint8_t name[] = "a longer name", anonymous[] = "<anon>";
     size_t named_len = whole_len + sizeof name - sizeof anonymous, at = len;

@@ -75,6 +75,7 @@ pub use wat_lex::{Error, Span};
 /// - a syntax error at the first token that does not match the grammar, e.g. an unknown keyword, an unknown identifier or an integer out of range;
 /// - a duplicate identifier in an index space, an import after a definition, or a second start function, at the first field;
 /// - a duplicate identifier among the parameters and locals of a function, after the last of them;
+/// - a duplicate identifier among the parameters of an imported function, at its type;
 /// - a text or a module of more than `u32::MAX` bytes, at offset 0.
 ///
 /// `Display` prints the location, and the line of the text unless it is long. If an allocation fails, the error is out of memory.
