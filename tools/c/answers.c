@@ -29,7 +29,7 @@ static struct wat_row first_row(const char *text) {
     return row;
 }
 
-/* Returns the result of a reader at the start of a text. */
+/* Returns the result of a reader at the start of a text. `reader` is a letter, in uppercase for a reader by row, and the index of a float's part. */
 static struct wat_answer answer(const char *reader, const char *text, uint8_t *out, size_t capacity) {
     const uint8_t *bytes = bytes_of(text);
     size_t len = strlen(text);

@@ -1,4 +1,5 @@
-/* Prints each identifier of the text on standard input, with its offset. */
+/* Prints each identifier of the text on standard input, after its byte offset. The exit status is 1 if there is a lexical error, and 2 if the text is
+ * not UTF-8 or has 1 MiB or more. */
 #include "wat.h"
 
 #include <stdio.h>

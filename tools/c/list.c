@@ -34,7 +34,7 @@ static uint8_t *read_all(size_t *len) {
     return text;
 }
 
-/* Prints the lexical error at an offset, with a buffer of the length that a first call returns. */
+/* Prints the lexical error at an offset, and returns the exit status. A first call returns the length of the buffer for the second. */
 static int print_fault(const uint8_t *text, size_t len, size_t pos) {
     uint8_t none = 0, *shown;
     struct wat_answer answer = wat_fault(text, len, pos, false, false, &none, 0);

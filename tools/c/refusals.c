@@ -10,7 +10,7 @@
 
 enum { CAPACITY = 128, UNTOUCHED = '#' };
 
-/* A call at the start of a text; `asks` if it may allocate. */
+/* A call at the start of a text. `asks` is true if the call allocates. */
 struct call {
     const char *function, *text;
     bool asks;
@@ -62,7 +62,7 @@ static struct wat_filled rows_of(const uint8_t *text, size_t len, struct wat_row
     return filled;
 }
 
-/* Returns the result of a call that has no buffer, with its offset as `needed`. */
+/* Returns the result of a call that has no buffer, with its row, value or start offset as `needed`. */
 static struct wat_answer without_buffer(const char *f, const uint8_t *text, size_t len, const struct wat_row *rows, struct wat_filled filled) {
     static const size_t end = 1;
     struct wat_answer answer = {0, UINT32_MAX};
