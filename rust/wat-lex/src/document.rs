@@ -11,8 +11,8 @@ use core::fmt;
 use core::ops::Range;
 use memchr::memchr_iter;
 
-/// A text that is edited, with its tokens, its faults and its lines. After each edit they are those of the whole text, and little of it is read
-/// again.
+/// An editable source text with its tokens, lexical errors and lines. After each edit they equal those of lexing the whole text, but only the part
+/// around the edit is lexed again.
 ///
 /// ```
 /// use wat_lex::{Document, Span};
@@ -23,7 +23,7 @@ use memchr::memchr_iter;
 /// assert_eq!(document.tokens().filter(|token| !token.kind.is_blank()).count(), 8);
 /// assert_eq!(document.linecol(Span::from_offset(22)), (1, 6));
 ///
-/// // An open quote covers the rest of its line, and no more.
+/// // An open quote covers the rest of its line only.
 /// document.replace(13..14, "")?;
 /// let fault = document.faults().next().unwrap();
 /// assert_eq!(&document.text()[fault.range()], "$\"first)");
@@ -31,47 +31,48 @@ use memchr::memchr_iter;
 /// # Ok::<(), wat_lex::Error>(())
 /// ```
 ///
-/// What a token is depends on its own characters and the one after it, and so does what a fault covers, but for a block comment that nothing
-/// closes. So the pieces that end before an edit stay; and from a place after it at which a piece began, the pieces are those from before, moved.
-/// Where such a comment is open before an edit, the rest of the text is looked at for what closes it.
+/// A token depends only on its own characters and on the one after it. So do the bytes that a lexical error covers, except for an unclosed block
+/// comment. Therefore the pieces (tokens and errors) that end before an edit are kept. Lexing stops at the first offset after the edit at which an
+/// old piece begins, and the pieces from there on are kept with shifted offsets. If a block comment before the edit is unclosed, the rest of the text
+/// is searched for its end.
 ///
-/// An edit moves the text after it, and passes over the tokens between it and the edit before it. It is tested against whole reads, and not
+/// An edit moves the text after it, and the pieces between it and the previous edit. The type is tested against lexing the whole text; it is not
 /// proved.
 #[derive(Clone, Default)]
 pub struct Document {
     text: String,
     settings: Settings,
     reading: Reading,
-    /// Where the line feeds are.
+    /// Byte offsets of the line feeds.
     feeds: Gap<usize>,
 }
 
-/// Which pieces were read again after an edit: those from `first` on. All others are as before, those after the edit moved.
+/// The range of pieces that an edit replaced. All other pieces are unchanged, except that those after the edit have shifted offsets.
 #[derive(Clone, Copy, Debug, PartialEq, Eq, Hash)]
 pub struct Change {
-    /// How many pieces before the edit stayed.
+    /// Number of pieces before the edit that were kept, which is the index of the first new piece.
     pub first: usize,
-    /// How many pieces after those were dropped.
+    /// Number of pieces that were removed from index `first` on.
     pub removed: usize,
-    /// How many pieces were read in their place. Some may be equal to dropped ones.
+    /// Number of pieces that were inserted at index `first`. Some may be equal to removed ones.
     pub added: usize,
 }
 
 impl Document {
-    /// Reads a text, with both of the lexer's settings off.
+    /// Lexes a text, with both of the lexer's settings off.
     ///
     /// # Errors
     ///
-    /// That the text has more than `u32::MAX` bytes.
+    /// Returns an error if the text has more than `u32::MAX` bytes.
     pub fn new(text: &str) -> Result<Document, Error> {
         Document::with_settings(text, Settings::default())
     }
 
-    /// Reads the text of a lexer, under its settings, which stay.
+    /// Lexes the text of a lexer with the lexer's settings. The document keeps the settings.
     ///
     /// # Errors
     ///
-    /// As [`new`](Document::new).
+    /// Returns an error if the text has more than `u32::MAX` bytes.
     pub fn with_lexer(lexer: &Lexer<'_>) -> Result<Document, Error> {
         Document::with_settings(lexer.input(), lexer.proved()?.settings())
     }
@@ -85,19 +86,19 @@ impl Document {
         Ok(document)
     }
 
-    /// The text.
+    /// Returns the text.
     #[must_use]
     pub fn text(&self) -> &str {
         &self.text
     }
 
-    /// The text, without what was read of it.
+    /// Returns the text and drops the pieces.
     #[must_use]
     pub fn into_text(self) -> String {
         self.text
     }
 
-    /// A lexer over the text, with the settings of the document.
+    /// Returns a lexer over the text, with the settings of the document.
     #[must_use]
     pub fn lexer(&self) -> Lexer<'_> {
         let mut lexer = Lexer::new(&self.text);
@@ -106,15 +107,15 @@ impl Document {
         lexer
     }
 
-    /// Puts a text in the place of some bytes.
+    /// Replaces a range of bytes of the text, and updates the pieces.
     ///
     /// # Errors
     ///
-    /// That the text would have more than `u32::MAX` bytes. Nothing changes then.
+    /// Returns an error if the new text would have more than `u32::MAX` bytes. The document is unchanged then.
     ///
     /// # Panics
     ///
-    /// Where the range ends before its start or past the text's end, or one of both is inside a character.
+    /// Panics if the range ends before its start or past the end of the text, or if one of its ends is not a char boundary.
     pub fn replace(&mut self, range: Range<usize>, with: &str) -> Result<Change, Error> {
         assert!(
             self.text.get(range.clone()).is_some(),
@@ -137,7 +138,7 @@ impl Document {
         })
     }
 
-    /// Leaves off the pieces that a change of these bytes may change, and the line feeds in them, and opens the gaps there.
+    /// Moves the gaps to the edit, and removes the pieces that a change of these bytes may affect and the line feeds among the bytes.
     fn open(&mut self, range: &Range<usize>) {
         let len = self.text.len();
         let is_before = |piece: Piece| piece.end() < range.start;
@@ -150,7 +151,7 @@ impl Document {
         }
     }
 
-    /// Reads from the gap on up to where a piece begins that was kept, and answers how many pieces before the gap stayed.
+    /// Lexes from the gap up to the start of a kept piece, and returns the number of pieces before the gap that were kept.
     fn read_on(&mut self) -> usize {
         let first = self.reading.first_unclosed();
         let unclosed = first.map_or(Vec::new(), |at| unclosed_comments(&self.text, at));
@@ -163,48 +164,49 @@ impl Document {
         count
     }
 
-    /// How many pieces the text has.
+    /// Returns the number of pieces.
     #[must_use]
     pub fn piece_count(&self) -> usize {
         self.reading.pieces.len()
     }
 
-    /// The piece after so many.
+    /// Returns the piece at an index, or `None` if there are fewer pieces.
     #[must_use]
     pub fn piece(&self, index: usize) -> Option<Piece> {
         self.reading.pieces.get(index, self.text.len())
     }
 
-    /// How many pieces end at a byte or before it: the number of the piece that has the byte, where it is one of the text.
+    /// Returns the index of the piece that contains the byte at `offset`: the number of pieces that end at or before it. It is the number of all
+    /// pieces if `offset` is not inside the text.
     #[must_use]
     pub fn piece_at(&self, offset: usize) -> usize {
         let ends = |piece: Piece| piece.end() <= offset;
         self.reading.pieces.count_first(self.text.len(), ends)
     }
 
-    /// The tokens and the faults with what they cover, in their order. Each byte of the text is in one of them.
+    /// Returns the tokens, and the lexical errors with the bytes that they cover, in source order. Each byte of the text is part of one of them.
     #[must_use]
     pub fn pieces(&self) -> impl DoubleEndedIterator<Item = Piece> + Clone + '_ {
         self.reading.pieces.iter(self.text.len())
     }
 
-    /// The tokens, white space and comments among them.
+    /// Returns the tokens, including whitespace and comments.
     pub fn tokens(&self) -> impl DoubleEndedIterator<Item = Token> + Clone + '_ {
         self.pieces().filter_map(Piece::token)
     }
 
-    /// The faults. The first is that of the text; those after it are what the lexer has where it reads on.
+    /// Returns the lexical errors. The first is the one that [`Lexer::iter`] reports; those after it are found by error recovery.
     pub fn faults(&self) -> impl DoubleEndedIterator<Item = Fault> + Clone + '_ {
         self.pieces().filter_map(Piece::fault)
     }
 
-    /// How many lines the text has, counted as editors do: one more than line feeds.
+    /// Returns the number of lines as an editor counts them: the number of line feeds plus 1.
     #[must_use]
     pub fn line_count(&self) -> usize {
         self.feeds.len() + 1
     }
 
-    /// The bytes of a line, counted from 0, without its line feed. None where the text has fewer lines.
+    /// Returns the byte range of a line, counted from 0, without its line feed. Returns `None` if the text has fewer lines.
     #[must_use]
     pub fn line(&self, line: usize) -> Option<Range<usize>> {
         let len = self.text.len();
@@ -215,7 +217,8 @@ impl Document {
         Some(start..self.feeds.get(line, len).unwrap_or(len))
     }
 
-    /// Line and column of a place, the column in bytes, as those of [`LineIndex::linecol`](crate::LineIndex::linecol).
+    /// Returns the line and the column of an offset, both from 0, the column in bytes. The result equals that of
+    /// [`LineIndex::linecol`](crate::LineIndex::linecol).
     #[must_use]
     pub fn linecol(&self, span: Span) -> (usize, usize) {
         let (offset, len) = (span.offset(), self.text.len());
@@ -227,8 +230,8 @@ impl Document {
         (line, offset - start)
     }
 
-    /// Line and column of a place, the column in code units of UTF-16, as those of
-    /// [`LineIndex::utf16_linecol`](crate::LineIndex::utf16_linecol). It reads the line up to the place.
+    /// Returns the line and the column of an offset, both from 0, the column in UTF-16 code units. The result equals that of
+    /// [`LineIndex::utf16_linecol`](crate::LineIndex::utf16_linecol). Reads the line up to the offset.
     #[must_use]
     pub fn utf16_linecol(&self, span: Span) -> (usize, usize) {
         let (line, column) = self.linecol(span);
@@ -240,16 +243,16 @@ impl Document {
         (line, before.map(|(_, c)| c.len_utf16()).sum())
     }
 
-    /// Line and column of a place, the column in characters, as those of [`LineIndex::char_linecol`](crate::LineIndex::char_linecol). It reads the
-    /// line up to the place.
+    /// Returns the line and the column of an offset, both from 0, the column in characters. The result equals that of
+    /// [`LineIndex::char_linecol`](crate::LineIndex::char_linecol). Reads the line up to the offset.
     #[must_use]
     pub fn char_linecol(&self, span: Span) -> (usize, usize) {
         let (line, column) = self.linecol(span);
         (line, chars_before(&self.text, span.offset(), column))
     }
 
-    /// The place of a line and a column in bytes, both from 0: where the character begins that has the byte, and the line's or the text's end where
-    /// these have less.
+    /// Returns the offset of a line and a column in bytes, both from 0. A column inside a character is rounded down to its start; a column or line
+    /// past the end becomes the end of the line or of the text.
     #[must_use]
     pub fn place(&self, line: usize, column: usize) -> Span {
         let Some(Range { start, end }) = self.line(line) else {
@@ -262,7 +265,8 @@ impl Document {
         Span::from_offset(at)
     }
 
-    /// The same of a column in code units of UTF-16, as the language server protocol has them.
+    /// Returns the offset of a line and a column in UTF-16 code units, both from 0, as the language server protocol has them. A column inside a
+    /// character is rounded down to its start; a column or line past the end becomes the end of the line or of the text.
     #[must_use]
     pub fn utf16_place(&self, line: usize, column: usize) -> Span {
         let Some(range) = self.line(line) else {
@@ -288,18 +292,18 @@ impl fmt::Debug for Document {
     }
 }
 
-/// The pieces of a text, with a gap where it changes.
+/// The pieces of a text, in a gap buffer whose gap is at the last edit.
 #[derive(Clone, Default)]
 struct Reading {
     pieces: Gap<Piece>,
-    /// How many of the pieces are block comments that nothing closes.
+    /// Number of pieces that are unclosed block comments.
     unclosed: usize,
-    /// How many pieces after the gap the last reading kept.
+    /// Number of pieces after the gap that the last edit kept.
     kept: usize,
 }
 
 impl Reading {
-    /// Leaves off the pieces after the gap that begin before a byte.
+    /// Removes the pieces after the gap that begin before byte offset `place`.
     fn drop_up_to(&mut self, place: usize, text_len: usize) {
         while let Some(piece) = self.pieces.first_after(text_len) {
             if piece.offset() >= place {
@@ -310,7 +314,7 @@ impl Reading {
         }
     }
 
-    /// Where the first block comment before the gap begins that nothing closed.
+    /// Returns the offset of the first unclosed block comment before the gap.
     fn first_unclosed(&self) -> Option<usize> {
         if self.unclosed == 0 {
             return None;
@@ -319,8 +323,8 @@ impl Reading {
         before.find(|piece| piece.is_unclosed()).map(Piece::offset)
     }
 
-    /// Leaves off the pieces before the gap from the first block comment on that nothing closed, and something does now: it is not among those
-    /// that nothing closes.
+    /// Removes pieces before the gap, from the first block comment that was unclosed and is closed now. `unclosed` holds the sorted offsets of the
+    /// comments that are unclosed now.
     fn drop_closed(&mut self, unclosed: &[usize]) {
         if self.unclosed == 0 {
             return;
@@ -335,7 +339,7 @@ impl Reading {
         }
     }
 
-    /// Takes pieces before the gap up to where one begins that is after it.
+    /// Appends pieces of `rest` before the gap, until the next one would begin at the offset of the first piece after the gap.
     fn read_on(&mut self, mut rest: Pieces<'_>, text_len: usize) {
         let begins = |next: Option<Piece>, at| next.is_some_and(|next| next.offset() == at);
         loop {

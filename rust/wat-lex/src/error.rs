@@ -7,11 +7,11 @@ use core::fmt;
 #[cfg(feature = "std")]
 use std::path::{Path, PathBuf};
 
-/// What is wrong with a text, and where; or that memory was refused.
+/// A lexical or other error in a source text with its offset, or an allocation failure.
 ///
-/// It prints its message and, where it has been given the text, its file, its line and column, both from 1, and the line with a marker under
-/// the column. That column counts columns of a terminal, of which a character may take none, one or two; [`linecol_in`](Span::linecol_in) of
-/// its span counts bytes.
+/// An error prints its message. Once it has the text, it also prints the file, the line and the column, both from 1, and the line with a marker below
+/// the column. That column counts terminal columns: a character has a width of 0, 1 or 2. [`linecol_in`](Span::linecol_in) of the error's span counts
+/// bytes.
 ///
 /// ```
 /// use wat_lex::{Error, Span};
@@ -25,8 +25,9 @@ use std::path::{Path, PathBuf};
 /// );
 /// ```
 ///
-/// Two errors are equal where they are at the same place, of the same fault, and print the same.
-// An error is one word, as it is beside the token in what `parse` and `iter` give. None is an out-of-memory error, which so needs no memory.
+/// Two errors are equal if they have the same offset and the same lexical error and print the same text.
+// An error is one pointer wide, since `parse` and `iter` return it in a `Result` with a token. `None` is the out-of-memory error, so that creating
+// one never allocates.
 #[derive(Debug)]
 pub struct Error(Option<Box<Located>>);
 
@@ -38,17 +39,17 @@ struct Located {
 }
 
 const OUT_OF_MEMORY: &str = "out of memory";
-/// What is printed for the name of a file that is not known.
+/// Placeholder that is printed if the file name is not known.
 const NO_NAME: &str = "<anon>";
 
 impl Error {
-    /// An error with a message at a place. It prints no more than these until it is given the text.
+    /// Creates an error with a message at an offset. It prints only these two until [`set_text`](Error::set_text) is called.
     #[must_use]
     pub fn new(span: Span, message: String) -> Error {
         proved::error::Error::new(span, message.into()).into()
     }
 
-    /// Where the error is; the text's start for an out-of-memory error.
+    /// Returns the offset of the error, or 0 for an out-of-memory error.
     #[must_use]
     pub fn span(&self) -> Span {
         match &self.0 {
@@ -57,19 +58,19 @@ impl Error {
         }
     }
 
-    /// What is wrong with the text, where the lexer found it.
+    /// Returns the lexical error, if the lexer reported this error.
     #[must_use]
     pub fn lex_error(&self) -> Option<&LexError> {
         self.0.as_ref()?.error.lex_error()
     }
 
-    /// Whether memory was refused.
+    /// Returns `true` if the error is an allocation failure.
     #[must_use]
     pub fn is_out_of_memory(&self) -> bool {
         self.0.is_none()
     }
 
-    /// What is wrong, as a text without its place.
+    /// Returns the message, without the offset.
     #[must_use]
     pub fn message(&self) -> String {
         match &self.0 {
@@ -78,14 +79,14 @@ impl Error {
         }
     }
 
-    /// Gives the error the text that it is of, so that it prints the line of it. The first text stays.
+    /// Attaches the source text, so that the error prints the line. Only the first call has an effect.
     pub fn set_text(&mut self, contents: &str) {
         if let Some(located) = &mut self.0 {
             granted(located.error.set_text(Global, contents));
         }
     }
 
-    /// Gives the error the path of the file that it is of. The first path stays; one that is not UTF-8 is not printed.
+    /// Attaches the path of the source file. Only the first call has an effect; a path that is not UTF-8 is not printed.
     #[cfg(feature = "std")]
     pub fn set_path(&mut self, path: &Path) {
         if let Some(located) = &mut self.0 {
@@ -95,7 +96,7 @@ impl Error {
 }
 
 impl Located {
-    /// The file's name, where it is known and can be printed.
+    /// Returns the file name, if it is known and is UTF-8.
     fn file(&self) -> Option<&str> {
         #[cfg(feature = "std")]
         return self.path.as_deref()?.to_str();
@@ -104,7 +105,7 @@ impl Located {
     }
 }
 
-/// Where memory for the box is refused, it is an out-of-memory error.
+/// Becomes an out-of-memory error if the box cannot be allocated.
 impl From<proved::error::Error> for Error {
     #[cold]
     fn from(error: proved::error::Error) -> Error {
@@ -136,13 +137,14 @@ impl fmt::Display for Located {
         };
         let message = granted(self.error.message(Global));
         let printed = self.error.to_string();
-        // After the message the name comes first, where there is one.
+        // The first name after the message is the file's, if the error prints one.
         let place = printed[message.len()..].replacen(NO_NAME, file, 1);
         write!(f, "{message}{place}")
     }
 }
 
-// What is dropped is passed by value to a function of its own. By its address, a loop over tokens would keep all that `parse` answers in memory.
+// The box is dropped by value in a separate function. If `drop` passed its address, a loop over tokens would keep the whole result of `parse` in
+// memory.
 impl Drop for Error {
     #[inline]
     fn drop(&mut self) {
@@ -166,7 +168,7 @@ impl PartialEq for Error {
 
 impl Eq for Error {}
 
-/// Its source is the [`LexError`], where the lexer found it.
+/// The source is the [`LexError`], if the lexer reported the error.
 impl core::error::Error for Error {
     fn source(&self) -> Option<&(dyn core::error::Error + 'static)> {
         self.lex_error().map(|error| error as _)
@@ -175,7 +177,7 @@ impl core::error::Error for Error {
 
 impl core::error::Error for LexError {}
 
-/// Its source is the [`LexError`], where the lexer found it.
+/// The source is the [`LexError`], if the lexer reported the error.
 impl core::error::Error for proved::error::Error {
     fn source(&self) -> Option<&(dyn core::error::Error + 'static)> {
         self.lex_error().map(|error| error as _)

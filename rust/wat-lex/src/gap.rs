@@ -1,11 +1,11 @@
 use alloc::vec::Vec;
 
-/// What has a place in a text.
+/// An item with an offset in a text.
 pub(crate) trait Placed: Copy {
-    /// Where it begins, in bytes.
+    /// Returns the byte offset of the item.
     fn place(self) -> usize;
 
-    /// The same at another place.
+    /// Returns a copy of the item at another offset.
     fn placed(self, place: usize) -> Self;
 }
 
@@ -19,12 +19,12 @@ impl Placed for usize {
     }
 }
 
-/// Items of a text in the order of their places, with a gap among them. The places of those before it are from the text's start, and of those after
-/// it from the text's end back, so that where the text changes at the gap, all of them stay true.
+/// A gap buffer of items in the order of their offsets. The offsets of items before the gap count from the start of the text, and those of items
+/// after it count back from the end of the text. All of them stay valid if the text changes at the gap.
 #[derive(Clone, Debug)]
 pub(crate) struct Gap<T> {
     before: Vec<T>,
-    /// The last is nearest to the gap.
+    /// In reverse order: the last item is next to the gap.
     after: Vec<T>,
 }
 
@@ -38,22 +38,22 @@ impl<T> Default for Gap<T> {
 }
 
 impl<T: Placed> Gap<T> {
-    /// How many items there are.
+    /// Returns the number of items.
     pub(crate) fn len(&self) -> usize {
         self.before.len() + self.after.len()
     }
 
-    /// The items before the gap.
+    /// Returns the items before the gap.
     pub(crate) fn before(&self) -> &[T] {
         &self.before
     }
 
-    /// How many items are after the gap.
+    /// Returns the number of items after the gap.
     pub(crate) fn after_len(&self) -> usize {
         self.after.len()
     }
 
-    /// The item after so many, of a text of so many bytes.
+    /// Returns the item at an index. `text_len` is the length of the text in bytes.
     pub(crate) fn get(&self, index: usize, text_len: usize) -> Option<T> {
         match index.checked_sub(self.before.len()) {
             None => Some(self.before[index]),
@@ -64,41 +64,41 @@ impl<T: Placed> Gap<T> {
         }
     }
 
-    /// All of them, of a text of so many bytes.
+    /// Returns all items in order. `text_len` is the length of the text in bytes.
     pub(crate) fn iter(&self, text_len: usize) -> impl DoubleEndedIterator<Item = T> + Clone + '_ {
         let after = self.after.iter().rev();
         let after = after.map(move |item| mirrored(*item, text_len));
         self.before.iter().copied().chain(after)
     }
 
-    /// How many items pass, where those that do are before all others.
+    /// Returns the number of items that satisfy the predicate. They must precede all others.
     pub(crate) fn count_first(&self, text_len: usize, passes: impl Fn(T) -> bool) -> usize {
         let others = |item: &T| !passes(mirrored(*item, text_len));
         let after = self.after.len() - self.after.partition_point(others);
         self.before.partition_point(|item| passes(*item)) + after
     }
 
-    /// The item directly after the gap.
+    /// Returns the item directly after the gap.
     pub(crate) fn first_after(&self, text_len: usize) -> Option<T> {
         Some(mirrored(*self.after.last()?, text_len))
     }
 
-    /// Adds an item directly before the gap.
+    /// Appends an item directly before the gap.
     pub(crate) fn push(&mut self, item: T) {
         self.before.push(item);
     }
 
-    /// Leaves off the item directly after the gap.
+    /// Removes the item directly after the gap.
     pub(crate) fn drop_after(&mut self) {
         self.after.pop();
     }
 
-    /// Leaves off all but so many of the items before the gap.
+    /// Keeps the first `count` items before the gap and removes the others before it.
     pub(crate) fn truncate(&mut self, count: usize) {
         self.before.truncate(count);
     }
 
-    /// Moves the gap to where the items before it are those that pass. Those that do are before all others.
+    /// Moves the gap after the last item that satisfies the predicate. Those items must precede all others.
     pub(crate) fn move_to(&mut self, text_len: usize, passes: impl Fn(T) -> bool) {
         self.move_back(text_len, &passes);
         self.move_on(text_len, &passes);
@@ -119,7 +119,7 @@ impl<T: Placed> Gap<T> {
     }
 }
 
-/// An item with its place from the text's other end.
+/// Converts an item's offset between counting from the start and counting back from the end of the text.
 fn mirrored<T: Placed>(item: T, text_len: usize) -> T {
     item.placed(text_len - item.place())
 }

@@ -9,16 +9,17 @@ use alloc::vec::Vec;
 use core::fmt;
 use core::iter::FusedIterator;
 
-/// A lexer over a text: it cuts the text into tokens, white space and comments, and accounts for every byte of it.
+/// A lexer over a source text. It splits the text into tokens, whitespace and comments, so that every byte is part of one of them.
 #[derive(Clone)]
 pub struct Lexer<'a> {
     input: &'a str,
-    /// Over the same text, or over none where that is too long for it: `requires` of `proved::lexer::Lexer::new`.
+    /// The verified lexer over `input`. Its text is empty if `input` has more than `u32::MAX` bytes, a precondition of `proved::lexer::Lexer::new`.
     proved: proved::lexer::Lexer<'a>,
 }
 
 impl<'a> Lexer<'a> {
-    /// A lexer over a text, with both settings off. A text of more than `u32::MAX` bytes is refused by what reads of it.
+    /// Creates a lexer over a source text, with both settings off. If the text has more than `u32::MAX` bytes, the methods that read it return an
+    /// error or panic.
     #[must_use]
     pub fn new(input: &'a str) -> Lexer<'a> {
         let taken = if is_too_long(input.len()) { "" } else { input };
@@ -28,17 +29,17 @@ impl<'a> Lexer<'a> {
         }
     }
 
-    /// The text.
+    /// Returns the source text.
     #[must_use]
     pub fn input(&self) -> &'a str {
         self.input
     }
 
-    /// The proved lexer that this one is made of, over the same text and with the same settings.
+    /// Returns the underlying verified lexer, over the same text and with the same settings.
     ///
     /// # Errors
     ///
-    /// That the text has more than `u32::MAX` bytes.
+    /// Returns an error if the text has more than `u32::MAX` bytes.
     pub fn proved(&self) -> Result<&proved::lexer::Lexer<'a>, Error> {
         if is_too_long(self.input.len()) {
             return Err(too_long());
@@ -46,19 +47,20 @@ impl<'a> Lexer<'a> {
         Ok(&self.proved)
     }
 
-    /// Sets whether the nine characters that can make a text look other than it is may be in comments and strings.
+    /// Sets whether comments and strings may contain the nine characters that control text direction or shaping and so can make a text look different
+    /// from its bytes: U+202A, U+202B, U+202D, U+202E, U+2066 to U+2069, and U+206C.
     pub fn allow_confusing_unicode(&mut self, allow: bool) -> &mut Self {
         self.proved.allow_confusing_unicode(allow);
         self
     }
 
-    /// Sets whether an underscore directly after another is a fault inside `\u{..}`.
+    /// Sets whether two consecutive underscores inside `\u{..}` are a lexical error.
     pub fn strict_underscores(&mut self, strict: bool) -> &mut Self {
         self.proved.strict_underscores(strict);
         self
     }
 
-    /// The token at a byte of the text, and then the byte is that of the token's end; or None at the text's end.
+    /// Lexes the token at byte offset `pos` and advances `pos` to its end. Returns `None` at the end of the text.
     ///
     /// ```
     /// use wat_lex::{Lexer, TokenKind};
@@ -74,15 +76,16 @@ impl<'a> Lexer<'a> {
     ///
     /// # Errors
     ///
-    /// The error of the fault there, or that the text has more than `u32::MAX` bytes. The byte stays.
+    /// Returns the lexical error at `pos`, or an error if the text has more than `u32::MAX` bytes. `pos` is not changed then.
     ///
     /// # Panics
     ///
-    /// Where no character begins at the byte, and the text does not end there.
-    // A program with two loops would else call it, at more instructions for each token.
+    /// Panics if `pos` is not a char boundary of the text.
+    // Without `inline(always)` a program with two loops over tokens calls this function, which executes more instructions for each token.
     #[inline(always)]
     pub fn parse(&self, pos: &mut usize) -> Result<Option<Token>, Error> {
-        // `requires` of `proved::lexer::Lexer::scan`. A text that is too long has no other place than 0, and nothing there.
+        // Precondition of `proved::lexer::Lexer::scan`. For a text that is too long the verified text is empty, so only offset 0 passes, and no token
+        // is there.
         if self.proved.input().is_char_boundary(*pos) {
             if let Ok(Some(token)) = self.proved.scan(*pos) {
                 *pos += token.len as usize;
@@ -92,11 +95,12 @@ impl<'a> Lexer<'a> {
         self.ending(*pos).map(|()| None)
     }
 
-    /// The tokens from a byte of the text on, up to its end or its first fault. Of a text of more than `u32::MAX` bytes it gives that error.
+    /// Returns an iterator over the tokens from byte offset `pos` up to the end of the text or the first lexical error. If the text has more than
+    /// `u32::MAX` bytes, the iterator yields that error.
     ///
     /// # Panics
     ///
-    /// It does where no character begins at the byte, and the text does not end there.
+    /// The iterator panics if `pos` is not a char boundary of the text.
     pub fn iter(&self, pos: usize) -> Tokens<'_, 'a> {
         Tokens {
             lexer: Some(self),
@@ -104,7 +108,7 @@ impl<'a> Lexer<'a> {
         }
     }
 
-    /// Adds the tokens from a byte of the text on to a list, up to the text's end or its first fault.
+    /// Appends the tokens from byte offset `pos` to `tokens`, up to the end of the text or the first lexical error.
     ///
     /// ```
     /// use wat_lex::Lexer;
@@ -121,11 +125,11 @@ impl<'a> Lexer<'a> {
     ///
     /// # Errors
     ///
-    /// The error of the fault, or that the text has more than `u32::MAX` bytes. The tokens before the fault are in the list then.
+    /// Returns the lexical error, or an error if the text has more than `u32::MAX` bytes. The tokens before a lexical error are in `tokens` then.
     ///
     /// # Panics
     ///
-    /// As [`iter`](Lexer::iter).
+    /// Panics if `pos` is not a char boundary of the text.
     pub fn tokens_into(&self, pos: usize, tokens: &mut Vec<Token>) -> Result<(), Error> {
         for token in self.iter(pos) {
             tokens.push(token?);
@@ -133,9 +137,10 @@ impl<'a> Lexer<'a> {
         Ok(())
     }
 
-    /// The tokens from a byte of the text on up to its end, and what its faults cover, by the rule of [`Fault`].
+    /// Returns an iterator over the tokens from byte offset `pos` up to the end of the text, with error recovery: each lexical error covers the bytes
+    /// that the table of [`Fault`] gives, and lexing continues after them.
     ///
-    /// Up to the first fault they are the tokens of [`iter`](Lexer::iter).
+    /// Up to the first lexical error these are the tokens of [`iter`](Lexer::iter).
     ///
     /// ```
     /// use wat_lex::{Lexer, Piece};
@@ -149,16 +154,16 @@ impl<'a> Lexer<'a> {
     ///
     /// # Errors
     ///
-    /// That the text has more than `u32::MAX` bytes.
+    /// Returns an error if the text has more than `u32::MAX` bytes.
     ///
     /// # Panics
     ///
-    /// As [`parse`](Lexer::parse).
+    /// Panics if `pos` is not a char boundary of the text.
     pub fn pieces(&self, pos: usize) -> Result<Pieces<'a>, Error> {
         Ok(Pieces::new(self.proved_at(pos)?.clone(), pos))
     }
 
-    /// The fault at a byte of the text, with what it covers; None where a token begins there, or the text ends.
+    /// Returns the lexical error at byte offset `pos`, with the bytes that it covers. Returns `None` if a token begins there or the text ends.
     ///
     /// ```
     /// use wat_lex::Lexer;
@@ -170,14 +175,14 @@ impl<'a> Lexer<'a> {
     ///
     /// # Panics
     ///
-    /// As [`parse`](Lexer::parse), and where the text has more than `u32::MAX` bytes.
+    /// Panics if `pos` is not a char boundary of the text, or if the text has more than `u32::MAX` bytes.
     #[must_use]
     pub fn fault_at(&self, pos: usize) -> Option<Fault> {
         self.piece_at(pos)?.fault()
     }
 
-    /// Where tokens are read again after what is at a byte of the text: the end of the token there, or of what the fault there covers. It is past the
-    /// byte, but for the text's end.
+    /// Returns the byte offset at which lexing continues after `pos`: the end of the token there, or of the bytes that the lexical error there
+    /// covers. It is greater than `pos`, except at the end of the text.
     ///
     /// ```
     /// use wat_lex::Lexer;
@@ -190,7 +195,7 @@ impl<'a> Lexer<'a> {
     ///
     /// # Panics
     ///
-    /// As [`fault_at`](Lexer::fault_at).
+    /// Panics if `pos` is not a char boundary of the text, or if the text has more than `u32::MAX` bytes.
     #[must_use]
     pub fn resume(&self, pos: usize) -> usize {
         self.piece_at(pos).map_or(pos, |piece| piece.end())
@@ -203,7 +208,7 @@ impl<'a> Lexer<'a> {
         }
     }
 
-    /// The proved lexer, where a character begins at the byte or the text ends there: `requires` of its calls.
+    /// Returns the verified lexer, after checking that `pos` is a char boundary of the text: a precondition of its methods.
     fn proved_at(&self, pos: usize) -> Result<&proved::lexer::Lexer<'a>, Error> {
         let lexer = self.proved()?;
         assert!(
@@ -213,7 +218,7 @@ impl<'a> Lexer<'a> {
         Ok(lexer)
     }
 
-    /// What is answered where no token of this text begins.
+    /// Returns the error at an offset at which no token begins, or `Ok` at the end of the text.
     #[cold]
     #[inline(never)]
     fn ending(&self, mut pos: usize) -> Result<(), Error> {
@@ -221,11 +226,12 @@ impl<'a> Lexer<'a> {
         Ok(())
     }
 
-    /// The annotation's token at any byte, where the byte there is `@`; None where it is not, and where a token of another kind is there.
+    /// Lexes the annotation token at `pos`, which may be any offset. Returns `None` if the byte there is not `@`, or if a token of another kind
+    /// begins there.
     ///
     /// # Errors
     ///
-    /// Where the byte is `@`, the error of the fault there, or that the text has more than `u32::MAX` bytes.
+    /// If the byte is `@`, returns the lexical error there, or an error if the text has more than `u32::MAX` bytes.
     #[inline]
     pub fn annotation(&self, pos: usize) -> Result<Option<Token>, Error> {
         match self.input.as_bytes().get(pos) {
@@ -260,11 +266,11 @@ pub(crate) fn too_long() -> Error {
     Error::new(Span::from_offset(0), message)
 }
 
-/// The tokens from a place on. It ends for good after the first fault, or at the text's end.
+/// An iterator over the tokens of a text. It is fused: after the first error, or at the end of the text, it yields `None` forever.
 #[must_use = "tokens are read as they are asked for"]
 #[derive(Clone, Debug)]
 pub struct Tokens<'l, 'a> {
-    /// None after a fault.
+    /// The lexer, or `None` after an error.
     lexer: Option<&'l Lexer<'a>>,
     pos: usize,
 }

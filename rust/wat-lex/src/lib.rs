@@ -1,10 +1,10 @@
-//! The lexer of the WebAssembly text format, with the names of the lexer of the crate `wast`.
+//! A lexer for the WebAssembly text format. The public names are those of the lexer in the crate `wast`.
 //!
-//! A [`Lexer`] cuts a text into tokens and accounts for every byte of it, white space and comments included. A [`Token`] is read with its text:
-//! what a string, a name or a number reads as. An [`Error`] says what is wrong with a text, and prints the line.
+//! A [`Lexer`] splits a source text into tokens; every byte belongs to a token, whitespace and comments included. The methods of [`Token`] decode the
+//! value of a string, a name or a number from that text. An [`Error`] describes what is wrong in a text and prints the line.
 //!
-//! What they answer is proved: this crate is a thin layer over the module [`proved`], whose text is proved to meet its contracts. The layer is
-//! tested, and not proved; so is [`shim`], the part of the proved text's library.
+//! The results are verified: this crate is a thin layer over the module [`proved`], in which every function is proved to meet its contract. The layer
+//! itself, and the library code in [`shim`], are tested but not proved.
 //!
 //! ```
 //! use wat_lex::{Lexer, TokenKind};
@@ -32,9 +32,9 @@
 #![no_std]
 #![warn(missing_docs)]
 #![deny(unsafe_code)]
-// Of clippy's pedantic lints these are not followed. What a loop over tokens calls is to be a part of the loop, which was measured.
+// Two of Clippy's pedantic lints are disabled. First: functions called in a loop over tokens must be inlined into it; benchmarks show the gain.
 #![allow(clippy::inline_always)]
-// A text has at most `u32::MAX` bytes.
+// Second: a text has at most `u32::MAX` bytes.
 #![allow(clippy::cast_possible_truncation)]
 
 #[cfg(target_pointer_width = "16")]
@@ -47,8 +47,8 @@ extern crate std;
 mod document;
 mod error;
 mod gap;
-// Proofs name loops, contracts speak of parameters and fields that the code leaves alone, and each file imports the shim's names, of which it
-// may need none. Clippy's advice on style is for text that is written in Rust.
+// Proofs label loops, contracts mention parameters and fields that the code does not use, and every file imports all names of the shim. Clippy's
+// style lints are meant for hand-written Rust.
 #[allow(unused_imports, unused_labels, unused_variables)]
 #[allow(
     clippy::style,
@@ -64,7 +64,7 @@ mod lexer;
 mod lines;
 mod number;
 mod recover;
-// Names and signatures are those of Rattle's library, whose documentation has their errors; the blocks of bytes are numbers that are cut.
+// Names and signatures are those of Rattle's library, which documents their errors; blocks of bytes are integers that are truncated.
 #[allow(clippy::pedantic)]
 pub mod shim;
 mod token;
@@ -72,12 +72,12 @@ mod traits;
 
 pub use document::{Change, Document};
 pub use error::Error;
-/// The proved text, and its contracts.
+/// The verified code, with its contracts.
 ///
-/// It is made of a program in Rattle, which is Rust with contracts: what is for the prover is taken away, and the contract of each function is
-/// kept as a section *Proved* of its documentation. What it answers takes the allocator where it takes memory, and a refused request is a value.
+/// The code is generated from a program in Rattle, which is Rust with contracts. Ghost code is erased, and the contract of each function is kept in a
+/// section *Proved* of its documentation. A function that allocates takes the allocator as a parameter, and returns an error if an allocation fails.
 ///
-/// # How a contract is read
+/// # Reading a contract
 ///
 /// ```text
 /// requires { IsCharBoundary self.now.text pos }
@@ -85,16 +85,16 @@ pub use error::Error;
 /// ensures fault { IfErr result (FaultAt self.now pos) }
 /// ```
 ///
-/// A `requires` is what a call has to see to, here of [`Lexer::scan`](proved::lexer::Lexer::scan): a character of the text begins at `pos`, or
-/// the text ends there. Rust does not check it. Who calls without it gets any answer, or a panic, but nothing that is unsafe.
+/// A `requires` is a precondition, here of [`Lexer::scan`](proved::lexer::Lexer::scan): `pos` must be a char boundary of the text. Rust does not
+/// check it. A call that violates it may return an unrelated value or panic, but it is never undefined behavior.
 ///
-/// Each `ensures`, with its name, is what is proved of the answer. These two say: where the result is `Ok(Some(token))`, that token is the one
-/// that the grammar has at `pos`; and where it is an `Err`, that is the fault there. Of a `&`, `x.now` is what it refers to; of a `&mut`, `x.old`
-/// and `x.new` are that before and after the call; a name alone is a value. `≡` is equality, `→` is "then", `×` is "and", `⊎` is "or", and
-/// `λ t. ..` is a function of `t`.
+/// Each `ensures` is a named, proved postcondition. These two mean: if the result is `Ok(Some(token))`, then `token` is the token that the grammar
+/// has at `pos`; if the result is an `Err`, then it is the lexical error there. For a `&` reference, `x.now` is the referenced value. For a `&mut`,
+/// `x.old` and `x.new` are the values before and after the call. A bare name is a value. `≡` is equality, `→` is implication, `×` is "and", `⊎` is
+/// "or", and `λ t. ..` is a function of `t`.
 ///
-/// The words, as `TokenAt`, are defined in the folder `crates/wat_lex/specs` of the repository: the grammar in `grammar`, tokens in `tokens`,
-/// what they read as in `values`, what an error prints in `errors`.
+/// The terms, such as `TokenAt`, are defined in the folder `crates/wat_lex/specs` of the repository: the grammar in `grammar`, tokens in `tokens`,
+/// their values in `values`, printed errors in `errors`.
 #[doc(inline)]
 pub use generated::wat_lex as proved;
 pub use lexer::{Lexer, Tokens};
@@ -107,7 +107,7 @@ pub use proved::token::Span;
 pub use recover::{Fault, Piece, Pieces};
 pub use token::Token;
 
-/// The examples of the README, as tests.
+/// The examples of the README, run as doc tests.
 #[cfg(doctest)]
 #[doc = include_str!("../README.md")]
 struct Readme;

@@ -3,10 +3,11 @@ use crate::proved;
 use crate::shim::alloc::{Global, granted};
 use core::fmt;
 
-/// The lines of a text, for whoever asks for many places of it: each is found by a binary search, where [`Span::linecol_in`] reads the text up to
-/// the place. It takes eight bytes for each line. `wast` has no such type.
+/// An index of the line starts of a text, for converting many offsets. Each conversion is a binary search, while [`Span::linecol_in`] reads the text
+/// up to the offset. The index allocates 8 bytes per line, and 8 bytes per 64 KiB of the text if a line is longer than 64 KiB. `wast` has no such
+/// type.
 ///
-/// Lines and columns are from 0, and a line ends at a line feed. Past the text's end the line is the number of lines, and the column 0.
+/// Lines and columns count from 0, and a line ends at a line feed. Past the end of the text the line is the number of lines, and the column is 0.
 ///
 /// ```
 /// use wat_lex::{LineIndex, Span};
@@ -24,7 +25,7 @@ pub struct LineIndex<'a> {
 }
 
 impl<'a> LineIndex<'a> {
-    /// Finds the lines of a text.
+    /// Builds the index of a text.
     #[must_use]
     pub fn new(text: &'a str) -> LineIndex<'a> {
         LineIndex {
@@ -33,21 +34,21 @@ impl<'a> LineIndex<'a> {
         }
     }
 
-    /// Line and column of a place in the text, the column in bytes, as [`Span::linecol_in`] answers them.
+    /// Returns the line and the column of an offset, the column in bytes. The result equals that of [`Span::linecol_in`].
     #[must_use]
     pub fn linecol(&self, span: Span) -> (usize, usize) {
         self.proved.linecol(span)
     }
 
-    /// Line and column of a place in the text, the column in code units of UTF-16, as editors and the language server protocol have them: those of
-    /// the characters of the line that begin before the place. It reads the line up to the place.
+    /// Returns the line and the column of an offset, the column in UTF-16 code units, as in editors and the language server protocol. The column
+    /// counts the characters of the line that begin before the offset. Reads at most 128 KiB of the line.
     #[must_use]
     pub fn utf16_linecol(&self, span: Span) -> (usize, usize) {
         self.proved.utf16_linecol(span)
     }
 
-    /// Line and column of a place in the text, the column in characters, as the language server protocol has them with UTF-32: those of the line
-    /// that begin before the place. It reads the line up to the place.
+    /// Returns the line and the column of an offset, the column in characters, as in the language server protocol with UTF-32. The column counts the
+    /// characters of the line that begin before the offset. Reads the line up to the offset.
     #[must_use]
     pub fn char_linecol(&self, span: Span) -> (usize, usize) {
         let (line, column) = self.linecol(span);
@@ -55,7 +56,7 @@ impl<'a> LineIndex<'a> {
     }
 }
 
-/// How many characters begin in so many bytes before a place, which are none where the place is past the text's end.
+/// Returns the number of characters that begin in the `bytes` bytes before an offset, or 0 if the offset is past the end of the text.
 pub(crate) fn chars_before(text: &str, offset: usize, bytes: usize) -> usize {
     let before = text.as_bytes().get(offset - bytes..offset);
     let begins = |byte: &&u8| **byte & 0b1100_0000 != 0b1000_0000;

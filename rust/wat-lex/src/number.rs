@@ -1,30 +1,30 @@
 use crate::proved;
 use alloc::borrow::Cow;
 
-/// A floating-point number of a text, cut into its parts.
+/// The parts of a floating-point literal.
 #[derive(Clone, Debug, PartialEq, Eq, Hash)]
 pub enum Float<'a> {
-    /// `nan`, with the digits of its payload.
+    /// `nan`, with the digits of its payload, if it has any.
     Nan {
         /// The payload's hexadecimal digits after `nan:0x`, without underscores.
         val: Option<Cow<'a, str>>,
-        /// Whether it begins with `-`.
+        /// `true` if the literal begins with `-`.
         negative: bool,
     },
-    /// `inf`
+    /// The literal `inf`.
     Inf {
-        /// Whether it begins with `-`.
+        /// `true` if the literal begins with `-`.
         negative: bool,
     },
-    /// Digits before the dot, after it, and of the exponent, each without `+` and underscores.
+    /// A literal with digits. The parts have neither `+` nor underscores.
     Val {
-        /// Whether the digits are hexadecimal. Those of the exponent never are.
+        /// `true` if the digits are hexadecimal. The digits of the exponent are always decimal.
         hex: bool,
         /// The digits before the dot, without `0x`; a `-` is kept.
         integral: Cow<'a, str>,
-        /// The digits after the dot, None where there are none.
+        /// The digits after the dot, or `None` if there are none.
         fractional: Option<Cow<'a, str>>,
-        /// The digits of the exponent, None where there is none; a `-` is kept.
+        /// The digits of the exponent, or `None` if there is no exponent; a `-` is kept.
         exponent: Option<Cow<'a, str>>,
     },
 }

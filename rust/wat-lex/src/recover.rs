@@ -6,18 +6,18 @@ use core::fmt;
 use core::iter::FusedIterator;
 use core::ops::Range;
 
-/// A fault of a text, with the bytes that it covers: those that are passed over, so that tokens are read again after them.
+/// A lexical error with the bytes that it covers. Error recovery skips these bytes and continues lexing after them.
 ///
-/// | fault | covers |
+/// | error | covered bytes |
 /// |---|---|
-/// | a character with which no token begins | that character |
-/// | a block comment that nothing closes | its `(;` alone |
+/// | a character that begins no token | that character |
+/// | an unclosed block comment | its `(;` only |
 /// | a confusing character in a comment | the comment |
-/// | in a string | the run that the string is in, up to the string's end |
+/// | an error in a string | the run that contains the string, up to the string's end |
 ///
-/// The string's end is after the next quote in the line that no backslash escapes, else it is the end of the line, which is not covered. A
-/// backslash escapes a quote or a backslash directly after it. The rule is of this crate; neither the standard nor `wast` has one. Where it ends is
-/// what [`proved::lexer::Lexer::resume`](crate::proved::lexer::Lexer::resume) is proved to answer.
+/// The string's end is after the next quote in the line that is not escaped by a backslash. Without such a quote it is the end of the line, excluding
+/// the line feed. A backslash escapes a quote or a backslash directly after it. This rule is specific to this crate; neither the standard nor `wast`
+/// has error recovery. The end of the covered bytes is proved, at [`proved::lexer::Lexer::resume`](crate::proved::lexer::Lexer::resume).
 ///
 /// ```
 /// use wat_lex::{LexError, Lexer};
@@ -30,19 +30,19 @@ use core::ops::Range;
 /// ```
 #[derive(Clone, Copy, Debug, PartialEq, Eq, Hash)]
 pub struct Fault {
-    /// What is wrong.
+    /// Kind of the error.
     pub error: LexError,
-    /// Where what it covers begins, in bytes from the text's start. A token would begin there.
+    /// Byte offset of the first covered byte, at which a token would begin.
     pub offset: usize,
-    /// How many bytes it covers, one at least.
+    /// Number of covered bytes, at least 1.
     pub len: u32,
-    /// How many bytes of the text are between where it begins and where it is reported, no more than it covers.
+    /// Distance in bytes from `offset` to the offset at which the error is reported, at most `len`.
     reported: u32,
 }
 
 impl Fault {
-    /// The fault that the lexer has where no token begins.
-    // The lexer's text has at most `u32::MAX` bytes.
+    /// Creates the error that the lexer reports at an offset at which no token begins.
+    // The casts do not truncate: the lexer's text has at most `u32::MAX` bytes.
     fn new(lexer: &Lexer<'_>, offset: usize, fault: LexFault) -> Fault {
         Fault {
             error: fault.error,
@@ -52,7 +52,7 @@ impl Fault {
         }
     }
 
-    /// The fault of a block comment that begins at a byte, and that nothing closes.
+    /// Creates the error of an unclosed block comment at an offset.
     fn unclosed(offset: usize) -> Fault {
         Fault {
             error: LexError::DanglingBlockComment,
@@ -62,26 +62,26 @@ impl Fault {
         }
     }
 
-    /// Where it is reported: where the [`Error`](crate::Error) of the fault is. It is in what the fault covers, or at its end.
+    /// Returns the offset at which the error is reported: that of its [`Error`](crate::Error). It is inside the covered bytes, or at their end.
     #[must_use]
     pub fn span(&self) -> Span {
         Span::from_offset(self.offset + self.reported as usize)
     }
 
-    /// Where what it covers ends, in bytes from the text's start.
+    /// Returns the byte offset of the end of the covered bytes.
     #[must_use]
     pub fn end(&self) -> usize {
         self.offset + self.len as usize
     }
 
-    /// What it covers, in bytes from the text's start.
+    /// Returns the range of the covered bytes in the text.
     #[must_use]
     pub fn range(&self) -> Range<usize> {
         self.offset..self.end()
     }
 }
 
-/// The message of the fault.
+/// Writes the message of the error.
 impl fmt::Display for Fault {
     fn fmt(&self, f: &mut fmt::Formatter<'_>) -> fmt::Result {
         self.error.fmt(f)
@@ -94,17 +94,17 @@ impl core::error::Error for Fault {
     }
 }
 
-/// A part of a text: a token, or what a fault covers.
+/// A part of a text: a token, or the bytes that a lexical error covers.
 #[derive(Clone, Copy, Debug, PartialEq, Eq, Hash)]
 pub enum Piece {
-    /// A token, white space and comments among them.
+    /// A token; whitespace and comments are tokens too.
     Token(Token),
-    /// A fault, with what it covers.
+    /// A lexical error with the bytes that it covers.
     Fault(Fault),
 }
 
 impl Piece {
-    /// Where it begins, in bytes from the text's start.
+    /// Returns the byte offset of the piece.
     #[must_use]
     pub fn offset(&self) -> usize {
         match self {
@@ -113,7 +113,7 @@ impl Piece {
         }
     }
 
-    /// Where it ends, in bytes from the text's start.
+    /// Returns the byte offset of the piece's end.
     #[must_use]
     pub fn end(&self) -> usize {
         match self {
@@ -122,13 +122,13 @@ impl Piece {
         }
     }
 
-    /// Its bytes, from the text's start.
+    /// Returns the byte range of the piece in the text.
     #[must_use]
     pub fn range(&self) -> Range<usize> {
         self.offset()..self.end()
     }
 
-    /// The token, where it is one.
+    /// Returns the token, or `None` for a lexical error.
     #[must_use]
     pub fn token(self) -> Option<Token> {
         match self {
@@ -137,7 +137,7 @@ impl Piece {
         }
     }
 
-    /// The fault, where it is one.
+    /// Returns the lexical error, or `None` for a token.
     #[must_use]
     pub fn fault(self) -> Option<Fault> {
         match self {
@@ -146,7 +146,7 @@ impl Piece {
         }
     }
 
-    /// Whether it is the `(;` of a block comment that nothing closes.
+    /// Returns `true` if the piece is the `(;` of an unclosed block comment.
     pub(crate) fn is_unclosed(&self) -> bool {
         matches!(self, Piece::Fault(fault) if fault.error == LexError::DanglingBlockComment)
     }
@@ -165,28 +165,28 @@ impl Placed for Piece {
     }
 }
 
-/// The tokens of a text from a place on, up to its end, and its faults with what they cover. Each byte from the place on is in one of them.
+/// An iterator over the tokens of a text and its lexical errors, with error recovery. Each byte from the start offset on is part of one item.
 ///
-/// [`Lexer::pieces`](crate::Lexer::pieces) makes it.
+/// Created by [`Lexer::pieces`](crate::Lexer::pieces).
 #[must_use = "pieces are read as they are asked for"]
 #[derive(Clone)]
 pub struct Pieces<'a> {
     lexer: Lexer<'a>,
     pos: usize,
-    /// Where the block comments begin that nothing closes, from the first of them on that was met. The lexer would look for the end of each up
-    /// to the text's end.
+    /// Sorted offsets of the unclosed block comments, from the first that was found. They are collected once, as the lexer searches up to the end of
+    /// the text for the end of each.
     unclosed: Vec<usize>,
-    /// How many of these are before the next piece.
+    /// Number of these offsets that are before `pos`.
     passed: usize,
 }
 
 impl<'a> Pieces<'a> {
-    /// The pieces from a byte on at which a character begins or the text ends.
+    /// Creates an iterator from byte offset `pos`, which must be a char boundary of the text.
     pub(crate) fn new(lexer: Lexer<'a>, pos: usize) -> Pieces<'a> {
         Pieces::with_unclosed(lexer, pos, Vec::new())
     }
 
-    /// The pieces from a byte on, where these are the block comments that nothing closes from the first of them on.
+    /// Creates an iterator from byte offset `pos`. `unclosed` holds the offsets of the block comments that are unclosed, from the first one on.
     pub(crate) fn with_unclosed(lexer: Lexer<'a>, pos: usize, unclosed: Vec<usize>) -> Pieces<'a> {
         Pieces {
             lexer,
@@ -196,13 +196,13 @@ impl<'a> Pieces<'a> {
         }
     }
 
-    /// Where the next piece begins, or the text ends.
+    /// Returns the byte offset of the next piece, or of the end of the text.
     #[must_use]
     pub fn offset(&self) -> usize {
         self.pos
     }
 
-    /// Whether a block comment begins at the next piece of which it is known that nothing closes it.
+    /// Returns `true` if the next piece is a block comment that is known to be unclosed.
     fn is_unclosed(&mut self) -> bool {
         let is_passed = |at: &usize| *at < self.pos;
         while self.unclosed.get(self.passed).is_some_and(is_passed) {
@@ -246,7 +246,7 @@ impl fmt::Debug for Pieces<'_> {
     }
 }
 
-/// What is at a byte of a text at which a character begins, None where the text ends there.
+/// Returns the token or lexical error at a char boundary, or `None` at the end of the text.
 pub(crate) fn piece_at(lexer: &Lexer<'_>, pos: usize) -> Option<Piece> {
     match lexer.scan(pos) {
         Ok(token) => Some(Piece::Token(token?.into())),
@@ -254,9 +254,8 @@ pub(crate) fn piece_at(lexer: &Lexer<'_>, pos: usize) -> Option<Piece> {
     }
 }
 
-/// Where the block comments begin that nothing closes, of those that begin at a byte or after it. What the text is before each is left open: it
-/// may be in a string.
-// Which `;)` closes a `(;` depends on what is between them alone, so that it is the same from wherever a reader comes.
+/// Returns the offsets of the unclosed block comments among the `(;` at or after `from`. A `(;` inside a string or a line comment counts too.
+// Which `;)` closes a `(;` depends only on the bytes between them, so the result does not depend on how lexing reached `from`.
 pub(crate) fn unclosed_comments(text: &str, from: usize) -> Vec<usize> {
     let bytes = text.as_bytes();
     let (mut open, mut at) = (Vec::new(), from);

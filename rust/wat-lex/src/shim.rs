@@ -1,5 +1,5 @@
-//! The part of Rattle's library that the proved sources use, over Rust's own: collections that answer a refused request for memory as a
-//! value, and blocks of 16 bytes.
+//! The part of Rattle's library that the verified code uses, implemented with Rust's standard library: collections that return an error if an
+//! allocation fails, and blocks of 16 bytes.
 
 pub mod alloc;
 pub mod borrow;
@@ -7,7 +7,7 @@ pub mod boxed;
 pub mod collections;
 pub mod fast_float;
 mod macros;
-// The calls of the target's instructions. What a block has is named as in the library of Rattle and of Rust.
+// Calls of the target's SIMD instructions. The methods of a block have the names of Rattle's and of Rust's library.
 #[allow(missing_docs, unsafe_code)]
 pub mod simd;
 #[cfg(not(target_pointer_width = "16"))]
@@ -16,12 +16,12 @@ pub mod string;
 pub mod unicode_width;
 pub mod vec;
 
-/// The names that a Rattle source has without an import.
+/// The names that are in scope in a Rattle source without an import.
 pub mod prelude {
     pub use crate::shim::boxed::Box;
     pub use crate::shim::macros::{try_format, try_vec};
     pub use crate::shim::string::{JoinIn, String, ToStringIn};
     pub use crate::shim::vec::Vec;
-    // Before Rust 1.87 the type alone has no `from_utf8`.
+    // Before Rust 1.87, `from_utf8` is not a method of the primitive type, so the module is exported.
     pub use core::str;
 }

@@ -5,14 +5,14 @@ use crate::{Float, FloatKind, Integer, IntegerKind, TokenKind};
 use alloc::borrow::Cow;
 use core::ops::Range;
 
-/// A single token of a text.
+/// A token of a source text: its kind and its bytes.
 #[derive(Clone, Copy, Debug, PartialEq, Eq, Hash)]
 pub struct Token {
-    /// What kind of token this is.
+    /// Kind of the token.
     pub kind: TokenKind,
-    /// Where the token begins, in bytes from the text's start.
+    /// Byte offset of the token in the text.
     pub offset: usize,
-    /// How many bytes the token has.
+    /// Length in bytes.
     pub len: u32,
 }
 
@@ -25,7 +25,7 @@ impl From<proved::lexer::Token> for Token {
 }
 
 impl Token {
-    /// Where the token ends, in bytes from the text's start.
+    /// Returns the byte offset of the token's end.
     ///
     /// ```
     /// let token = wat_lex::Lexer::new("(func)").parse(&mut 1)?.unwrap();
@@ -38,51 +38,51 @@ impl Token {
         self.offset + self.len as usize
     }
 
-    /// The token's bytes, from the text's start.
+    /// Returns the byte range of the token in the text.
     #[must_use]
     #[inline]
     pub fn range(&self) -> Range<usize> {
         self.offset..self.end()
     }
 
-    /// The token's text in the text that it is of.
+    /// Returns the bytes of the token as a part of the text `s` that it was lexed from.
     ///
     /// # Panics
     ///
-    /// Where the text is too short for the token, or a character begins neither or not at its ends.
+    /// Panics if `s` is too short for the token, or if one of the token's ends is not a char boundary of `s`.
     #[must_use]
     #[inline]
     pub fn src<'a>(&self, s: &'a str) -> &'a str {
         &s[self.offset..][..self.len as usize]
     }
 
-    /// The text of a keyword.
+    /// Returns the lexeme of a keyword. `s` must be the text that the token was lexed from.
     ///
     /// # Panics
     ///
-    /// As [`src`](Token::src).
+    /// Panics if `s` is too short for the token, or if one of the token's ends is not a char boundary of `s`.
     #[must_use]
     #[inline]
     pub fn keyword<'a>(&self, s: &'a str) -> &'a str {
         self.src(s)
     }
 
-    /// The text of a reserved token.
+    /// Returns the lexeme of a reserved token. `s` must be the text that the token was lexed from.
     ///
     /// # Panics
     ///
-    /// As [`src`](Token::src).
+    /// Panics if `s` is too short for the token, or if one of the token's ends is not a char boundary of `s`.
     #[must_use]
     #[inline]
     pub fn reserved<'a>(&self, s: &'a str) -> &'a str {
         self.src(s)
     }
 
-    /// The value of a string, borrowed where it has no escape.
+    /// Returns the value of a string. It is borrowed if the string has no escape.
     ///
     /// # Panics
     ///
-    /// Where the token is no string. One of another text may panic, or read as something else.
+    /// Panics if the token is not a string. With a token from a different text it may panic or return an unrelated value.
     #[must_use]
     #[inline]
     pub fn string<'a>(&self, s: &'a str) -> Cow<'a, [u8]> {
@@ -90,41 +90,41 @@ impl Token {
         granted(token.string(Global, s)).into()
     }
 
-    /// The name of an identifier, borrowed where it has no escape.
+    /// Returns the name of an identifier, without its `$`. It is borrowed if the name has no escape.
     ///
     /// # Errors
     ///
-    /// Where the name is empty, or not UTF-8.
+    /// Returns an error if the name is empty or not UTF-8.
     ///
     /// # Panics
     ///
-    /// Where the token is no identifier. One of another text may panic, or read as something else.
+    /// Panics if the token is not an identifier. With a token from a different text it may panic or return an unrelated value.
     #[inline]
     pub fn id<'a>(&self, s: &'a str) -> Result<Cow<'a, str>, Error> {
         let name = self.readable(TokenKind::Id).id(Global, s)?;
         Ok(name.into())
     }
 
-    /// The name of an annotation, borrowed where it has no escape.
+    /// Returns the name of an annotation, without its `@`. It is borrowed if the name has no escape.
     ///
     /// # Errors
     ///
-    /// Where the name is empty, or not UTF-8.
+    /// Returns an error if the name is empty or not UTF-8.
     ///
     /// # Panics
     ///
-    /// Where the token is no annotation. One of another text may panic, or read as something else.
+    /// Panics if the token is not an annotation. With a token from a different text it may panic or return an unrelated value.
     #[inline]
     pub fn annotation<'a>(&self, s: &'a str) -> Result<Cow<'a, str>, Error> {
         let token = self.readable(TokenKind::Annotation);
         Ok(token.annotation(Global, s)?.into())
     }
 
-    /// What an integer token reads as.
+    /// Returns the sign and the digits of an integer.
     ///
     /// # Panics
     ///
-    /// Where the token is no integer of this kind. One of another text may panic, or read as something else.
+    /// Panics if the token is not an integer of this kind. With a token from a different text it may panic or return an unrelated value.
     #[must_use]
     #[inline]
     pub fn integer<'a>(&self, s: &'a str, kind: IntegerKind) -> Integer<'a> {
@@ -132,11 +132,11 @@ impl Token {
         granted(token.integer(Global, s, kind))
     }
 
-    /// What a floating-point token reads as.
+    /// Returns the parts of a floating-point number.
     ///
     /// # Panics
     ///
-    /// Where the token is no floating-point number of this kind. One of another text may panic, or read as something else.
+    /// Panics if the token is not a floating-point number of this kind. With a token from a different text it may panic or return an unrelated value.
     #[must_use]
     #[inline]
     pub fn float<'a>(&self, s: &'a str, kind: FloatKind) -> Float<'a> {
@@ -144,8 +144,8 @@ impl Token {
         granted(token.float(Global, s, kind)).into()
     }
 
-    /// The token for a proved reader, whose `requires` are met where the lexer found the token in the text. Nothing is read again to see that: a
-    /// token of another text reads as something else, or panics.
+    /// Checks the kind and converts the token for the verified accessors. Their preconditions hold if the lexer found the token in the text; they are
+    /// not checked again, so a token from a different text may panic or yield an unrelated value.
     #[inline]
     fn readable(&self, kind: TokenKind) -> proved::lexer::Token {
         if self.kind != kind {
@@ -162,7 +162,7 @@ fn refuse(kind: TokenKind) -> ! {
 }
 
 impl TokenKind {
-    /// The kind's name, without what it says of a number.
+    /// Returns the name of the kind. For numbers the name has neither sign nor radix.
     #[must_use]
     pub fn name(self) -> &'static str {
         match self {

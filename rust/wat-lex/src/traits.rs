@@ -1,4 +1,4 @@
-//! Traits of the proved types that callers' generic code asks for. The proved text makes no use of them.
+//! Implementations of `Eq`, `Hash` and `Default` for verified types, for generic code of users. The verified code does not use them.
 
 use crate::proved::lexer::Settings;
 use crate::{FloatKind, Integer, IntegerKind, LexError, SignToken, TokenKind};
@@ -76,7 +76,7 @@ impl Hash for LexError {
     }
 }
 
-/// Both off.
+/// Both settings are off.
 impl Default for Settings {
     fn default() -> Settings {
         Settings {

@@ -1,8 +1,8 @@
-//! Refused requests for memory, and the handle of the allocator.
+//! Allocation failures, and the handle of the allocator.
 use alloc::alloc::{Layout, handle_alloc_error};
 use core::fmt;
 
-/// A request for memory was refused.
+/// An allocation failure.
 #[derive(Clone, Copy, Debug, PartialEq, Eq)]
 pub struct AllocError;
 
@@ -14,17 +14,17 @@ impl fmt::Display for AllocError {
 
 impl core::error::Error for AllocError {}
 
-/// So that `?` works on `write!` to a text within an `fmt`.
+/// Lets `?` work on `write!` to a string inside an implementation of `fmt`.
 impl From<AllocError> for fmt::Error {
     fn from(_: AllocError) -> fmt::Error {
         fmt::Error
     }
 }
 
-/// A value that was not stored, as a request for memory was refused.
+/// A value that was not stored because an allocation failed.
 #[derive(Clone, Copy, Debug, PartialEq, Eq)]
 pub struct AllocFailed<T> {
-    /// What was to be stored.
+    /// The value.
     pub value: T,
 }
 
@@ -52,7 +52,7 @@ impl<T> From<AllocFailed<T>> for std::io::Error {
 #[derive(Clone, Copy, Debug, PartialEq, Eq)]
 pub struct Global;
 
-/// What was asked for. Where memory was refused, the program ends as it does by Rust's own collections.
+/// Returns the value, or aborts the program after an allocation failure as Rust's own collections do.
 pub fn granted<T>(asked: Result<T, AllocError>) -> T {
     asked.unwrap_or_else(|_| handle_alloc_error(Layout::new::<u8>()))
 }

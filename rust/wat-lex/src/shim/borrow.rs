@@ -1,4 +1,4 @@
-//! Texts and slices that are borrowed until they have to be owned.
+//! Strings and slices that are borrowed or owned.
 use crate::shim::alloc::{AllocError, Global};
 use crate::shim::string::String;
 use crate::shim::vec::Vec;
@@ -6,16 +6,16 @@ use alloc::borrow::Cow;
 use core::fmt;
 use core::ops::Deref;
 
-/// A text that is borrowed or owned.
+/// A string that is borrowed or owned.
 pub enum CowStr<'a> {
-    /// A text of another.
+    /// A borrowed string.
     Borrowed(&'a str),
-    /// A text of its own.
+    /// An owned string.
     Owned(String),
 }
 
 impl CowStr<'_> {
-    /// The text.
+    /// Returns the string.
     #[inline]
     pub fn as_str(&self) -> &str {
         match self {
@@ -24,7 +24,7 @@ impl CowStr<'_> {
         }
     }
 
-    /// The text as one of its own. It takes memory where it was borrowed.
+    /// Converts to an owned string. Allocates if the string is borrowed.
     pub fn into_owned(self, alloc: Global) -> Result<String, AllocError> {
         match self {
             CowStr::Borrowed(text) => String::from_str(alloc, text),
@@ -71,16 +71,16 @@ impl fmt::Display for CowStr<'_> {
     }
 }
 
-/// Items that are borrowed or owned.
+/// A slice of items that is borrowed or owned.
 pub enum CowSlice<'a, T> {
-    /// Items of another.
+    /// Borrowed items.
     Borrowed(&'a [T]),
-    /// Items of its own.
+    /// Owned items.
     Owned(Vec<T>),
 }
 
 impl<T> CowSlice<'_, T> {
-    /// The items.
+    /// Returns the items.
     #[inline]
     pub fn as_slice(&self) -> &[T] {
         match self {

@@ -3,12 +3,12 @@ use crate::shim::alloc::{AllocFailed, Global};
 use core::fmt;
 use core::ops::{Deref, DerefMut};
 
-/// A value in memory of its own.
-// Rust's `Box::new` can't answer a refusal. A vector can, and its block of one item is a box of an array of one.
+/// A value in a heap allocation.
+// Rust's stable `Box::new` cannot return an allocation failure. A vector can, and its block of one item is a boxed array of length 1.
 pub struct Box<T>(alloc::boxed::Box<[T; 1]>);
 
 impl<T> Box<T> {
-    /// A box of a value, which comes back where memory is refused.
+    /// Allocates a box for a value. If the allocation fails, the error contains the value.
     pub fn new(_: Global, value: T) -> Result<Box<T>, AllocFailed<T>> {
         let mut block = alloc::vec::Vec::new();
         if block.try_reserve_exact(1).is_err() {

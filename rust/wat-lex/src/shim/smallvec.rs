@@ -1,8 +1,8 @@
-//! Vectors whose first items are in themselves.
+//! Vectors that store their first items inline.
 use crate::shim::alloc::{AllocFailed, Global};
 use core::ops::Deref;
 
-/// A vector of which up to `N` items take no memory.
+/// A vector that stores up to `N` items without an allocation.
 #[derive(Debug)]
 pub struct SmallVec<T, const N: usize>(smallvec::SmallVec<[T; N]>)
 where
@@ -12,12 +12,12 @@ impl<T, const N: usize> SmallVec<T, N>
 where
     [T; N]: smallvec::Array<Item = T>,
 {
-    /// A vector of no items. It takes no memory.
+    /// Creates an empty vector, without an allocation.
     pub fn new(_: Global) -> SmallVec<T, N> {
         SmallVec(smallvec::SmallVec::new())
     }
 
-    /// Appends an item, which comes back where memory is refused.
+    /// Appends an item. If an allocation fails, the error contains the item.
     pub fn push(&mut self, item: T) -> Result<(), AllocFailed<T>> {
         if self.0.try_reserve(1).is_err() {
             return Err(AllocFailed { value: item });
@@ -26,7 +26,7 @@ where
         Ok(())
     }
 
-    /// The items.
+    /// Returns the items.
     pub fn as_slice(&self) -> &[T] {
         &self.0
     }

@@ -1,15 +1,15 @@
-//! Texts.
+//! Strings.
 use crate::shim::alloc::{AllocError, Global};
 use crate::shim::vec::Vec;
 use core::borrow::Borrow;
 use core::fmt;
 use core::ops::Deref;
 
-/// A text that answers a refused request for memory, and is then as it was.
+/// A string whose methods return an error if an allocation fails, and leave the string unchanged then.
 #[derive(PartialEq, Eq, PartialOrd, Ord, Hash)]
 pub struct String(alloc::string::String);
 
-/// Bytes that are no UTF-8.
+/// The error of bytes that are not UTF-8.
 #[derive(Debug, PartialEq, Eq)]
 pub struct FromUtf8Error {
     /// The bytes.
@@ -17,21 +17,21 @@ pub struct FromUtf8Error {
 }
 
 impl String {
-    /// An empty text. It takes no memory.
+    /// Creates an empty string, without an allocation.
     #[inline]
     pub const fn new(_: Global) -> String {
         String(alloc::string::String::new())
     }
 
-    /// An empty text with room for so many bytes.
+    /// Creates an empty string with a capacity of `count` bytes.
     pub fn with_capacity(alloc: Global, count: usize) -> Result<String, AllocError> {
         let mut new = String::new(alloc);
         new.0.try_reserve_exact(count).map_err(|_| AllocError)?;
         Ok(new)
     }
 
-    /// A copy of a text.
-    // Fallible, and of an allocator: so it is not the trait's function.
+    /// Copies a string.
+    // It is fallible and has the allocator as a parameter, so it is not the function of the trait `FromStr`.
     #[allow(clippy::should_implement_trait)]
     pub fn from_str(alloc: Global, text: &str) -> Result<String, AllocError> {
         let mut new = String::with_capacity(alloc, text.len())?;
@@ -39,7 +39,7 @@ impl String {
         Ok(new)
     }
 
-    /// The text that bytes are. It takes no memory.
+    /// Converts bytes to a string if they are UTF-8, without an allocation.
     pub fn from_utf8(bytes: Vec<u8>) -> Result<String, FromUtf8Error> {
         match alloc::string::String::from_utf8(bytes.into_inner()) {
             Ok(text) => Ok(String(text)),
@@ -49,13 +49,13 @@ impl String {
         }
     }
 
-    /// The bytes of the text. It takes no memory.
+    /// Converts the string to its bytes, without an allocation.
     pub fn into_bytes(self) -> Vec<u8> {
         self.0.into_bytes().into()
     }
 
-    /// A copy.
-    // Fallible, so it is not the trait's function.
+    /// Copies the string.
+    // It is fallible, so it is not the function of the trait `Clone`.
     #[allow(clippy::should_implement_trait)]
     pub fn clone(&self) -> Result<String, AllocError> {
         String::from_str(Global, self)
@@ -67,7 +67,7 @@ impl String {
         self.push_str(c.encode_utf8(&mut [0; 4]))
     }
 
-    /// Appends a text.
+    /// Appends a string.
     #[inline]
     pub fn push_str(&mut self, text: &str) -> Result<(), AllocError> {
         self.0.try_reserve(text.len()).map_err(|_| AllocError)?;
@@ -75,7 +75,7 @@ impl String {
         Ok(())
     }
 
-    /// Appends what is printed, by `write!`. Where that is refused, what was printed before the refusal stays.
+    /// Appends formatted output, for `write!`. If an allocation fails, the output before it stays in the string.
     pub fn write_fmt(&mut self, printed: fmt::Arguments<'_>) -> Result<(), AllocError> {
         fmt::Write::write_fmt(self, printed).map_err(|_| AllocError)
     }
@@ -86,7 +86,7 @@ impl String {
         self.0.clear();
     }
 
-    /// The text as one of `str`.
+    /// Returns the string as a `str`.
     #[inline]
     pub fn as_str(&self) -> &str {
         &self.0
@@ -138,9 +138,9 @@ impl fmt::Write for String {
     }
 }
 
-/// Texts that are joined into one.
+/// Strings that can be joined.
 pub trait JoinIn {
-    /// The texts with another one between each two.
+    /// Joins the strings with `between` as the separator.
     fn join_in(&self, alloc: Global, between: &str) -> Result<String, AllocError>;
 }
 
@@ -157,9 +157,9 @@ impl JoinIn for [&str] {
     }
 }
 
-/// What is printed, as a text.
+/// Values that can be formatted as a string.
 pub trait ToStringIn {
-    /// The text that is printed.
+    /// Formats the value as a string.
     fn to_string_in(&self, alloc: Global) -> Result<String, AllocError>;
 }
 

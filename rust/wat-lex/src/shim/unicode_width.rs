@@ -1,15 +1,15 @@
-//! Widths of texts in columns.
+//! Widths of strings in terminal columns.
 use crate::shim::alloc::Global;
 use crate::shim::string::String;
 pub use unicode_width::UnicodeWidthStr;
 
-/// How many bytes of a stretch are measured without memory.
+/// Size in bytes of the buffer on the stack.
 const ROOM: usize = 1024;
 
-/// The width of the characters that an iterator gives.
+/// Returns the width in terminal columns of a sequence of characters.
 ///
-/// The crate measures texts alone, so the characters are laid into one, a stretch at a time. A stretch that is longer than the room takes
-/// memory. Where that is refused it is measured in parts: then a sequence that lies over a part's end counts as its two halves.
+/// The crate `unicode_width` accepts only strings, so the characters are copied into one, a chunk at a time. A chunk that is longer than the buffer
+/// is moved to the heap. If that allocation fails, its parts are measured separately, and a sequence across their border counts as two.
 pub fn char_iter_width(chars: impl Iterator<Item = char>) -> usize {
     let mut stretch = Stretch::new();
     let mut width = 0usize;
@@ -22,12 +22,12 @@ pub fn char_iter_width(chars: impl Iterator<Item = char>) -> usize {
     width.wrapping_add(stretch.take_width())
 }
 
-/// Whether the character is in no sequence with what is before it. Digits are: one may begin an emoji.
+/// Returns `true` if the character never combines with the one before it. Digits may: a digit can begin an emoji.
 fn begins_stretch(c: char) -> bool {
     matches!(c, ' ' | 'A'..='Z' | 'a'..='z')
 }
 
-/// Characters that are measured as one text: those that left the room, and those in it.
+/// A chunk of characters: `long` has those that were moved to the heap, followed by those in the buffer.
 struct Stretch {
     long: String,
     room: [u8; ROOM],
@@ -47,7 +47,7 @@ impl Stretch {
         core::str::from_utf8(&self.room[..self.len]).unwrap_or_default()
     }
 
-    /// Appends a character, and answers the width of what had to be measured before it.
+    /// Appends a character, and returns the width of any characters that had to be measured first.
     fn push(&mut self, c: char) -> usize {
         let mut measured = 0;
         if ROOM - self.len < c.len_utf8() {
@@ -57,7 +57,7 @@ impl Stretch {
         measured
     }
 
-    /// Moves what is in the room into memory; where that is refused, it is measured as it is.
+    /// Moves the buffer to the heap. If the allocation fails, measures the chunk instead and returns its width.
     fn make_room(&mut self) -> usize {
         let mut long = core::mem::replace(&mut self.long, String::new(Global));
         if long.push_str(self.in_room()).is_err() {
@@ -69,7 +69,7 @@ impl Stretch {
         0
     }
 
-    /// The width of the characters, which are none afterwards.
+    /// Returns the width of the chunk and clears it.
     fn take_width(&mut self) -> usize {
         let mut long = core::mem::replace(&mut self.long, String::new(Global));
         let in_room = self.in_room();

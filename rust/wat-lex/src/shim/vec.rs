@@ -3,18 +3,18 @@ use crate::shim::alloc::{AllocError, AllocFailed, Global};
 use core::fmt;
 use core::ops::{Deref, DerefMut};
 
-/// A vector that answers a refused request for memory, and is then as it was.
+/// A vector whose methods return an error if an allocation fails, and leave the vector unchanged then.
 #[derive(PartialEq, Eq, PartialOrd, Ord, Hash)]
 pub struct Vec<T>(alloc::vec::Vec<T>);
 
 impl<T> Vec<T> {
-    /// A vector of no items. It takes no memory.
+    /// Creates an empty vector, without an allocation.
     #[inline]
     pub const fn new(_: Global) -> Vec<T> {
         Vec(alloc::vec::Vec::new())
     }
 
-    /// A vector of no items with room for so many.
+    /// Creates an empty vector with a capacity of `count` items.
     #[inline]
     pub fn with_capacity(alloc: Global, count: usize) -> Result<Vec<T>, AllocError> {
         let mut new = Vec::new(alloc);
@@ -22,7 +22,7 @@ impl<T> Vec<T> {
         Ok(new)
     }
 
-    /// `count` copies of an item: `vec![in alloc; item; count]`.
+    /// Creates a vector of `count` copies of an item, for `vec![in alloc; item; count]`.
     pub fn from_elem(alloc: Global, item: T, count: usize) -> Result<Vec<T>, AllocError>
     where
         T: Clone,
@@ -32,7 +32,7 @@ impl<T> Vec<T> {
         Ok(new)
     }
 
-    /// Appends an item, which comes back where memory is refused.
+    /// Appends an item. If an allocation fails, the error contains the item.
     #[inline]
     pub fn push(&mut self, item: T) -> Result<(), AllocFailed<T>> {
         if self.0.len() == self.0.capacity() && self.reserve(1).is_err() {
@@ -42,7 +42,7 @@ impl<T> Vec<T> {
         Ok(())
     }
 
-    /// Makes room for so many items more.
+    /// Reserves capacity for `more` additional items.
     #[inline]
     pub fn reserve(&mut self, more: usize) -> Result<(), AllocError> {
         self.0.try_reserve(more).map_err(|_| AllocError)
@@ -59,7 +59,7 @@ impl<T> Vec<T> {
         Ok(())
     }
 
-    /// Inserts an item at a place, which is at most the length.
+    /// Inserts an item at an index, which must be at most the length.
     pub(crate) fn insert(&mut self, place: usize, item: T) -> Result<(), AllocFailed<T>> {
         if self.reserve(1).is_err() {
             return Err(AllocFailed { value: item });
@@ -72,31 +72,31 @@ impl<T> Vec<T> {
         self.0.remove(place)
     }
 
-    /// Gives back the memory that no item takes.
+    /// Frees unused capacity.
     #[inline]
     pub fn shrink_to_fit(&mut self) {
         self.0.shrink_to_fit();
     }
 
-    /// Takes the last item.
+    /// Removes the last item and returns it.
     #[inline]
     pub fn pop(&mut self) -> Option<T> {
         self.0.pop()
     }
 
-    /// Keeps so many of the first items.
+    /// Keeps the first `count` items and removes the others.
     #[inline]
     pub fn truncate(&mut self, count: usize) {
         self.0.truncate(count);
     }
 
-    /// Keeps none of the items.
+    /// Removes all items.
     #[inline]
     pub fn clear(&mut self) {
         self.0.clear();
     }
 
-    /// The items.
+    /// Returns the items.
     #[inline]
     pub fn as_slice(&self) -> &[T] {
         &self.0
