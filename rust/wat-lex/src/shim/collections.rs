@@ -5,21 +5,22 @@ use crate::shim::vec::Vec;
 use core::borrow::Borrow;
 use core::ops::Range;
 
-/// A key of a map, most of which two numbers distinguish.
+/// A key of a map. An integer of 8 of its bytes, a lead, distinguishes most keys without comparing them in full.
 pub trait Key: Ord {
-    /// How many bytes two keys have in common at their beginning.
+    /// Returns the length in bytes of the longest common prefix of two keys.
     fn shared(&self, other: &Self) -> usize;
 
-    /// Whether two keys have so many bytes in common at their beginning.
+    /// Returns `true` if two keys have a common prefix of `count` bytes.
     fn agrees(&self, other: &Self, count: usize) -> bool;
 
-    /// The first eight bytes, the first of them the highest, with zeros after the key's end. The lesser of two keys has no greater number.
+    /// Returns the first 8 bytes as a big-endian integer, padded with zeros after the key's end. If `a <= b`, then `a.head() <= b.head()`.
     fn head(&self) -> u64;
 
-    /// The eight bytes after so many, of a key with this head. Of two keys that agree on those before, the lesser has no greater number.
+    /// Returns the 8 bytes after the first `skip` as a big-endian integer. `head` must be the key's head. If `a <= b` and both agree on the first
+    /// `skip` bytes, then the lead of `a` is at most that of `b`.
     fn lead(&self, head: u64, skip: usize) -> u64;
 
-    /// Whether two keys are the same that agree on so many bytes and on the eight after these.
+    /// Returns `true` if two keys are equal. They must agree on the first `skip` bytes and on the 8 bytes after these.
     fn is(&self, other: &Self, skip: usize) -> bool;
 }
 
@@ -66,7 +67,7 @@ impl Key for [u8] {
     }
 }
 
-/// Keys that are ordered by their bytes.
+/// Implements `Key` for types that are ordered by their bytes.
 macro_rules! by_bytes {
     ($($key:ty: $bytes:ident)*) => {$(
         impl Key for $key {
@@ -121,14 +122,14 @@ impl Key for u64 {
     }
 }
 
-/// Numbers that are searched instead of keys, which are in their order.
+/// The leads of sorted keys, which are searched before the keys.
 #[derive(Debug)]
 struct Leads {
-    /// How many bytes all keys have in common at their beginning.
+    /// Length in bytes of the common prefix of all keys.
     skip: usize,
-    /// The first eight bytes of one of the keys.
+    /// Head of one of the keys.
     head: u64,
-    /// What comes after the bytes that they have in common, of each key.
+    /// The lead of each key, after the common prefix.
     numbers: Vec<u64>,
 }
 
@@ -141,7 +142,8 @@ impl Leads {
         }
     }
 
-    /// The number of a key with this head; or, where it does not begin as all keys do, its place before or after them, by the first of them.
+    /// Returns the lead of a key with this head. If the key does not have the common prefix, returns its index before or after all keys, by comparing
+    /// it with the first key.
     #[inline(always)]
     fn lead<'k, Q: Key + ?Sized + 'k>(
         &self,
@@ -149,7 +151,7 @@ impl Leads {
         head: u64,
         first: impl Fn() -> &'k Q,
     ) -> Result<u64, usize> {
-        // Zeros after the key's end may count as bytes of it: all keys are after it, and none has a lesser number.
+        // Padding of a short key may match bytes of the prefix. All keys are then after the short key, and none has a smaller lead.
         let same = (self.head ^ head).leading_zeros() as usize / 8;
         if same >= self.skip || same == 8 && first().agrees(key, self.skip) {
             return Ok(key.lead(head, self.skip));
@@ -157,7 +159,7 @@ impl Leads {
         Err(if key < first() { 0 } else { self.numbers.len() })
     }
 
-    /// Notes keys, which have so many bytes in common at their beginning.
+    /// Records the leads of all keys. `skip` must be the length of their common prefix.
     fn note<'k, K: Key + 'k>(&mut self, skip: usize, keys: impl Iterator<Item = &'k K>) {
         self.skip = skip;
         for (key, number) in keys.zip(self.numbers.iter_mut()) {
@@ -167,17 +169,17 @@ impl Leads {
     }
 }
 
-/// How many pairs are looked through one after the other.
+/// The maximum number of pairs that are searched linearly, without leads.
 const FEW: usize = 8;
 
-/// How many pairs a part has at most.
+/// The maximum number of pairs of a part.
 const MOST: usize = 512;
 
-/// Pairs in the order of their keys.
+/// A run of pairs that are sorted by key.
 #[derive(Debug)]
 struct Part<K, V> {
     pairs: Vec<(K, V)>,
-    /// Of the keys; of none where there are few.
+    /// Leads of the keys, which are empty if there are at most `FEW` pairs.
     leads: Leads,
 }
 
@@ -196,14 +198,14 @@ impl<K: Key, V> Part<K, V> {
         self.pairs[0].0.borrow()
     }
 
-    /// The place of a key with this head, or where it would be.
+    /// Returns the index of a key with this head, or the index at which to insert it.
     #[inline(always)]
     fn place<Q: Key + ?Sized>(&self, key: &Q, head: u64) -> Result<usize, usize>
     where
         K: Borrow<Q>,
     {
         if self.leads.numbers.is_empty() {
-            // Texts of other lengths differ at once.
+            // Equality rejects strings of other lengths at once.
             let found = self.pairs.iter().position(|(k, _)| k.borrow() == key);
             return found.map_or_else(|| self.search(key, 0..self.pairs.len()), Ok);
         }
@@ -221,7 +223,7 @@ impl<K: Key, V> Part<K, V> {
         }
     }
 
-    /// The place of a key, or where it would be, among these places.
+    /// Returns the index of a key, or the index at which to insert it, by a binary search in a range of indices.
     #[inline(never)]
     fn search<Q: Key + ?Sized>(&self, key: &Q, places: Range<usize>) -> Result<usize, usize>
     where
@@ -232,7 +234,7 @@ impl<K: Key, V> Part<K, V> {
         found.map_or_else(|place| Err(begin + place), |place| Ok(begin + place))
     }
 
-    /// Puts a pair at the place where it would be.
+    /// Inserts a pair at an index.
     fn insert(&mut self, place: usize, key: K, value: V) -> Result<(), AllocError> {
         self.pairs.reserve(1)?;
         let Leads { skip, numbers, .. } = &mut self.leads;
@@ -249,7 +251,7 @@ impl<K: Key, V> Part<K, V> {
         Ok(())
     }
 
-    /// Whether the keys have the bytes in common that are noted.
+    /// Returns `true` if the keys have the recorded common prefix.
     fn agrees(&self) -> bool {
         match self.pairs.as_slice() {
             [(first, _), .., (last, _)] => first.agrees(last, self.leads.skip),
@@ -257,7 +259,7 @@ impl<K: Key, V> Part<K, V> {
         }
     }
 
-    /// Notes the keys.
+    /// Records the leads of the keys.
     fn note(&mut self) {
         if let [(first, _), .., (last, _)] = self.pairs.as_slice() {
             let keys = self.pairs.iter().map(|(key, _)| key);
@@ -265,7 +267,7 @@ impl<K: Key, V> Part<K, V> {
         }
     }
 
-    /// Takes all but so many of the first pairs away.
+    /// Keeps the first `kept` pairs and moves the others to a new part.
     fn split(&mut self, kept: usize) -> Result<Part<K, V>, AllocError> {
         let mut after = Part {
             pairs: Vec::with_capacity(Global, MOST)?,
@@ -292,20 +294,20 @@ impl<K: Key, V> Part<K, V> {
     }
 }
 
-/// A map by the order of its keys, which answers a refused request for memory, and is then as it was.
-// Rust's map can't answer a refusal. Its pairs are in sorted parts here, one after the other: to insert or to remove a pair moves those after it in
-// its part.
+/// A map that is sorted by key. Its methods return an error if an allocation fails, and leave the map unchanged then.
+// Rust's `BTreeMap` cannot return an allocation failure. Here the pairs are in a sequence of sorted parts; inserting or removing a pair moves those
+// after it in its part.
 #[derive(Debug)]
 pub struct BTreeMap<K, V> {
     first: Part<K, V>,
-    /// What comes after them, in parts that are not empty.
+    /// The parts after `first`, each non-empty.
     more: Vec<Part<K, V>>,
-    /// Of the first keys of these.
+    /// Leads of the first keys of `more`.
     firsts: Leads,
 }
 
 impl<K: Key, V> BTreeMap<K, V> {
-    /// A map of no pairs. It takes no memory.
+    /// Creates an empty map, without an allocation.
     pub const fn new(alloc: Global) -> BTreeMap<K, V> {
         BTreeMap {
             first: Part::new(alloc),
@@ -314,23 +316,23 @@ impl<K: Key, V> BTreeMap<K, V> {
         }
     }
 
-    /// How many pairs there are.
+    /// Returns the number of pairs.
     pub fn len(&self) -> usize {
         self.first.pairs.len() + self.more.iter().map(|part| part.pairs.len()).sum::<usize>()
     }
 
-    /// Whether there are none.
+    /// Returns `true` if the map is empty.
     pub fn is_empty(&self) -> bool {
         self.first.pairs.is_empty() && self.more.is_empty()
     }
 
-    /// The keys, in order.
+    /// Returns an iterator over the keys in ascending order.
     pub fn keys(&self) -> impl Iterator<Item = &K> {
         let more = self.more.iter().flat_map(|part| part.pairs.iter());
         self.first.pairs.iter().chain(more).map(|(key, _)| key)
     }
 
-    /// The part that so many of `more` end with; the first where there are none.
+    /// Returns the last of the first `begun` parts of `more`, or `first` if `begun` is 0.
     #[inline]
     fn part(&self, begun: usize) -> &Part<K, V> {
         self.more.get(begun.wrapping_sub(1)).unwrap_or(&self.first)
@@ -341,7 +343,8 @@ impl<K: Key, V> BTreeMap<K, V> {
         part.unwrap_or(&mut self.first)
     }
 
-    /// How many parts of `more` begin with a key or one before it. The last of them may begin with one after it, of the same number.
+    /// Returns the number of parts of `more` whose first key is at most `key`. The count may be too high by one if that part's first key has the same
+    /// lead as `key`.
     #[inline(always)]
     fn begun<Q: Key + ?Sized>(&self, key: &Q, head: u64) -> usize
     where
@@ -363,7 +366,7 @@ impl<K: Key, V> BTreeMap<K, V> {
         }
     }
 
-    /// How many parts of `more` begin with a key or one before it, where some begin with its number.
+    /// Returns the number of parts of `more` whose first key is at most `key`, if some first keys have the same lead as `key`.
     #[cold]
     fn begun_among<Q: Key + ?Sized>(&self, key: &Q, lead: u64) -> usize
     where
@@ -378,7 +381,7 @@ impl<K: Key, V> BTreeMap<K, V> {
         begin + same.partition_point(|part| part.first() <= key)
     }
 
-    /// How many parts of `more` begin with a key or one before it, and the key's place in the last of them, or where it would be.
+    /// Returns the number of parts of `more` to pass to `part` for a key, and the key's index in that part, or the index at which to insert it.
     #[inline(always)]
     fn find<Q: Key + ?Sized>(&self, key: &Q) -> (usize, Result<usize, usize>)
     where
@@ -392,7 +395,7 @@ impl<K: Key, V> BTreeMap<K, V> {
         }
     }
 
-    /// What is found of a key that is not in a part. Where that begins with a key after it, it can be in the one before.
+    /// Returns the position of a key that is not in a part. If the part's first key is greater than `key`, the key may be in the part before it.
     fn miss<Q: Key + ?Sized>(
         &self,
         key: &Q,
@@ -408,7 +411,7 @@ impl<K: Key, V> BTreeMap<K, V> {
         (begun - 1, self.part(begun - 1).place(key, key.head()))
     }
 
-    /// The value of a key.
+    /// Returns the value of a key.
     pub fn get<Q: Key + ?Sized>(&self, key: &Q) -> Option<&V>
     where
         K: Borrow<Q>,
@@ -417,7 +420,7 @@ impl<K: Key, V> BTreeMap<K, V> {
         Some(&self.part(begun).pairs[found.ok()?].1)
     }
 
-    /// The value of a key, to be changed.
+    /// Returns a mutable reference to the value of a key.
     pub fn get_mut<Q: Key + ?Sized>(&mut self, key: &Q) -> Option<&mut V>
     where
         K: Borrow<Q>,
@@ -426,7 +429,7 @@ impl<K: Key, V> BTreeMap<K, V> {
         Some(&mut self.part_mut(begun).pairs[found.ok()?].1)
     }
 
-    /// Gives a key a value, and answers the one that it had.
+    /// Sets the value of a key and returns the previous value.
     pub fn insert(&mut self, key: K, value: V) -> Result<Option<V>, AllocError> {
         let (begun, found) = self.find(&key);
         let part = self.part_mut(begun);
@@ -436,8 +439,8 @@ impl<K: Key, V> BTreeMap<K, V> {
                 part.insert(place, key, value)?;
                 Ok(None)
             }
-            // Where keys come in order, those before this one stay, and are more than half of what the part has room for.
-            // Keys that come in order leave parts that are three quarters full.
+            // If keys are inserted in ascending order, the pairs before this one are more than half of the part's capacity, and are kept. Such
+            // insertions leave parts that are three quarters full.
             Err(place) => {
                 self.split(begun, place.clamp(MOST / 4, MOST - MOST / 4))?;
                 self.insert(key, value)
@@ -445,7 +448,7 @@ impl<K: Key, V> BTreeMap<K, V> {
         }
     }
 
-    /// Moves all but so many of a full part's first pairs into a part of their own.
+    /// Keeps the first `kept` pairs of a full part and moves the others to a new part after it.
     fn split(&mut self, begun: usize, kept: usize) -> Result<(), AllocError> {
         self.more.reserve(1)?;
         self.firsts.numbers.reserve(1)?;
@@ -456,7 +459,7 @@ impl<K: Key, V> BTreeMap<K, V> {
         Ok(())
     }
 
-    /// Notes the first key of a part of `more`.
+    /// Records the lead of the first key of a part of `more`.
     fn note(&mut self, place: usize) {
         let skip = match self.more.as_slice() {
             [first, .., last] => first.first::<K>().shared(last.first()),
@@ -471,7 +474,7 @@ impl<K: Key, V> BTreeMap<K, V> {
         }
     }
 
-    /// Takes a key away, and answers the value that it had.
+    /// Removes a key and returns its value.
     pub fn remove<Q: Key + ?Sized>(&mut self, key: &Q) -> Option<V>
     where
         K: Borrow<Q>,

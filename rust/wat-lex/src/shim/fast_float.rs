@@ -1,11 +1,12 @@
-//! Decimal numerals, as floats: what the library of Rattle has from the crate `fast_float`.
+//! Conversion of decimal numerals to floats: the part of the crate `fast_float` that Rattle's library has.
 use core::ops::{Neg, Range};
 use core::str::{self, FromStr};
 
-/// How many digits decide how a number rounds: none of 64 bits is halfway between two with more than 767.
+/// Number of digits that decide the rounding: no 64-bit float is halfway between two decimal numerals with more than 767 significant digits.
 const DECISIVE: usize = 800;
 
-/// The longest numeral that a text begins with: digits, a point with digits or without, an exponent. It may have no digit.
+/// The longest prefix of a text that is a decimal numeral: digits, an optional dot with optional digits, and an optional exponent. It may have no
+/// digit.
 #[derive(Clone, Copy, Debug)]
 pub struct Numeral<'a> {
     text: &'a [u8],
@@ -15,7 +16,7 @@ pub struct Numeral<'a> {
 }
 
 impl<'a> Numeral<'a> {
-    /// The numeral that these bytes begin with.
+    /// Scans the numeral at the start of `bytes`.
     #[inline]
     pub fn scan(bytes: &'a [u8]) -> Numeral<'a> {
         let whole = digits_end(bytes, 0);
@@ -31,7 +32,7 @@ impl<'a> Numeral<'a> {
         }
     }
 
-    /// The nearest number of the type, of two equally near the even one. 0 where there is no digit.
+    /// Returns the nearest float of the type, with ties to even. Returns 0 if the numeral has no digit.
     #[inline]
     pub fn to_float<F: FromStr + Neg<Output = F> + From<u8>>(&self, negative: bool) -> F {
         let magnitude: F = self.magnitude();
@@ -40,7 +41,7 @@ impl<'a> Numeral<'a> {
 
     #[inline]
     fn magnitude<F: FromStr + From<u8>>(&self) -> F {
-        // Rust's library reads an exponent of up to four digits as it is, and cuts longer ones.
+        // Rust's library parses an exponent of up to 4 digits exactly, and truncates longer ones.
         if self.exponent.is_some_and(|from| self.text.len() - from > 4) {
             return self.with_long_exponent();
         }
@@ -54,7 +55,7 @@ impl<'a> Numeral<'a> {
         let Some(zeros) = digits().position(|digit| digit != b'0') else {
             return F::from(0);
         };
-        // The number is 0.DIGITS times ten to this.
+        // The value is 0.DIGITS times 10 to this power.
         let power = self.power() + whole.len() as i128 - zeros as i128;
         let mut scaled = Scaled::new(power.clamp(-999, 999) as i16);
         for digit in digits().skip(zeros) {
@@ -67,7 +68,7 @@ impl<'a> Numeral<'a> {
         self.text[range.clone()].iter().copied()
     }
 
-    /// The exponent, or one that is as far away for any text.
+    /// Returns the exponent, clamped to a value that rounds to the same float for every possible text.
     fn power(&self) -> i128 {
         let written = self.exponent.map_or(&[][..], |from| &self.text[from..]);
         let (negative, digits) = match written {
@@ -83,7 +84,7 @@ impl<'a> Numeral<'a> {
     }
 }
 
-/// A numeral `e POWER`, whose digits are put before it: `0.DIGITSePOWER`.
+/// A buffer for a numeral `0.DIGITSePOWER`, whose exponent is added last.
 struct Scaled {
     bytes: [u8; DECISIVE + 8],
     len: usize,
@@ -101,7 +102,7 @@ impl Scaled {
         }
     }
 
-    /// Puts a digit after the others. Of those beyond the decisive ones it is enough that one is not 0.
+    /// Appends a digit. Of the digits after `DECISIVE` it suffices to know if one is not 0.
     fn push(&mut self, digit: u8) {
         if self.len <= DECISIVE {
             self.bytes[self.len] = digit;
@@ -121,14 +122,14 @@ impl Scaled {
     }
 }
 
-/// What Rust's library makes of a numeral: the nearest number of the type.
+/// Parses a numeral with Rust's library, which returns the nearest float of the type.
 #[inline]
 fn parsed<F: FromStr + From<u8>>(text: &[u8]) -> F {
     let number = str::from_utf8(text).ok().and_then(|text| text.parse().ok());
     number.unwrap_or_else(|| F::from(0))
 }
 
-/// Where the digits that begin there end.
+/// Returns the end offset of the digits at `from`.
 #[inline]
 fn digits_end(bytes: &[u8], from: usize) -> usize {
     let digits = bytes[from..]
@@ -137,7 +138,7 @@ fn digits_end(bytes: &[u8], from: usize) -> usize {
     from + digits.count()
 }
 
-/// Where an exponent whose letter is there ends, if it has a digit.
+/// Returns the end offset of the exponent whose letter is at `letter`, if it has a digit.
 #[inline]
 fn exponent_end(bytes: &[u8], letter: usize) -> Option<usize> {
     let (b'e' | b'E') = bytes.get(letter)? else {

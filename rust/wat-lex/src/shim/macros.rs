@@ -1,8 +1,8 @@
-//! The macros that take memory of an allocator.
+//! Macros that allocate with an explicit allocator.
 
 #[macro_export]
 #[doc(hidden)]
-/// `format!(in alloc; ..)` of Rattle.
+/// Formats a string, as `format!(in alloc; ..)` in Rattle.
 macro_rules! try_format {
     ($alloc:expr; $($rest:tt)*) => {{
         let mut text = $crate::shim::string::String::new($alloc);
@@ -15,7 +15,7 @@ macro_rules! try_format {
 
 #[macro_export]
 #[doc(hidden)]
-/// `vec![in alloc; item; count]` of Rattle.
+/// Creates a vector of `count` copies of an item, as `vec![in alloc; item; count]` in Rattle.
 macro_rules! try_vec {
     [$alloc:expr; $item:expr; $count:expr] => {
         $crate::shim::vec::Vec::from_elem($alloc, $item, $count)

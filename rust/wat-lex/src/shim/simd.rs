@@ -1,9 +1,9 @@
-//! Blocks of 16 bytes: by the vectors of x86-64, AArch64 or WebAssembly where the target has them, else in plain Rust.
+//! Blocks of 16 bytes, implemented with the vectors of x86-64, AArch64 or WebAssembly if the target has them, and in plain Rust otherwise.
 //!
-//! Each of these has the same answers. Bytes come into a vector by value, so no instruction takes a pointer: `unsafe` says no more than that
-//! the target has the instruction, and that 16 bytes are a vector.
+//! All implementations return the same results. Bytes are converted to a vector by value, so no instruction reads through a pointer. `unsafe` asserts
+//! only that the target has the instruction, and that any 16 bytes are a valid vector.
 
-// Each is built where its target is; plain Rust also for the tests, which compare it with the others.
+// Each module is compiled only for its target. Plain Rust is also compiled for the tests, which compare it with the others.
 #[cfg(all(
     target_arch = "aarch64",
     target_endian = "little",
@@ -30,7 +30,7 @@ mod wasm;
 #[cfg(all(target_arch = "x86_64", target_feature = "sse2"))]
 mod x86;
 
-/// Whether a look-up in a table is one instruction. Where it is none, comparisons are faster.
+/// `true` if a table lookup is a single instruction. Otherwise comparisons are faster.
 pub const HAS_SHUFFLE: bool = cfg!(any(
     all(target_arch = "x86_64", target_feature = "ssse3"),
     all(
@@ -64,11 +64,11 @@ pub mod prelude {
     pub use super::x86::{Mask, u8x16};
 }
 
-/// What a block has by the operations that its target gives it.
+/// Defines the methods that all implementations share, in terms of the target's own.
 macro_rules! common {
     () => {
         impl u8x16 {
-            /// The first 16 bytes of a slice, which has as many.
+            /// Returns the first 16 bytes of a slice. Panics if the slice has fewer.
             #[inline(always)]
             pub fn from_slice(bytes: &[u8]) -> u8x16 {
                 match bytes.first_chunk::<16>() {

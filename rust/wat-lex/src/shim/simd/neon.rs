@@ -1,4 +1,4 @@
-//! Blocks by the vectors of AArch64, which each of these processors has.
+//! Blocks implemented with NEON, which every AArch64 processor has.
 use core::arch::aarch64::*;
 use core::ops::{BitAnd, BitOr, Not, Shr};
 
@@ -11,10 +11,10 @@ pub struct Mask(uint8x16_t);
 
 super::common!();
 
-/// An expression of instructions of NEON, none of which takes a pointer.
+/// Evaluates an expression of NEON instructions, none of which reads through a pointer.
 macro_rules! neon {
     ($value:expr) => {
-        // SAFETY: this module is built where the target has NEON alone, and that is all that these instructions want.
+        // SAFETY: this module is compiled only for targets with NEON, which is the only precondition of these instructions.
         unsafe { $value }
     };
 }
@@ -25,7 +25,7 @@ const BITS: u64 = 0x8040_2010_0804_0201;
 impl u8x16 {
     #[inline(always)]
     pub fn from_array(bytes: [u8; 16]) -> u8x16 {
-        // SAFETY: both have 16 bytes, and any of these are a vector.
+        // SAFETY: both types have 16 bytes, and any 16 bytes are a valid vector.
         u8x16(unsafe { core::mem::transmute::<[u8; 16], uint8x16_t>(bytes) })
     }
 
@@ -34,7 +34,7 @@ impl u8x16 {
         u8x16(neon!(vdupq_n_u8(byte)))
     }
 
-    /// The byte at each index, which is below 16; 0 where it is 128 at least.
+    /// Returns the byte at each index, or 0 if the index is at least 128. Other indices must be less than 16.
     #[inline(always)]
     pub fn swizzle_dyn(self, indices: u8x16) -> u8x16 {
         u8x16(neon!(vqtbl1q_u8(self.0, indices.0)))
@@ -69,20 +69,20 @@ impl BitOr for u8x16 {
     }
 }
 
-/// Each byte by as many bits, which are fewer than 8.
+/// Shifts each byte right by the bits of the same lane, which must be less than 8.
 impl Shr for u8x16 {
     type Output = u8x16;
 
     #[inline(always)]
     fn shr(self, bits: u8x16) -> u8x16 {
-        // To the left by a number below 0 is to the right.
+        // A left shift by a negative count is a right shift.
         let left = neon!(vnegq_s8(vreinterpretq_s8_u8(bits.0)));
         u8x16(neon!(vshlq_u8(self.0, left)))
     }
 }
 
 impl Mask {
-    /// A bit for each byte, the lowest for the first.
+    /// Returns one bit per byte, the lowest for the first byte.
     #[inline(always)]
     pub fn to_bitmask(self) -> u64 {
         let bits = neon!(vcombine_u8(vcreate_u8(BITS), vcreate_u8(BITS)));

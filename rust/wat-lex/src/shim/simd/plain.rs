@@ -1,4 +1,4 @@
-//! Blocks in plain Rust.
+//! Blocks implemented in plain Rust.
 use core::array::from_fn;
 use core::ops::{BitAnd, BitOr, Not, Shr};
 
@@ -22,7 +22,7 @@ impl u8x16 {
         u8x16([byte; 16])
     }
 
-    /// The byte at each index, which is below 16; 0 where it is 128 at least.
+    /// Returns the byte at each index, or 0 if the index is at least 128. Other indices must be less than 16.
     #[inline(always)]
     pub fn swizzle_dyn(self, indices: u8x16) -> u8x16 {
         u8x16(from_fn(|i| match indices.0[i] {
@@ -60,7 +60,7 @@ impl BitOr for u8x16 {
     }
 }
 
-/// Each byte by as many bits, which are fewer than 8.
+/// Shifts each byte right by the bits of the same lane, which must be less than 8.
 impl Shr for u8x16 {
     type Output = u8x16;
 
@@ -71,7 +71,7 @@ impl Shr for u8x16 {
 }
 
 impl Mask {
-    /// A bit for each byte, the lowest for the first.
+    /// Returns one bit per byte, the lowest for the first byte.
     #[inline(always)]
     pub fn to_bitmask(self) -> u64 {
         (0..16).fold(0, |mask, i| mask | u64::from(self.0[i]) << i)

@@ -1,9 +1,9 @@
-//! The target's blocks answer what plain Rust says, at every pair of bytes and on blocks at random.
+//! Compares the target's blocks with those in plain Rust, for every pair of bytes and for random blocks.
 use super::plain;
 use super::prelude::{Mask, u8x16};
 use std::vec::Vec;
 
-/// Numbers at random, the same in each run.
+/// A pseudorandom number generator with a fixed seed.
 struct Random(u64);
 
 impl Random {
@@ -19,7 +19,7 @@ impl Random {
     }
 }
 
-/// The bytes of a block, by the operations that every block has.
+/// Extracts the bytes of a block with operations that every implementation has.
 macro_rules! bytes {
     ($module:ident, $block:expr) => {
         (0..=255u8).fold([0u8; 16], |mut bytes, byte| {
@@ -34,7 +34,7 @@ macro_rules! bytes {
     };
 }
 
-/// All answers of two blocks.
+/// Collects the bit masks of all comparisons of two blocks.
 macro_rules! answers {
     ($module:ident, $one:expr, $other:expr) => {{
         let (one, other) = (
@@ -57,7 +57,8 @@ macro_rules! answers {
     }};
 }
 
-/// The blocks that two blocks give. Indices are what the sources ask for: below 16, or 128 at least; bits are below 8.
+/// Collects the blocks that all operations on two blocks return. Indices are those that the sources use: less than 16, or at least 128. Shift counts
+/// are less than 8.
 macro_rules! blocks {
     ($module:ident, $one:expr, $other:expr) => {{
         let of = $module::u8x16::from_array;
@@ -76,7 +77,7 @@ macro_rules! blocks {
     }};
 }
 
-/// The blocks of the target by the name that the macros want.
+/// The target's blocks, under the module path that the macros need.
 mod target {
     pub(super) use crate::shim::simd::prelude::u8x16;
 }

@@ -1,4 +1,4 @@
-//! Blocks by the vectors of WebAssembly.
+//! Blocks implemented with WebAssembly's 128-bit vectors.
 use core::arch::wasm32::*;
 use core::ops::{BitAnd, BitOr, Not, Shr};
 
@@ -14,7 +14,7 @@ super::common!();
 impl u8x16 {
     #[inline(always)]
     pub fn from_array(bytes: [u8; 16]) -> u8x16 {
-        // SAFETY: both have 16 bytes, and any of these are a vector.
+        // SAFETY: both types have 16 bytes, and any 16 bytes are a valid vector.
         u8x16(unsafe { core::mem::transmute::<[u8; 16], v128>(bytes) })
     }
 
@@ -23,7 +23,7 @@ impl u8x16 {
         u8x16(u8x16_splat(byte))
     }
 
-    /// The byte at each index, which is below 16; 0 where it is 128 at least.
+    /// Returns the byte at each index, or 0 if the index is at least 128. Other indices must be less than 16.
     #[inline(always)]
     pub fn swizzle_dyn(self, indices: u8x16) -> u8x16 {
         u8x16(u8x16_swizzle(self.0, indices.0))
@@ -58,8 +58,8 @@ impl BitOr for u8x16 {
     }
 }
 
-/// Each byte by as many bits, which are fewer than 8.
-// Of 4, 2 and 1 bits those that a byte is moved by. Of a number that the compiler knows one shift is left.
+/// Shifts each byte right by the bits of the same lane, which must be less than 8.
+// Applies the shifts by 4, 2 and 1 that the bits of each lane select. If the counts are constant, the compiler reduces this to one shift.
 impl Shr for u8x16 {
     type Output = u8x16;
 
@@ -71,7 +71,7 @@ impl Shr for u8x16 {
     }
 }
 
-/// Each byte of the first block where the bit is set, else of the second one.
+/// Selects each byte from the first block if `bit` is set in the lane of `bits`, and from the second block otherwise.
 #[inline(always)]
 fn chosen(bits: u8x16, bit: u8, set: v128, other: v128) -> v128 {
     let bit = u8x16::splat(bit);
@@ -79,7 +79,7 @@ fn chosen(bits: u8x16, bit: u8, set: v128, other: v128) -> v128 {
 }
 
 impl Mask {
-    /// A bit for each byte, the lowest for the first.
+    /// Returns one bit per byte, the lowest for the first byte.
     #[inline(always)]
     pub fn to_bitmask(self) -> u64 {
         u64::from(u8x16_bitmask(self.0))

@@ -1,4 +1,4 @@
-//! Blocks by the vectors of x86-64: SSE2, which each of these processors has, and SSSE3's shuffle where the target has it.
+//! Blocks implemented with SSE2, which every x86-64 processor has, and with SSSE3's shuffle if the target has it.
 use core::arch::x86_64::*;
 use core::ops::{BitAnd, BitOr, Not, Shr};
 
@@ -11,20 +11,20 @@ pub struct Mask(__m128i);
 
 super::common!();
 
-/// An expression of instructions of SSE2, none of which takes a pointer.
+/// Evaluates an expression of SSE2 instructions, none of which reads through a pointer.
 macro_rules! sse2 {
     ($value:expr) => {
-        // SAFETY: this module is built where the target has SSE2 alone, and that is all that these instructions want.
+        // SAFETY: this module is compiled only for targets with SSE2, which is the only precondition of these instructions.
         unsafe { $value }
     };
 }
 
-/// The byte of a table at each index, with one instruction.
+/// Returns the byte of a table at each index, with one instruction.
 ///
 /// # Safety
 ///
-/// The processor has SSSE3.
-// Before Rust 1.87 the instruction is unsafe in itself.
+/// The processor must have SSSE3.
+// Before Rust 1.87 the intrinsic itself is unsafe.
 #[cfg(any(test, target_feature = "ssse3"))]
 #[inline]
 #[target_feature(enable = "ssse3")]
@@ -34,12 +34,12 @@ unsafe fn shuffled(table: __m128i, indices: __m128i) -> __m128i {
     unsafe { _mm_shuffle_epi8(table, indices) }
 }
 
-/// The same without a shuffle: each index is compared with each place of the table.
-// Of a table that the compiler knows, only the places that are not 0 are left.
+/// Returns the byte of a table at each index, without a shuffle: compares each index with each index of the table.
+// For a constant table the compiler keeps only the comparisons for entries that are not 0.
 #[cfg(any(test, not(target_feature = "ssse3")))]
 #[inline(always)]
 fn compared(table: __m128i, indices: __m128i) -> __m128i {
-    // SAFETY: both have 16 bytes, and these may be any.
+    // SAFETY: both types have 16 bytes, and any 16 bytes are valid for either.
     let table = unsafe { core::mem::transmute::<__m128i, [u8; 16]>(table) };
     let mut found = sse2!(_mm_setzero_si128());
     let mut place = 0;
@@ -55,7 +55,7 @@ fn compared(table: __m128i, indices: __m128i) -> __m128i {
 impl u8x16 {
     #[inline(always)]
     pub fn from_array(bytes: [u8; 16]) -> u8x16 {
-        // SAFETY: both have 16 bytes, and any of these are a vector.
+        // SAFETY: both types have 16 bytes, and any 16 bytes are a valid vector.
         u8x16(unsafe { core::mem::transmute::<[u8; 16], __m128i>(bytes) })
     }
 
@@ -64,7 +64,7 @@ impl u8x16 {
         u8x16(sse2!(_mm_set1_epi8(byte as i8)))
     }
 
-    /// The byte at each index, which is below 16; 0 where it is 128 at least.
+    /// Returns the byte at each index, or 0 if the index is at least 128. Other indices must be less than 16.
     #[inline(always)]
     pub fn swizzle_dyn(self, indices: u8x16) -> u8x16 {
         #[cfg(target_feature = "ssse3")]
@@ -103,8 +103,8 @@ impl BitOr for u8x16 {
     }
 }
 
-/// Each byte by as many bits, which are fewer than 8.
-// Of 4, 2 and 1 bits those that a byte is moved by. Of a number that the compiler knows one shift is left.
+/// Shifts each byte right by the bits of the same lane, which must be less than 8.
+// Applies the shifts by 4, 2 and 1 that the bits of each lane select. If the counts are constant, the compiler reduces this to one shift.
 impl Shr for u8x16 {
     type Output = u8x16;
 
@@ -119,7 +119,7 @@ impl Shr for u8x16 {
     }
 }
 
-/// Each byte of the first block where the bit is set, else of the second one.
+/// Selects each byte from the first block if `bit` is set in the lane of `bits`, and from the second block otherwise.
 #[inline(always)]
 fn chosen(bits: u8x16, bit: u8, set: u8x16, other: u8x16) -> u8x16 {
     let is_set = (bits & u8x16::splat(bit)).simd_eq(u8x16::splat(bit)).0;
@@ -130,7 +130,7 @@ fn chosen(bits: u8x16, bit: u8, set: u8x16, other: u8x16) -> u8x16 {
 }
 
 impl Mask {
-    /// A bit for each byte, the lowest for the first.
+    /// Returns one bit per byte, the lowest for the first byte.
     #[inline(always)]
     pub fn to_bitmask(self) -> u64 {
         u64::from(sse2!(_mm_movemask_epi8(self.0)) as u32)
@@ -164,7 +164,7 @@ impl Not for Mask {
     }
 }
 
-/// Both forms of a look-up in a table answer the same, whichever one the crate is built with.
+/// Checks that both implementations of a table lookup return the same result, regardless of which one the crate is built with.
 #[cfg(test)]
 #[test]
 fn a_shuffle_answers_as_comparisons_do() {
