@@ -1,11 +1,11 @@
-//! Parsers for formats that look like the WebAssembly text format, with the names of the lowest layer of the crate `wast`.
+//! A parser framework for formats similar to the WebAssembly text format. The public names are those of the lowest layer of the crate `wast`.
 //!
-//! A type of one's own implements [`Parse`](parser::Parse), and [`Peek`](parser::Peek) where its first token tells it from others;
-//! [`parser::parse`] reads a text as a value of it. The types of [`token`] and the macros [`custom_keyword!`], [`custom_reserved!`] and
-//! [`annotation!`](macro@annotation) are what they are made of.
+//! A custom type implements [`Parse`](parser::Parse), and [`Peek`](parser::Peek) if its first token distinguishes it from other types.
+//! [`parser::parse`] parses a whole text as a value of the type. Such types are built from the types of [`token`] and the macros [`custom_keyword!`],
+//! [`custom_reserved!`] and [`annotation!`](macro@annotation).
 //!
-//! What they answer is proved: this crate is a thin layer over the module [`proved`], whose text is proved to meet its contracts. The layer is
-//! tested, and not proved. Who implements [`proved::parser::Parse`] does without it.
+//! The results are verified: this crate is a thin layer over the module [`proved`], in which every function is proved to meet its contract. The layer
+//! is tested but not proved. Types that implement [`proved::parser::Parse`] do not use it.
 //!
 //! ```
 //! use wat_parser::parser::{self, Parse, ParseBuffer, Parser, Result};
@@ -14,7 +14,7 @@
 //!
 //! custom_keyword!(road);
 //!
-//! // road $name length (from $place) (to $place)
+//! // road $name length (item $end)*
 //! struct Road<'a> {
 //!     name: Id<'a>,
 //!     length: u32,
@@ -49,7 +49,7 @@
 //! # }
 //! ```
 //!
-//! An annotation, a group `(@name ..)`, is shown while its name is registered:
+//! An annotation, a group `(@name ..)`, is visible while its name is registered:
 //!
 //! ```
 //! use wat_parser::annotation;
@@ -76,19 +76,19 @@
 //! # }
 //! ```
 //!
-//! What is shown goes by the names that are registered at the look. In `wast` a token that was shown when the parser last moved stays shown;
-//! [`ParseBuffer::keep_shown`](parser::ParseBuffer::keep_shown) sets that for a buffer.
+//! Visibility depends on the names that are registered at the time of the peek. In `wast` a token that was visible when the parser last moved stays
+//! visible; [`ParseBuffer::keep_shown`](parser::ParseBuffer::keep_shown) selects this behavior for a buffer.
 //!
-//! The crate is `no_std` with `alloc`. The feature `std`, which is on unless it is turned off, has the module [`gensym`] and `Error::set_path`.
+//! The crate is `no_std` with `alloc`. The feature `std`, which is on by default, adds the module [`gensym`] and `Error::set_path`.
 #![no_std]
 #![warn(missing_docs)]
 #![forbid(unsafe_code)]
-// Of clippy's pedantic lints these are not followed. What a loop over tokens calls is to be a part of the loop, which was measured.
+// Some of Clippy's pedantic lints are disabled. Functions called in a loop over tokens must be inlined into it; benchmarks show the gain.
 #![allow(clippy::inline_always)]
-// A text has at most `u32::MAX` bytes, two numbers of 32 bits are one of 64, and a number is as large as its type when it is made.
+// A text has at most `u32::MAX` bytes, two 32-bit integers form one 64-bit integer, and values are checked to be in range before they are converted.
 #![allow(clippy::cast_lossless, clippy::cast_possible_truncation)]
 #![allow(clippy::cast_sign_loss)]
-// `wast` has the signatures; some names are as similar as what they name.
+// The signatures are those of `wast`, and some names are as similar as the things that they name.
 #![allow(clippy::needless_pass_by_value, clippy::similar_names)]
 
 extern crate alloc;
@@ -101,13 +101,13 @@ mod macros;
 pub mod annotation;
 pub mod encode;
 mod error;
-// Proofs name loops, contracts speak of parameters and fields that the code leaves alone, and each file imports the shim's names, of which it
-// may need none. Clippy's advice on style is for text that is written in Rust.
+// Proofs label loops, contracts mention parameters and fields that the code does not use, and every file imports all names of the shim. Clippy's
+// style lints are meant for hand-written Rust.
 #[allow(unused_imports)]
 #[allow(clippy::style, clippy::complexity, clippy::pedantic)]
 mod generated {
     pub mod wat_floats;
-    // Types of words are named as the words are.
+    // Types of keywords have the keywords' names.
     #[allow(dead_code, non_camel_case_types)]
     #[allow(unused_labels, unused_variables)]
     #[allow(clippy::manual_unwrap_or_default)]
@@ -122,17 +122,17 @@ pub mod parser;
 pub mod token;
 
 pub use error::Error;
-/// The bits of floating-point literals, proved as [`proved`] is.
+/// Conversion of floating-point literals to bits, verified like [`proved`].
 #[doc(inline)]
 pub use generated::wat_floats as floats;
-/// The proved text, and its contracts.
+/// The verified code, with its contracts.
 ///
-/// It is made of a program in Rattle, which is Rust with contracts: what is for the prover is taken away, and the contract of each function is
-/// kept as a section *Proved* of its documentation. [`wat_lex::proved`] says how one is read. The words, as `shown`, are defined in the folder
+/// The code is generated from a program in Rattle, which is Rust with contracts. Ghost code is erased, and the contract of each function is kept in a
+/// section *Proved* of its documentation. [`wat_lex::proved`] explains how to read one. The terms, such as `shown`, are defined in the folder
 /// `crates/wat_lexer_parser/specs` of the repository.
 ///
-/// Its [`Parse`](proved::parser::Parse) takes a parser that is not copied, and a refused request for memory is an error. Who implements it runs
-/// proved text down to the bytes, and the type may be proved too, by Rattle:
+/// Its trait [`Parse`](proved::parser::Parse) accepts a parser that is not copied, and returns an error if an allocation fails. A type that
+/// implements it runs verified code down to the bytes, and can itself be proved in Rattle:
 ///
 /// ```
 /// use wat_parser::proved::Error;
@@ -141,7 +141,7 @@ pub use generated::wat_floats as floats;
 /// use wat_parser::shim::alloc::Global;
 /// use wat_parser::shim::vec::Vec;
 ///
-/// /// The word of a keyword.
+/// /// The keyword `road`.
 /// struct RoadWord;
 ///
 /// impl Word for RoadWord {
@@ -187,12 +187,12 @@ pub use generated::wat_words as words;
 #[doc(no_inline)]
 pub use wat_lex::shim;
 
-/// The examples of the README, as tests.
+/// The examples of the README, run as doc tests.
 #[cfg(doctest)]
 #[doc = include_str!("../README.md")]
 struct Readme;
 
-/// A name that is registered and dropped at once is warned of.
+/// A test that registering a name and dropping the guard at once causes a warning.
 ///
 /// ```compile_fail
 /// #![deny(unused_must_use)]

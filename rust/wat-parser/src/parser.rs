@@ -1,8 +1,8 @@
-//! Parsers of one's own: a type is read by its [`Parse`], and seen by its [`Peek`].
+//! Parsers for custom types: a type is parsed by its [`Parse`] and recognized by its [`Peek`].
 //!
-//! A [`ParseBuffer`] holds a text, [`parse`] reads a whole text as a value of a type, and the [`Parse`] of each type on the way
-//! is given a [`Parser`]. What a parser shows is the first token after what was taken that is neither white space, nor a comment, nor part of
-//! an annotation whose name is not registered.
+//! A [`ParseBuffer`] holds a source text. [`parse`] parses a whole text as a value of a type, and passes a [`Parser`] to the [`Parse`] of each type
+//! involved. The next token of a parser is the first visible token after those that it consumed. Every token is visible, except whitespace, comments,
+//! and tokens in the group of an annotation whose name is not registered.
 
 mod cursor;
 mod lookahead;
@@ -30,17 +30,17 @@ use wat_lex::shim::borrow::{CowSlice, CowStr};
 use wat_lex::shim::string::ToStringIn;
 use wat_lex::shim::vec::Vec;
 
-/// How many groups may be open where [`Parser::depth_check`] is called.
+/// The maximum number of open groups that [`Parser::depth_check`] accepts.
 pub const MAX_PARENS_DEPTH: usize = proved::parser::MAX_PARENS_DEPTH;
 
-/// The result of what parses.
+/// The result of a parse.
 pub type Result<T, E = Error> = core::result::Result<T, E>;
 
-/// Reads a whole text as a value.
+/// Parses a whole text as a value.
 ///
 /// # Errors
 ///
-/// Where the text does not begin with a value of the type, a token is left after it, or the text has a fault.
+/// Returns an error if the text does not begin with a value of the type, if a token is left after the value, or if there is a lexical error.
 ///
 /// # Examples
 ///
@@ -67,9 +67,9 @@ pub fn parse<'a, T: Parse<'a>>(buffer: &'a ParseBuffer<'a>) -> Result<T> {
     }
 }
 
-/// A type that can be read from tokens.
+/// A type that can be parsed from tokens.
 ///
-/// By convention a type reads what is between its parentheses, and whoever reads the type takes the parentheses, by [`Parser::parens`].
+/// By convention `parse` reads the contents of a group; the caller consumes the parentheses with [`Parser::parens`].
 ///
 /// # Examples
 ///
@@ -102,11 +102,11 @@ pub fn parse<'a, T: Parse<'a>>(buffer: &'a ParseBuffer<'a>) -> Result<T> {
 /// # }
 /// ```
 pub trait Parse<'a>: Sized {
-    /// Reads a value, and moves the parser past it.
+    /// Parses a value and advances the parser past it.
     ///
     /// # Errors
     ///
-    /// Where no such value comes next, with a message for a user and the place of the token that does not fit. The parser may have moved then.
+    /// Returns an error at the first token that does not fit, if the next tokens are not a value of this type. The parser may have advanced by then.
     fn parse(parser: Parser<'a>) -> Result<Self>;
 }
 
@@ -116,7 +116,7 @@ impl<'a, T: Parse<'a>> Parse<'a> for Box<T> {
     }
 }
 
-/// None where the type is not seen.
+/// Parses a value if a peek recognizes the type, and returns `None` otherwise.
 impl<'a, T: Parse<'a> + Peek> Parse<'a> for Option<T> {
     fn parse(parser: Parser<'a>) -> Result<Self> {
         if T::peek(parser.cursor())? {
@@ -129,18 +129,18 @@ impl<'a, T: Parse<'a> + Peek> Parse<'a> for Option<T> {
 
 /// A type that is recognized by its first token.
 pub trait Peek {
-    /// Whether the token that is shown is one with which the type begins.
+    /// Returns `true` if the next token is one with which the type begins.
     ///
     /// # Errors
     ///
-    /// Where a fault is shown.
+    /// Returns an error if lexing the next token fails.
     fn peek(cursor: Cursor<'_>) -> Result<bool>;
 
-    /// Whether the token after the one that is shown is one with which the type begins.
+    /// Returns `true` if the token after the next one is one with which the type begins.
     ///
     /// # Errors
     ///
-    /// Where a fault is shown at one of both.
+    /// Returns an error if lexing one of the next 2 tokens fails.
     fn peek2(cursor: Cursor<'_>) -> Result<bool> {
         match cursor.past_any()? {
             Some(rest) => Self::peek(rest),
@@ -148,33 +148,34 @@ pub trait Peek {
         }
     }
 
-    /// What messages call the type.
+    /// Returns the name of the type for error messages.
     fn display() -> &'static str;
 }
 
-/// A text, for one parser over it, which cuts it into tokens as it goes, some at a time. It takes no memory to make.
+/// A source text for one parser, which lexes it on demand, some tokens at a time. Creating it does not allocate.
 pub struct ParseBuffer<'a> {
     lexer: proved::lexer::Lexer<'a>,
     text: TextRef<'a>,
-    // What else the proved parser is of, in cells, so that the copies of a `Parser` are one parser.
+    // The rest of the verified parser's state is in cells, so that all copies of a `Parser` share it.
     position: Cell<Position>,
     depth: Cell<usize>,
     names: RefCell<Names>,
     rows: [Cell<Row>; ROWS],
-    /// Tokens that stay shown.
+    /// Kept tokens, which stay visible regardless of the registered names.
     kept: RefCell<Vec<Token>>,
     keep_shown: bool,
     strings: Strings,
 }
 
-/// How many rows a buffer has: those just before a position stay for parsers that go back.
+/// Number of rows in a buffer. The rows just before a position are kept, for parsers that go back.
 const ROWS: usize = 64;
 
-/// How many rows are filled at a time.
+/// Maximum number of rows that are filled at a time.
 const FILLED: usize = 32;
 
-/// A row of no position of this slot: one of slot 0 is at byte 0 or many bytes on, as each move passes a byte at least, and no other is at byte 0.
-// Nor does a token stay shown at byte 1 while row 0 is as at first: the `(` of an annotation would be before it, and its name has a row.
+/// Returns a row that matches no position in its slot. A position in slot 0 is at byte 0 or at least `ROWS` bytes further, as each move advances by
+/// at least one byte. A position in another slot is never at byte 0.
+// A kept token is not at byte 1 either while row 0 is unchanged: the `(` of an annotation would precede it, and the annotation's name has a row.
 const fn no_row(slot: usize) -> Row {
     Row {
         offset: 0,
@@ -184,8 +185,8 @@ const fn no_row(slot: usize) -> Row {
     }
 }
 
-/// The rows at first.
-// Each buffer has cells of its own.
+/// The initial rows.
+// The constant is copied on use, so each buffer has separate cells.
 #[allow(clippy::declare_interior_mutable_const)]
 const NO_ROWS: [Cell<Row>; ROWS] = {
     let mut rows = [const { Cell::new(no_row(1)) }; ROWS];
@@ -193,13 +194,13 @@ const NO_ROWS: [Cell<Row>; ROWS] = {
     rows
 };
 
-/// How far a parser or a cursor has come, in one word: in the low half where the last token before it ends, in the high half the slot of its row,
-/// or `KEPT` and the number of the token that stays shown.
-// Of halves that were written apart a processor can't read a whole at once.
+/// A position of a parser or a cursor, packed into 64 bits. The low half is the end offset of the preceding token. The high half is the slot of its
+/// row, or `KEPT` plus the index of the kept token.
+// It is one integer, as a processor cannot load 64 bits at once that were just stored as two halves.
 #[derive(Clone, Copy)]
 struct Position(u64);
 
-/// The bit of a position whose token stays shown.
+/// The bit that marks a position with a kept token.
 const KEPT: usize = 0x8000_0000;
 
 impl Position {
@@ -218,12 +219,12 @@ impl Position {
         (self.0 >> 32) as usize % ROWS
     }
 
-    /// The number of the token that stays shown.
+    /// Returns the index of the kept token, if the position has one.
     fn kept(self) -> Option<usize> {
         ((self.0 >> 32) as usize).checked_sub(KEPT)
     }
 
-    /// The position one move on.
+    /// Returns the position after a move that ends at offset `byte`.
     #[inline(always)]
     fn next(self, byte: usize) -> Position {
         Position::new(byte, (self.slot() + 1) % ROWS)
@@ -231,20 +232,20 @@ impl Position {
 }
 
 impl<'a> ParseBuffer<'a> {
-    /// The buffer of a text. A fault of the text is no error here: it is one where a look reaches it.
+    /// Creates a buffer for a source text. A lexical error is not reported here, but when a peek reaches it.
     ///
     /// # Errors
     ///
-    /// Where the text has more than `u32::MAX` bytes.
+    /// Returns an error if the text has more than `u32::MAX` bytes.
     pub fn new(input: &'a str) -> Result<ParseBuffer<'a>> {
         ParseBuffer::new_with_lexer(Lexer::new(input))
     }
 
-    /// The buffer of the text of a lexer, under the lexer's settings.
+    /// Creates a buffer for the text of a lexer, with the lexer's settings.
     ///
     /// # Errors
     ///
-    /// As [`new`](ParseBuffer::new).
+    /// Returns an error if the text has more than `u32::MAX` bytes.
     pub fn new_with_lexer(lexer: Lexer<'a>) -> Result<ParseBuffer<'a>> {
         let lexer = lexer.proved()?.clone();
         Ok(ParseBuffer {
@@ -260,30 +261,32 @@ impl<'a> ParseBuffer<'a> {
         })
     }
 
-    /// Sets what [`Parser::track_instr_spans`] answers, for types that keep the places of instructions only where it is asked for.
+    /// Sets the value that [`Parser::track_instr_spans`] returns. Types that record offsets of instructions only on request check it.
     pub fn track_instr_spans(&mut self, track: bool) -> &mut Self {
         self.text = self.text_ref(track);
         self
     }
 
-    /// Sets whether a token that was shown when the parser last moved stays shown, as in `wast`, whatever names are registered or taken back
-    /// since. Where it is off, as at first, what is shown goes by the names that are registered at the look.
+    /// Sets whether a token that was visible when the parser last moved stays visible, even if names are registered or unregistered after the move.
+    /// This is the behavior of `wast`. If it is off, which is the default, visibility depends on the names that are registered at the time of the
+    /// peek.
     ///
-    /// It is a setting of this buffer alone, for who needs each answer of `wast`.
+    /// The setting applies to this buffer only. Turn it on if every result must be the same as that of `wast`.
     pub fn keep_shown(&mut self, keep: bool) -> &mut Self {
         self.keep_shown = keep;
         self
     }
 
-    /// The row of a position, and whether its token is shown there, whatever names are registered.
-    // A row is of its byte alone: whenever it was written, the token is shown there. They are apart, as an option is a kind more to test for.
+    /// Returns the row in the slot of a position, and `true` if it belongs to the position. Its token is then visible there under every set of names.
+    // A row depends only on its byte offset, so it is valid regardless of when it was written. It is not an `Option`, as that would be one more case
+    // to test.
     #[inline(always)]
     fn row_at(&self, position: Position) -> (Row, bool) {
         let row = self.rows[position.slot()].get();
         (row, row.from as usize == position.byte())
     }
 
-    /// Fills rows from a position on, and answers its own.
+    /// Fills rows from a position on, and returns the token of the position, or `None` if it has no row.
     #[inline(never)]
     fn filled_at(&self, position: Position) -> Option<Token> {
         let byte = position.byte();
@@ -301,7 +304,7 @@ impl<'a> ParseBuffer<'a> {
         (filled > 0).then(|| token_of(self.rows[first].get()))
     }
 
-    /// What is shown at a byte by the names that are registered.
+    /// Returns the token that is visible at a byte offset under the registered names.
     fn shown_at(&self, byte: usize) -> Result<Option<Token>, Fault> {
         match self.text_from(byte).look(0, 0, &self.names.borrow()) {
             Ok(found) => Ok(found.map(|(token, _)| moved(token, byte))),
@@ -309,7 +312,7 @@ impl<'a> ParseBuffer<'a> {
         }
     }
 
-    /// The comment at a byte, or after white space there.
+    /// Returns the comment at a byte offset, or after whitespace there.
     fn comment_at(&self, byte: usize) -> Result<Option<Token>, Fault> {
         match self.text_from(byte).comment_at(0, 0) {
             Ok(found) => Ok(found.map(|(token, _)| moved(token, byte))),
@@ -317,7 +320,7 @@ impl<'a> ParseBuffer<'a> {
         }
     }
 
-    /// The position one move on.
+    /// Returns the position after a move that ends at offset `byte`, and keeps the token that is visible there if `keep_shown` is on.
     #[inline(always)]
     fn position_after(&self, position: Position, byte: usize) -> Position {
         let position = position.next(byte);
@@ -327,7 +330,7 @@ impl<'a> ParseBuffer<'a> {
         position
     }
 
-    /// The position with the token that is shown there by the names that are registered, which is to stay so.
+    /// Returns the position, and keeps the token that is visible there under the registered names. No token is kept if a row has it.
     #[cold]
     #[inline(never)]
     fn keeping(&self, position: Position) -> Position {
@@ -347,26 +350,27 @@ impl<'a> ParseBuffer<'a> {
         TextRef::new(self.lexer.input(), self.lexer.settings(), track, Global)
     }
 
-    /// The text from a byte on that a token ends at, or from its start: a law (`Cuts`) says that it has the same tokens. So no parser counts tokens.
+    /// Returns the text from the end of a token, or from the start. A theorem (`Cuts`) states that this suffix has the same tokens as the whole text,
+    /// so a parser need not count tokens.
     #[inline(always)]
     fn text_from(&self, byte: usize) -> TextRef<'a> {
         let text = &self.lexer.input()[byte..];
         TextRef::new(text, self.lexer.settings(), false, Global)
     }
 
-    /// The text as errors are made of it.
+    /// Returns the whole text, for creating errors.
     fn source(&self) -> SourceRef<'a> {
         SourceRef::of_text(self.text_ref(self.text.tracks()))
     }
 
-    /// The error of a fault that is shown.
+    /// Converts a lexical error to an [`Error`].
     #[cold]
     fn error_of(&self, fault: Fault) -> Error {
         self.source().error_of(fault).into()
     }
 }
 
-/// The token of a row.
+/// Returns the token of a row.
 #[inline(always)]
 fn token_of(row: Row) -> Token {
     Token {
@@ -376,13 +380,13 @@ fn token_of(row: Row) -> Token {
     }
 }
 
-/// The token so many bytes further on.
+/// Adds `bytes` to the offset of a token.
 fn moved(token: Token, bytes: usize) -> Token {
     let offset = token.offset + bytes;
     Token { offset, ..token }
 }
 
-/// The fault so many bytes further on.
+/// Adds `bytes` to the offset of a lexical error.
 fn moved_fault(fault: Fault, bytes: usize) -> Fault {
     let offset = fault.offset + bytes;
     Fault { offset, ..fault }
@@ -394,14 +398,15 @@ impl fmt::Debug for ParseBuffer<'_> {
     }
 }
 
-/// A parser of a [`ParseBuffer`], which each [`Parse`] is given. Copies of it are the same parser: where one moves, all move.
+/// A parser of a [`ParseBuffer`], which is passed to each [`Parse`]. All copies share one position: if one advances, all do.
 #[derive(Clone, Copy, Debug)]
 pub struct Parser<'a> {
     buffer: &'a ParseBuffer<'a>,
 }
 
 impl<'a> Parser<'a> {
-    /// Whether the group that the parser is in, or the text, has no more tokens. False where a fault is shown.
+    /// Returns `true` if no token is left in the current group or in the text: the next token is a `)`, or the text ends. Returns `false` if lexing
+    /// the next token fails.
     ///
     /// # Examples
     ///
@@ -446,13 +451,13 @@ impl<'a> Parser<'a> {
         }
     }
 
-    /// Whether the text has a fault or any token that is neither white space nor a comment.
+    /// Returns `true` if the text has a significant token or a lexical error.
     ///
     /// # Examples
     ///
     /// ```
     /// use wat_parser::parser::{self, Parse, ParseBuffer, Parser, Result};
-    /// // A number, or a text of nothing but comments.
+    /// // A number, or a text with comments only.
     /// struct Perhaps(Option<u32>);
     ///
     /// impl<'a> Parse<'a> for Perhaps {
@@ -475,11 +480,11 @@ impl<'a> Parser<'a> {
         self.buffer.text.is_meaningful()
     }
 
-    /// Reads a value, by its [`Parse`].
+    /// Parses a value with its [`Parse`] implementation.
     ///
     /// # Errors
     ///
-    /// As those of [`Parse::parse`] of the type.
+    /// Returns the error of [`Parse::parse`] of the type.
     ///
     /// # Examples
     ///
@@ -506,11 +511,11 @@ impl<'a> Parser<'a> {
         T::parse(self)
     }
 
-    /// Whether the token that is shown is one with which the type begins.
+    /// Returns `true` if the next token is one with which the type begins.
     ///
     /// # Errors
     ///
-    /// Where a fault is shown.
+    /// Returns an error if lexing the next token fails.
     ///
     /// # Examples
     ///
@@ -545,18 +550,18 @@ impl<'a> Parser<'a> {
         T::peek(self.cursor())
     }
 
-    /// [`peek`](Parser::peek) of the second token.
+    /// Returns `true` if the type recognizes the second of the next tokens with [`Peek::peek2`].
     ///
     /// # Errors
     ///
-    /// Where a fault is shown at one of both.
+    /// Returns an error if lexing one of the next 2 tokens fails.
     ///
     /// # Examples
     ///
     /// ```
     /// use wat_parser::kw;
     /// use wat_parser::parser::{self, Parse, ParseBuffer, Parser, Result};
-    /// // A number, with `(mut)` before it or not.
+    /// // A number, optionally after `(mut)`.
     /// struct Value(bool, u32);
     ///
     /// impl<'a> Parse<'a> for Value {
@@ -580,18 +585,18 @@ impl<'a> Parser<'a> {
         T::peek2(self.cursor())
     }
 
-    /// [`peek`](Parser::peek) of the third token.
+    /// Returns `true` if the third of the next tokens is one with which the type begins.
     ///
     /// # Errors
     ///
-    /// Where a fault is shown at one of the three.
+    /// Returns an error if lexing one of the next 3 tokens fails.
     ///
     /// # Examples
     ///
     /// ```
     /// use wat_parser::parser::{self, Parse, ParseBuffer, Parser, Result};
     /// use wat_parser::token::RParen;
-    /// // Whether a group of one token is next.
+    /// // `true` if a group of one token comes next.
     /// struct IsSingle(bool);
     ///
     /// impl<'a> Parse<'a> for IsSingle {
@@ -624,7 +629,7 @@ impl<'a> Parser<'a> {
         }
     }
 
-    /// A series of looks whose error names each type that was looked for.
+    /// Returns a sequence of peeks at the next token, whose error names each type that was tried.
     ///
     /// # Examples
     ///
@@ -663,11 +668,11 @@ impl<'a> Parser<'a> {
         Lookahead1::new(self)
     }
 
-    /// Reads a group: `(`, what the function reads, and `)`.
+    /// Parses a group: consumes `(`, calls the function, and consumes `)`.
     ///
     /// # Errors
     ///
-    /// Where one of the three does not come next. The parser is as before then.
+    /// Returns an error if one of the three fails. The position of the parser is restored then.
     ///
     /// # Examples
     ///
@@ -720,13 +725,13 @@ impl<'a> Parser<'a> {
         })
     }
 
-    /// How many groups are open, as [`parens`](Parser::parens) counts them.
+    /// Returns the number of groups that [`parens`](Parser::parens) has open.
     ///
     /// # Examples
     ///
     /// ```
     /// use wat_parser::parser::{self, Parse, ParseBuffer, Parser, Result};
-    /// // How deep the innermost of nested groups is.
+    /// // The depth of the innermost of nested groups.
     /// struct Depth(usize);
     ///
     /// impl<'a> Parse<'a> for Depth {
@@ -749,11 +754,11 @@ impl<'a> Parser<'a> {
         self.buffer.depth.get()
     }
 
-    /// Refuses groups that are nested so deep that the stack might not do.
+    /// Checks the nesting depth, so that a recursive [`Parse`] does not overflow the stack.
     ///
     /// # Errors
     ///
-    /// Where more than [`MAX_PARENS_DEPTH`] groups are open.
+    /// Returns an error if more than [`MAX_PARENS_DEPTH`] groups are open.
     ///
     /// # Examples
     ///
@@ -793,11 +798,11 @@ impl<'a> Parser<'a> {
         Cursor::new(self, self.buffer.position.get())
     }
 
-    /// Calls the function with a cursor at the parser's place, and moves the parser to the cursor that it answers.
+    /// Calls the function with a cursor at the parser's position, and advances the parser to the cursor that the function returns.
     ///
     /// # Errors
     ///
-    /// As those of the function. The parser stays then.
+    /// Returns the error of the function. The parser does not move then.
     ///
     /// # Examples
     ///
@@ -832,7 +837,7 @@ impl<'a> Parser<'a> {
         Ok(value)
     }
 
-    /// What was read, kept as long as the buffer where it is owned.
+    /// Returns the bytes. If they are owned, they are stored for the lifetime of the buffer.
     #[inline]
     pub(crate) fn keep(self, bytes: CowSlice<'a, u8>) -> Result<&'a [u8]> {
         match bytes {
@@ -841,7 +846,7 @@ impl<'a> Parser<'a> {
         }
     }
 
-    /// [`keep`](Parser::keep) of a text.
+    /// Returns the string. If it is owned, it is stored for the lifetime of the buffer.
     #[inline]
     pub(crate) fn keep_text(self, text: CowStr<'a>) -> Result<&'a str> {
         match text {
@@ -850,7 +855,7 @@ impl<'a> Parser<'a> {
         }
     }
 
-    /// Takes this keyword, and answers where it begins.
+    /// Consumes this keyword and returns its offset.
     #[doc(hidden)]
     #[inline]
     pub fn this_keyword(self, word: &str, expected: &'static str) -> Result<Span> {
@@ -860,7 +865,7 @@ impl<'a> Parser<'a> {
         })
     }
 
-    /// Takes this reserved token, and answers where it begins.
+    /// Consumes this reserved token and returns its offset.
     #[doc(hidden)]
     pub fn this_reserved(self, word: &str, expected: &'static str) -> Result<Span> {
         self.step(|cursor| match cursor.reserved()? {
@@ -869,7 +874,7 @@ impl<'a> Parser<'a> {
         })
     }
 
-    /// Takes the annotation of this name, and answers where it begins.
+    /// Consumes the annotation of this name and returns its offset.
     #[doc(hidden)]
     pub fn this_annotation(self, name: &str, expected: &'static str) -> Result<Span> {
         self.step(|cursor| match cursor.annotation()? {
@@ -878,13 +883,13 @@ impl<'a> Parser<'a> {
         })
     }
 
-    /// An error at the token that is shown.
+    /// Creates an error at the next token.
     ///
     /// # Examples
     ///
     /// ```
     /// use wat_parser::parser::{self, Parse, ParseBuffer, Parser, Result};
-    /// // A number below ten.
+    /// // A number less than 10.
     /// struct Digit(u32);
     ///
     /// impl<'a> Parse<'a> for Digit {
@@ -915,11 +920,11 @@ impl<'a> Parser<'a> {
         self.cursor().error(message)
     }
 
-    /// An error at a place of the text.
+    /// Creates an error at an offset of the text.
     ///
     /// # Examples
     ///
-    /// That of [`error`](Parser::error) has both.
+    /// See [`error`](Parser::error) for an example.
     #[must_use]
     #[cold]
     pub fn error_at(self, span: Span, message: impl fmt::Display) -> Error {
@@ -929,13 +934,14 @@ impl<'a> Parser<'a> {
         }
     }
 
-    /// Where the token that is shown begins: the text's end where none is left, and the end of what was taken where a fault is shown.
+    /// Returns the offset of the next token, or of the end of the text if no token is left. If lexing the next token fails, returns the end offset of
+    /// the consumed tokens.
     ///
     /// # Examples
     ///
     /// ```
     /// use wat_parser::parser::{self, Parse, ParseBuffer, Parser, Result};
-    /// // A number, from where it begins to where it ends.
+    /// // A number with its start and end offset.
     /// struct Spanned(u64, usize, usize);
     ///
     /// impl<'a> Parse<'a> for Spanned {
@@ -958,24 +964,24 @@ impl<'a> Parser<'a> {
         self.cursor().cur_span()
     }
 
-    /// Where what was taken ends.
+    /// Returns the end offset of the consumed tokens.
     ///
     /// # Examples
     ///
-    /// That of [`cur_span`](Parser::cur_span) has both.
+    /// See [`cur_span`](Parser::cur_span) for an example.
     #[must_use]
     pub fn prev_span(&self) -> Span {
         Span::from_offset(self.buffer.position.get().byte())
     }
 
-    /// Registers an annotation's name until what this answers is dropped: groups `(@name ..)` are shown, and not passed over.
+    /// Registers the name of an annotation until the returned guard is dropped: groups `(@name ..)` are visible, instead of being skipped.
     ///
-    /// A name that is registered twice is registered until both are dropped. What is shown goes by the names that are registered at the look,
-    /// also where another token was shown there before; [`ParseBuffer::keep_shown`] changes that.
+    /// A name that is registered twice is registered until both guards are dropped. Visibility depends on the names that are registered at the time
+    /// of the peek, even if an earlier peek at the same position yielded another token. [`ParseBuffer::keep_shown`] changes that.
     ///
     /// # Panics
     ///
-    /// Where the name is registered `usize::MAX` times.
+    /// Panics if the name is registered `usize::MAX` times.
     ///
     /// # Examples
     ///
@@ -985,12 +991,12 @@ impl<'a> Parser<'a> {
     ///
     /// annotation!(note);
     ///
-    /// // A number, with a note before it or none.
+    /// // A number, optionally after a note.
     /// struct Noted<'a>(Option<&'a str>, u32);
     ///
     /// impl<'a> Parse<'a> for Noted<'a> {
     ///     fn parse(parser: Parser<'a>) -> Result<Self> {
-    ///         // `note` has to be registered before the group's `(` is looked at.
+    /// // `note` must be registered before a peek reaches the `(` of the group.
     ///         let registered = parser.register_annotation("note");
     ///         let text = if parser.peek2::<note>()? {
     ///             Some(parser.parens(|group| {
@@ -1029,14 +1035,14 @@ impl<'a> Parser<'a> {
         }
     }
 
-    /// What [`ParseBuffer::track_instr_spans`] set.
+    /// Returns the setting of [`ParseBuffer::track_instr_spans`].
     ///
     /// # Examples
     ///
     /// ```
     /// use wat_parser::parser::{self, Parse, ParseBuffer, Parser, Result};
     /// use wat_parser::token::Span;
-    /// // A number, with its place where that is asked for.
+    /// // A number, with its offset if offsets are tracked.
     /// struct Placed(u32, Option<Span>);
     ///
     /// impl<'a> Parse<'a> for Placed {
@@ -1059,11 +1065,11 @@ impl<'a> Parser<'a> {
         self.buffer.text.tracks()
     }
 
-    /// Calls the function with the names of [`annotation`](mod@crate::annotation) registered.
+    /// Calls the function while the names of [`annotation`](mod@crate::annotation) are registered.
     ///
     /// # Errors
     ///
-    /// As those of the function.
+    /// Returns the error of the function.
     ///
     /// # Examples
     ///
@@ -1108,13 +1114,13 @@ impl<'a> Parser<'a> {
     }
 }
 
-/// What was asked for, or an out-of-memory error.
+/// Converts an allocation failure to an out-of-memory error.
 #[inline(always)]
 pub(crate) fn unless_refused<T>(asked: Result<T, AllocError>) -> Result<T> {
     asked.map_err(|refused| proved::Error::from(refused).into())
 }
 
-/// A name that is registered until this is dropped.
+/// A guard for a registered name, which is unregistered on drop.
 struct Registered<'b> {
     names: &'b RefCell<Names>,
     name: &'b str,

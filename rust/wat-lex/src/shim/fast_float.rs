@@ -41,7 +41,7 @@ impl<'a> Numeral<'a> {
 
     #[inline]
     fn magnitude<F: FromStr + From<u8>>(&self) -> F {
-        // Rust's library parses an exponent of up to 4 digits exactly, and truncates longer ones.
+        // Rust's library parses an exponent of up to 4 digits exactly, and limits the value of longer ones.
         if self.exponent.is_some_and(|from| self.text.len() - from > 4) {
             return self.with_long_exponent();
         }

@@ -7,9 +7,11 @@ use core::fmt;
 use wat_lex::shim::alloc::Global;
 use wat_lex::{IntegerKind, TokenKind};
 
-/// A place of a parser that moves without it. [`Parser::step`] gives one, and moves the parser to the one that it is answered.
+/// A position in the tokens of a parser, independent of the parser's own. [`Parser::step`] passes a cursor to a function, and advances the parser to
+/// the cursor that the function returns.
 ///
-/// What takes a token answers it with the cursor after it, or None where another token, or none, is shown.
+/// A method that consumes a token returns it with the cursor after it, or `None` if the next token is of another kind or the text ends. The next
+/// token is the first visible one: whitespace, comments, and groups of unregistered annotations are skipped.
 #[derive(Clone, Copy)]
 pub struct Cursor<'a> {
     parser: Parser<'a>,
@@ -40,13 +42,13 @@ impl<'a> Cursor<'a> {
         self.parser.buffer.text.text()
     }
 
-    /// The row here, and whether its token is shown.
+    /// Returns the row in the slot of this position, and `true` if its token is visible here.
     #[inline(always)]
     pub(super) fn row(&self) -> (Row, bool) {
         self.parser.buffer.row_at(self.position)
     }
 
-    /// The token that is shown.
+    /// Returns the next token, or `None` at the end of the text.
     #[cold]
     #[inline(never)]
     pub(super) fn look(&self) -> Result<Option<Token>> {
@@ -65,7 +67,7 @@ impl<'a> Cursor<'a> {
         shown.map_err(|fault| buffer.error_of(fault))
     }
 
-    /// Whether such a token is shown.
+    /// Returns `true` if there is a next token and it satisfies the predicate.
     #[inline(always)]
     fn sees(self, is: impl Fn(Token) -> bool) -> Result<bool> {
         let (row, known) = self.row();
@@ -75,14 +77,14 @@ impl<'a> Cursor<'a> {
         Ok(self.look()?.is_some_and(is))
     }
 
-    /// Takes a token of such a kind.
+    /// Consumes the next token if its kind satisfies the predicate.
     #[inline(always)]
     fn take(self, is: impl Fn(TokenKind) -> bool) -> Result<Option<(Token, Self)>> {
         self.take_as(|token| is(token.kind).then_some(token))
     }
 
-    /// Takes the token of which the function makes something.
-    // The token is one of the text, and the function looks at its kind: that is what the proved readers require.
+    /// Consumes the next token if `of` returns a value for it.
+    // Precondition of the verified accessors: the token is part of the text, and `of` checks its kind.
     #[inline(always)]
     fn take_as<T>(self, of: impl Fn(Token) -> Option<T>) -> Result<Option<(T, Self)>> {
         let (row, known) = self.row();
@@ -96,7 +98,7 @@ impl<'a> Cursor<'a> {
         Ok(of(token).map(|taken| (taken, self.moved(token))))
     }
 
-    /// The cursor after a token.
+    /// Returns the cursor after a token.
     #[inline(always)]
     fn moved(self, token: Token) -> Self {
         let end = token.offset + token.len as usize;
@@ -104,20 +106,20 @@ impl<'a> Cursor<'a> {
         Cursor { position, ..self }
     }
 
-    /// The cursor after the token that is shown.
+    /// Consumes the next token, whatever its kind.
     pub(super) fn past_any(self) -> Result<Option<Self>> {
         Ok(self.take(|_| true)?.map(|(_, rest)| rest))
     }
 
-    /// Takes this keyword, and answers where it begins.
+    /// Consumes this keyword and returns its offset.
     #[inline(always)]
     pub(super) fn this_keyword(self, word: &str) -> Result<Option<(Span, Self)>> {
         let text = self.text();
         self.take_as(|token| is_keyword(text, token, word).then(|| Span::from_offset(token.offset)))
     }
 
-    /// Takes an integer, as its token.
-    // The token is one of the text, and of the kind that is asked for: that is what the proved readers require.
+    /// Consumes an integer and returns its token.
+    // Precondition of the verified accessors: the token is part of the text, and `kind` is its kind.
     #[inline(always)]
     pub(crate) fn integer_token(self) -> Result<Option<((Token, IntegerKind), Self)>> {
         match self.take(|kind| matches!(kind, TokenKind::Integer(_)))? {
@@ -129,7 +131,7 @@ impl<'a> Cursor<'a> {
         }
     }
 
-    /// Takes a number, a float or an integer, as its word.
+    /// Consumes a float or an integer and returns its lexeme.
     #[inline(always)]
     pub(crate) fn number(self) -> Result<Option<(&'a str, Self)>> {
         let number = |kind| matches!(kind, TokenKind::Float(_) | TokenKind::Integer(_));
@@ -137,7 +139,7 @@ impl<'a> Cursor<'a> {
         Ok(taken.map(|(token, rest)| (token.src(self.text()), rest)))
     }
 
-    /// Whether this keyword is shown.
+    /// Returns `true` if the next token is this keyword.
     #[doc(hidden)]
     #[inline(always)]
     pub fn is_keyword(self, word: &str) -> Result<bool> {
@@ -145,13 +147,13 @@ impl<'a> Cursor<'a> {
         self.sees(|token| is_keyword(text, token, word))
     }
 
-    /// Whether this reserved token is shown.
+    /// Returns `true` if the next token is this reserved token.
     #[doc(hidden)]
     pub fn is_reserved(self, word: &str) -> Result<bool> {
         Ok(self.reserved()?.is_some_and(|(shown, _)| shown == word))
     }
 
-    /// Whether an annotation of this name is shown.
+    /// Returns `true` if the next token is an annotation with this name.
     #[doc(hidden)]
     #[inline(always)]
     pub fn is_annotation(self, name: &str) -> Result<bool> {
@@ -162,7 +164,7 @@ impl<'a> Cursor<'a> {
         self.is_annotation_by_look(name)
     }
 
-    // It stays a call, as `name`, so that what most callers find is found at once.
+    // `inline(never)`, on this function and on `name`, keeps the common path of `is_annotation` small.
     #[inline(never)]
     fn is_annotation_by_look(self, name: &str) -> Result<bool> {
         match self.look()? {
@@ -173,7 +175,8 @@ impl<'a> Cursor<'a> {
         }
     }
 
-    /// Where the token that is shown begins: the text's end where none is left, and the end of what was taken where a fault is shown.
+    /// Returns the offset of the next token, or of the end of the text if no token is left. If lexing the next token fails, returns the end offset of
+    /// the preceding token.
     #[must_use]
     #[inline]
     pub fn cur_span(&self) -> Span {
@@ -194,141 +197,141 @@ impl<'a> Cursor<'a> {
         })
     }
 
-    /// An error at the token that is shown.
+    /// Creates an error at the next token.
     #[must_use]
     #[cold]
     pub fn error(&self, message: impl fmt::Display) -> Error {
         self.parser.error_at(self.cur_span(), message)
     }
 
-    /// Whether a `(` is shown.
+    /// Returns `true` if the next token is a `(`.
     ///
     /// # Errors
     ///
-    /// Where a fault is shown, as for each look and each taking.
+    /// Returns an error if lexing the next token fails.
     #[inline]
     pub fn peek_lparen(self) -> Result<bool> {
         self.sees(|token| matches!(token.kind, TokenKind::LParen))
     }
 
-    /// Whether a `)` is shown.
+    /// Returns `true` if the next token is a `)`.
     ///
     /// # Errors
     ///
-    /// Where a fault is shown.
+    /// Returns an error if lexing the next token fails.
     #[inline]
     pub fn peek_rparen(self) -> Result<bool> {
         self.sees(|token| matches!(token.kind, TokenKind::RParen))
     }
 
-    /// Whether an identifier is shown, also one whose name is at fault.
+    /// Returns `true` if the next token is an identifier, even if its name is empty or not UTF-8.
     ///
     /// # Errors
     ///
-    /// Where a fault is shown.
+    /// Returns an error if lexing the next token fails.
     #[inline]
     pub fn peek_id(self) -> Result<bool> {
         self.sees(|token| matches!(token.kind, TokenKind::Id))
     }
 
-    /// Whether a reserved token is shown.
+    /// Returns `true` if the next token is a reserved token.
     ///
     /// # Errors
     ///
-    /// Where a fault is shown.
+    /// Returns an error if lexing the next token fails.
     #[inline]
     pub fn peek_reserved(self) -> Result<bool> {
         self.sees(|token| matches!(token.kind, TokenKind::Reserved))
     }
 
-    /// Whether a keyword is shown.
+    /// Returns `true` if the next token is a keyword.
     ///
     /// # Errors
     ///
-    /// Where a fault is shown.
+    /// Returns an error if lexing the next token fails.
     #[inline]
     pub fn peek_keyword(self) -> Result<bool> {
         self.sees(|token| matches!(token.kind, TokenKind::Keyword))
     }
 
-    /// Whether an integer is shown.
+    /// Returns `true` if the next token is an integer.
     ///
     /// # Errors
     ///
-    /// Where a fault is shown.
+    /// Returns an error if lexing the next token fails.
     #[inline]
     pub fn peek_integer(self) -> Result<bool> {
         self.sees(|token| matches!(token.kind, TokenKind::Integer(_)))
     }
 
-    /// Whether a floating-point number is shown, which an integer is not.
+    /// Returns `true` if the next token is a floating-point number. An integer is not a floating-point number.
     ///
     /// # Errors
     ///
-    /// Where a fault is shown.
+    /// Returns an error if lexing the next token fails.
     #[inline]
     pub fn peek_float(self) -> Result<bool> {
         self.sees(|token| matches!(token.kind, TokenKind::Float(_)))
     }
 
-    /// Whether a string is shown.
+    /// Returns `true` if the next token is a string.
     ///
     /// # Errors
     ///
-    /// Where a fault is shown.
+    /// Returns an error if lexing the next token fails.
     #[inline]
     pub fn peek_string(self) -> Result<bool> {
         self.sees(|token| matches!(token.kind, TokenKind::String))
     }
 
-    /// Takes a `(`.
+    /// Consumes a `(`.
     ///
     /// # Errors
     ///
-    /// Where a fault is shown.
+    /// Returns an error if lexing the next token fails.
     #[inline]
     pub fn lparen(self) -> Result<Option<Self>> {
         let taken = self.take(|kind| matches!(kind, TokenKind::LParen))?;
         Ok(taken.map(|(_, rest)| rest))
     }
 
-    /// Takes a `)`.
+    /// Consumes a `)`.
     ///
     /// # Errors
     ///
-    /// Where a fault is shown.
+    /// Returns an error if lexing the next token fails.
     #[inline]
     pub fn rparen(self) -> Result<Option<Self>> {
         let taken = self.take(|kind| matches!(kind, TokenKind::RParen))?;
         Ok(taken.map(|(_, rest)| rest))
     }
 
-    /// Takes an identifier, without its `$`.
+    /// Consumes an identifier and returns its name, without the `$`.
     ///
     /// # Errors
     ///
-    /// Where a fault is shown, or the identifier's name is empty or not UTF-8.
+    /// Returns an error if lexing the next token fails, if the name is empty or not UTF-8, or if an allocation fails.
     #[inline]
     pub fn id(self) -> Result<Option<(&'a str, Self)>> {
         self.take_name(|kind| matches!(kind, TokenKind::Id))
     }
 
-    /// Takes a keyword.
+    /// Consumes a keyword and returns its lexeme.
     ///
     /// # Errors
     ///
-    /// Where a fault is shown.
+    /// Returns an error if lexing the next token fails.
     #[inline(always)]
     pub fn keyword(self) -> Result<Option<(&'a str, Self)>> {
         let text = self.text();
         self.take_as(|token| matches!(token.kind, TokenKind::Keyword).then(|| token.keyword(text)))
     }
 
-    /// Takes an annotation's name, without its `@`.
+    /// Consumes an annotation and returns its name, without the `@`.
     ///
     /// # Errors
     ///
-    /// Where a fault is shown, or the annotation's name is empty or not UTF-8.
+    /// Returns an error if lexing the next token fails, if the name is empty or not UTF-8, or if an allocation fails.
     #[inline]
     pub fn annotation(self) -> Result<Option<(&'a str, Self)>> {
         self.take_name(|kind| matches!(kind, TokenKind::Annotation))
@@ -342,7 +345,7 @@ impl<'a> Cursor<'a> {
         }
     }
 
-    /// The name of an identifier or an annotation.
+    /// Returns the name of an identifier or an annotation.
     #[inline(never)]
     fn name(&self, token: Token) -> Result<&'a str> {
         let name = match token.kind {
@@ -352,11 +355,11 @@ impl<'a> Cursor<'a> {
         self.parser.keep_text(name)
     }
 
-    /// Takes a reserved token.
+    /// Consumes a reserved token and returns its lexeme.
     ///
     /// # Errors
     ///
-    /// Where a fault is shown.
+    /// Returns an error if lexing the next token fails.
     pub fn reserved(self) -> Result<Option<(&'a str, Self)>> {
         let text = self.text();
         self.take_as(|token| {
@@ -364,11 +367,11 @@ impl<'a> Cursor<'a> {
         })
     }
 
-    /// Takes an integer, in its digits.
+    /// Consumes an integer and returns its sign and digits.
     ///
     /// # Errors
     ///
-    /// Where a fault is shown.
+    /// Returns an error if lexing the next token fails, or if an allocation fails.
     pub fn integer(self) -> Result<Option<(Integer<'a>, Self)>> {
         let Some(((token, kind), rest)) = self.integer_token()? else {
             return Ok(None);
@@ -377,11 +380,11 @@ impl<'a> Cursor<'a> {
         Ok(Some((integer, rest)))
     }
 
-    /// Takes a floating-point number, in its parts.
+    /// Consumes a floating-point number and returns its parts.
     ///
     /// # Errors
     ///
-    /// Where a fault is shown.
+    /// Returns an error if lexing the next token fails, or if an allocation fails.
     pub fn float(self) -> Result<Option<(Float<'a>, Self)>> {
         let Some((token, rest)) = self.take(|kind| matches!(kind, TokenKind::Float(_)))? else {
             return Ok(None);
@@ -393,11 +396,11 @@ impl<'a> Cursor<'a> {
         Ok(Some((float.into(), rest)))
     }
 
-    /// Takes a string, as its bytes.
+    /// Consumes a string and returns its value.
     ///
     /// # Errors
     ///
-    /// Where a fault is shown.
+    /// Returns an error if lexing the next token fails, or if an allocation fails.
     pub fn string(self) -> Result<Option<(&'a [u8], Self)>> {
         let Some((token, rest)) = self.take(|kind| matches!(kind, TokenKind::String))? else {
             return Ok(None);
@@ -406,16 +409,16 @@ impl<'a> Cursor<'a> {
         Ok(Some((self.parser.keep(bytes)?, rest)))
     }
 
-    /// Takes a comment that comes directly after what was taken, or after white space there.
+    /// Consumes a comment and returns its text. Only whitespace may be between this position and the comment.
     ///
     /// # Errors
     ///
-    /// Where the text is at fault there.
+    /// Returns an error if there is a lexical error at the comment.
     pub fn comment(self) -> Result<Option<(&'a str, Self)>> {
         let buffer = self.parser.buffer;
         match buffer.comment_at(self.position.byte()) {
             Ok(Some(token)) => {
-                // What is shown after a comment is not kept.
+                // A token after a comment is not kept.
                 let end = token.offset + token.len as usize;
                 let position = self.position.next(end);
                 Ok(Some((token.src(self.text()), Cursor { position, ..self })))
@@ -426,7 +429,7 @@ impl<'a> Cursor<'a> {
     }
 }
 
-/// Whether a token is this keyword.
+/// Returns `true` if a token is this keyword.
 #[inline(always)]
 fn is_keyword(text: &str, token: Token, word: &str) -> bool {
     matches!(token.kind, TokenKind::Keyword)

@@ -4,7 +4,7 @@ use core::fmt;
 use wat_lex::shim::alloc::Global;
 use wat_lex::shim::smallvec::SmallVec;
 
-/// A series of looks at one token, with an error that names each type that was looked for and not seen.
+/// A sequence of peeks at one token, whose error names each type that was tried.
 #[derive(Debug)]
 pub struct Lookahead1<'a> {
     parser: Parser<'a>,
@@ -19,11 +19,11 @@ impl<'a> Lookahead1<'a> {
         }
     }
 
-    /// Whether the token that is shown is one with which the type begins. Where it is not, the error will name the type.
+    /// Returns `true` if the next token is one with which the type begins. Otherwise records the type for the error message.
     ///
     /// # Errors
     ///
-    /// Where a fault is shown.
+    /// Returns an error if lexing the next token fails, or if an allocation fails.
     pub fn peek<T: Peek>(&mut self) -> Result<bool> {
         if self.parser.peek::<T>()? {
             return Ok(true);
@@ -34,20 +34,20 @@ impl<'a> Lookahead1<'a> {
         }
     }
 
-    /// The parser that is looked at.
+    /// Returns the parser.
     #[must_use]
     pub fn parser(&self) -> Parser<'a> {
         self.parser
     }
 
-    /// The error that none of the types is there.
+    /// Creates an error at the next token that names the types that were tried.
     #[must_use]
     pub fn error(self) -> Error {
         self.parser.error(Expected(&self))
     }
 }
 
-/// The message of what was looked for.
+/// The error message of a [`Lookahead1`].
 struct Expected<'l, 'a>(&'l Lookahead1<'a>);
 
 impl fmt::Display for Expected<'_, '_> {
