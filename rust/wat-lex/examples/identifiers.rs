@@ -1,4 +1,4 @@
-//! Prints each identifier of the text on standard input, with its offset; a fault goes to standard error, with status 1.
+//! Prints each identifier of standard input with its offset in bytes. After a lexical error, prints it to standard error and exits with status 1.
 
 use std::io;
 use std::process::ExitCode;

@@ -1,10 +1,11 @@
-//! Lists the raw tokens of standard input as `wat_tokens` does: a line for each token, and the fault on standard error with status 1.
+//! Lists the raw tokens of standard input in the format of `wat_tokens`, one per line. After a lexical error, prints it to standard error and exits
+//! with status 1.
 
 use std::io::{self, BufWriter, Read, Write};
 use std::process::ExitCode;
 use wat_lex::{Error, Lexer};
 
-/// Writes the list, and answers the error of the fault that ends it.
+/// Writes the list, and returns the error at which it ends, if there is one.
 fn list(text: &str, out: &mut impl Write) -> io::Result<Option<Error>> {
     for token in Lexer::new(text).iter(0) {
         match token {

@@ -1,4 +1,4 @@
-//! Measures the lexer over the text of standard input: the best of some passes, by `iter` and by `parse`.
+//! Benchmarks `iter` and `parse` on the text of standard input, and prints the best of several passes.
 //!
 //! usage: speed [PASSES]
 
@@ -7,7 +7,7 @@ use std::io::{self, Read};
 use std::time::{Duration, Instant};
 use wat_lex::{Lexer, TokenKind};
 
-/// A number for each kind, so that a pass has to look at it.
+/// Returns a weight for each kind, so that a pass cannot skip the kinds.
 fn weight(kind: TokenKind) -> u64 {
     match kind {
         TokenKind::LineComment => 1,

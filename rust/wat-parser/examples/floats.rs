@@ -1,12 +1,12 @@
-//! Reads lines of a number and its bits as `F32` and as `F64`, `-` where it has none and `?` where any do, as `tools/c/floats.c` prints them;
-//! says how many there were, and ends with status 1 at the first that reads otherwise.
+//! Reads the lines that `tools/c/floats.c` prints: a number and its bits as `F32` and as `F64`, with `-` for a number that has none and `?` for any
+//! bits. Prints the number of lines, or exits with status 1 at the first difference.
 
 use std::io;
 use std::process::ExitCode;
 use wat_parser::parser::{self, Parse, ParseBuffer};
 use wat_parser::token::{F32, F64};
 
-/// The bits of a number, or `-`.
+/// Parses a number and returns its bits, or `-` after an error.
 fn bits<T: for<'a> Parse<'a>>(number: &str, bits: impl Fn(T) -> u64) -> String {
     let read = ParseBuffer::new(number).and_then(|buffer| parser::parse::<T>(&buffer));
     read.map_or("-".to_string(), |float| format!("{:x}", bits(float)))

@@ -1,4 +1,4 @@
-//! A format of one's own, read from standard input: `(recipe $bread "Bread" (flour 500) (water 350))`, where the name may be left out.
+//! Parses a custom format from standard input: `(recipe $bread "Bread" (flour 500) (water 350))`, in which the name is optional.
 
 use std::{io, process};
 use wat_parser::parser::{self, Parse, ParseBuffer, Parser, Peek, Result};

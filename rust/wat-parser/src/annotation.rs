@@ -1,4 +1,4 @@
-//! The annotations that the text format of WebAssembly modules and components knows.
+//! Types of the annotations in the text formats of WebAssembly modules and components.
 
 annotation!(custom);
 annotation!(name);

@@ -1,4 +1,4 @@
-//! Values in the binary format.
+//! Encoding of values in the binary format.
 
 use crate::proved::encode::{self as proved, EncodeError};
 use alloc::boxed::Box;
@@ -7,17 +7,17 @@ use core::mem;
 use wat_lex::shim;
 use wat_lex::shim::alloc::{AllocError, granted};
 
-/// A value that has bytes in the binary format.
+/// A value that has an encoding in the binary format.
 pub trait Encode {
-    /// Appends the value's bytes.
+    /// Appends the encoding of the value.
     fn encode(&self, bytes: &mut Vec<u8>);
 }
 
-/// Appends what a proved encoder appends.
+/// Appends the output of a verified encoder. Aborts the program if an allocation fails.
 ///
 /// # Panics
 ///
-/// Where a length is more than `u32::MAX`.
+/// Panics if a length is greater than `u32::MAX`.
 fn append(
     bytes: &mut Vec<u8>,
     encode: impl FnOnce(&mut shim::vec::Vec<u8>) -> Result<(), EncodeError>,
@@ -51,22 +51,22 @@ numbers! {
     u64
     i32
     i64
-    /// A length or an index, which the format gives 32 bits.
+    /// Encodes a length or an index, which has 32 bits in the format.
     ///
     /// # Panics
     ///
-    /// Where the number is more than `u32::MAX`.
+    /// Panics if the value is greater than `u32::MAX`.
     usize
 }
 
-/// The count of bytes, and the bytes.
+/// Encodes the number of bytes, followed by the bytes.
 impl Encode for str {
     fn encode(&self, bytes: &mut Vec<u8>) {
         append(bytes, |all| proved::encode_str(self, all));
     }
 }
 
-/// The count of items, and the items.
+/// Encodes the number of items, followed by the items.
 impl<T: Encode> Encode for [T] {
     fn encode(&self, bytes: &mut Vec<u8>) {
         self.len().encode(bytes);

@@ -1,24 +1,24 @@
-//! Identifiers that differ from each one that a text has, for items that have no name of their own.
+//! Generated identifiers, which differ from every identifier in a text, for items without a name.
 
 use crate::token::{Id, Span};
 use std::cell::Cell;
 use std::thread_local;
 
 thread_local! {
-    /// The generation of the identifier that was made last on this thread.
+    /// The generation of the identifier that this thread generated last.
     static LAST: Cell<u32> = const { Cell::new(0) };
 }
 
-/// Begins again: identifiers that are made from now on may equal ones that were made before.
+/// Resets the counter of this thread. Identifiers that are generated after that may equal earlier ones.
 pub fn reset() {
     LAST.set(0);
 }
 
-/// A new identifier. On this thread it equals no other one since the last [`reset`], and none of a text.
+/// Generates an identifier. It differs from every identifier in a text, and from all others that this thread generated since the last [`reset`].
 ///
 /// # Panics
 ///
-/// Where `u32::MAX` of them were made since the last [`reset`].
+/// Panics if this thread has generated `u32::MAX` identifiers since the last [`reset`].
 #[must_use]
 pub fn generate(span: Span) -> Id<'static> {
     let generation = LAST
@@ -31,7 +31,7 @@ pub fn generate(span: Span) -> Id<'static> {
     id
 }
 
-/// The identifier in a slot, which is a new one where the slot was empty.
+/// Returns the identifier in a slot. An empty slot is filled with a generated identifier first.
 pub fn fill<'a>(span: Span, slot: &mut Option<Id<'a>>) -> Id<'a> {
     *slot.get_or_insert_with(|| generate(span))
 }

@@ -1,4 +1,4 @@
-//! The keywords of the text formats of WebAssembly modules, components and scripts, each a type.
+//! Types of the keywords in the text formats of WebAssembly modules, components and scripts.
 
 macro_rules! keywords {
     ($($name:ident)*) => {

@@ -1,4 +1,4 @@
-//! The lexer, which is that of `wat-lex`: raw tokens, white space and comments among them.
+//! The lexer of the crate `wat-lex`, re-exported. Its tokens include whitespace and comments.
 
 pub use wat_lex::{
     Float, FloatKind, Integer, IntegerKind, LexError, Lexer, SignToken, Token, TokenKind, Tokens,

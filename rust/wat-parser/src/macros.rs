@@ -1,7 +1,7 @@
-// A type's name may be that of any variable, so the names of parameters here begin with underscores.
+// The name of a user's type may be that of any variable, so the names of parameters begin with underscores.
 
-/// Defines the type of a word, which the three macros below have in common: its name and what it derives, the word, the call that parses it
-/// with the message where it is not there, and the call that sees it with the name in messages.
+/// Defines a token type, for the three macros below. The arguments are the type's name and derived traits, the lexeme or name, the method that parses
+/// it with its error message, and the method that peeks at it with its display name.
 #[doc(hidden)]
 #[macro_export]
 macro_rules! __token_type {
@@ -28,10 +28,10 @@ macro_rules! __token_type {
     };
 }
 
-/// Defines a keyword's type: `custom_keyword!(name)`, or `custom_keyword!(name = "the-word")` where the word is no Rust name.
+/// Defines the type of a keyword: `custom_keyword!(name)`, or `custom_keyword!(name = "the-word")` if the keyword is not a Rust identifier.
 ///
-/// The type implements [`Parse`](crate::parser::Parse) and [`Peek`](crate::parser::Peek), and its field is the keyword's place. A word that
-/// does not begin with `a` to `z`, or reads as a number, is never seen, since the lexer makes no keyword of it.
+/// The type implements [`Parse`](crate::parser::Parse) and [`Peek`](crate::parser::Peek), and its field is the keyword's offset. A lexeme that does
+/// not begin with `a` to `z`, or that is a number, is never recognized, since the lexer does not classify it as a keyword.
 #[macro_export]
 macro_rules! custom_keyword {
     ($name:ident) => {
@@ -48,7 +48,7 @@ macro_rules! custom_keyword {
 
 /// Defines the type of a reserved token, such as `<=>`: `custom_reserved!(spaceship = "<=>")`.
 ///
-/// The type implements [`Parse`](crate::parser::Parse) and [`Peek`](crate::parser::Peek), and its field is the token's place.
+/// The type implements [`Parse`](crate::parser::Parse) and [`Peek`](crate::parser::Peek), and its field is the token's offset.
 #[macro_export]
 macro_rules! custom_reserved {
     ($name:ident) => {
@@ -63,11 +63,11 @@ macro_rules! custom_reserved {
     };
 }
 
-/// Defines the type of an annotation: `annotation!(producer)`, or `annotation!(name = "the.name")` where the name is no Rust name.
+/// Defines the type of an annotation: `annotation!(producer)`, or `annotation!(name = "the.name")` if the name is not a Rust identifier.
 ///
-/// The type implements [`Parse`](crate::parser::Parse) and [`Peek`](crate::parser::Peek) for the token `@name` alone, and its field is the
-/// token's place. The group `(@name ..)` is seen only while the name is registered by
-/// [`register_annotation`](crate::parser::Parser::register_annotation), which has to be so before its `(` is parsed.
+/// The type implements [`Parse`](crate::parser::Parse) and [`Peek`](crate::parser::Peek) for the token `@name` only, and its field is the token's
+/// offset. The group `(@name ..)` is visible only while the name is registered by
+/// [`register_annotation`](crate::parser::Parser::register_annotation), which must be called before the group's `(` is parsed.
 #[macro_export]
 macro_rules! annotation {
     ($name:ident) => {

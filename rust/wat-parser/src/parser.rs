@@ -271,7 +271,7 @@ impl<'a> ParseBuffer<'a> {
     /// This is the behavior of `wast`. If it is off, which is the default, visibility depends on the names that are registered at the time of the
     /// peek.
     ///
-    /// The setting applies to this buffer only. Turn it on if every result must be the same as that of `wast`.
+    /// The verified buffer has no such setting. Turn it on if every result must be the same as that of `wast`.
     pub fn keep_shown(&mut self, keep: bool) -> &mut Self {
         self.keep_shown = keep;
         self

@@ -1,4 +1,4 @@
-//! Tokens that can be parsed: identifiers, indices, numbers, strings, parentheses.
+//! Types of tokens that implement `Parse`: identifiers, indices, numbers, strings and parentheses.
 
 mod float;
 
@@ -14,19 +14,19 @@ use core::fmt;
 use core::hash::{Hash, Hasher};
 use core::str;
 
-/// An identifier: `$` and a name in a text, or one that [`gensym`](crate::gensym) made.
+/// An identifier: `$` and a name in a text, or one that [`gensym`](crate::gensym) generated.
 ///
-/// Two of them are equal where their names are, and both or neither are the same made one. Where they are does not count.
+/// Two identifiers are equal if their names and generations are equal. Their offsets are ignored.
 #[derive(Clone, Copy)]
 pub struct Id<'a> {
     name: &'a str,
-    /// Which of the made ones it is, or 0 for one of a text.
+    /// Index of a generated identifier, from 1, or 0 for an identifier in a text.
     pub(crate) generation: u32,
     span: Span,
 }
 
 impl<'a> Id<'a> {
-    /// An identifier of a text, with its name without `$`.
+    /// Creates an identifier of a text from its name, without `$`.
     #[must_use]
     pub fn new(name: &'a str, span: Span) -> Id<'a> {
         Id {
@@ -36,19 +36,19 @@ impl<'a> Id<'a> {
         }
     }
 
-    /// The name, without `$`.
+    /// Returns the name, without `$`.
     #[must_use]
     pub fn name(&self) -> &'a str {
         self.name
     }
 
-    /// Where it begins.
+    /// Returns the offset of the identifier.
     #[must_use]
     pub fn span(&self) -> Span {
         self.span
     }
 
-    /// Whether it was made and is of no text.
+    /// Returns `true` if the identifier was generated and is not part of a text.
     #[must_use]
     pub fn is_gensym(&self) -> bool {
         self.generation != 0
@@ -101,19 +101,19 @@ impl Peek for Id<'_> {
     }
 }
 
-/// What refers to an item: its number, or its identifier.
+/// A reference to an item, by its index or its identifier.
 ///
-/// Two of them are equal where their numbers or identifiers are. Where they are does not count.
+/// Two references are equal if their indices or identifiers are equal. Their offsets are ignored.
 #[derive(Clone, Copy, Debug)]
 pub enum Index<'a> {
-    /// The number of the item among those of its kind, and where it begins.
+    /// The index of the item in its index space, and the offset of the token.
     Num(u32, Span),
-    /// The item's identifier.
+    /// The identifier of the item.
     Id(Id<'a>),
 }
 
 impl Index<'_> {
-    /// Where it begins.
+    /// Returns the offset of the reference.
     #[must_use]
     pub fn span(&self) -> Span {
         match self {
@@ -122,7 +122,7 @@ impl Index<'_> {
         }
     }
 
-    /// Whether it is a number.
+    /// Returns `true` if the reference is an index.
     #[must_use]
     pub fn is_resolved(&self) -> bool {
         matches!(self, Index::Num(..))
@@ -183,9 +183,9 @@ impl Peek for Index<'_> {
 /// A group of a keyword and an index: `(func $f)`.
 #[derive(Clone, Debug)]
 pub struct ItemRef<'a, K> {
-    /// The keyword, which says of which kind the item is.
+    /// The keyword, which names the kind of the item.
     pub kind: K,
-    /// The item.
+    /// The reference to the item.
     pub idx: Index<'a>,
 }
 
@@ -200,7 +200,7 @@ impl<'a, K: Parse<'a>> Parse<'a> for ItemRef<'a, K> {
     }
 }
 
-/// Seen by its `(` and the keyword.
+/// Recognizes the `(` and the keyword.
 impl<K: Peek> Peek for ItemRef<'_, K> {
     #[inline]
     fn peek(cursor: Cursor<'_>) -> Result<bool> {
@@ -230,7 +230,7 @@ impl<'a> Parse<'a> for NameAnnotation<'a> {
     }
 }
 
-/// Read with its parentheses, where it is there and `name` is registered.
+/// Parses the group with its parentheses. Returns `None` if the next group is another one, or if `name` is not registered.
 impl<'a> Parse<'a> for Option<NameAnnotation<'a>> {
     fn parse(parser: Parser<'a>) -> Result<Self> {
         if parser.peek2::<annotation::name>()? {
@@ -287,13 +287,14 @@ macro_rules! integers {
     };
 }
 
-// Each with its greatest value, or for one with a sign with how many values of each sign it has.
+// The bound of an unsigned type is its greatest value. That of a signed type is the number of its negative values, which is also the number of its
+// other values.
 integers! {
     unsigned_value: u8 u8::MAX.into(), u16 u16::MAX.into(), u32 u32::MAX.into(), u64 u64::MAX;
     signed_value: i8 1 << 7, i16 1 << 15, i32 1 << 31, i64 1 << 63;
 }
 
-/// A string of any bytes.
+/// Parses a string of arbitrary bytes.
 impl<'a> Parse<'a> for &'a [u8] {
     fn parse(parser: Parser<'a>) -> Result<Self> {
         parser.step(|cursor| match cursor.string()? {
@@ -314,7 +315,7 @@ impl Peek for &[u8] {
     }
 }
 
-/// A string that is UTF-8.
+/// Parses a string that is UTF-8.
 impl<'a> Parse<'a> for &'a str {
     fn parse(parser: Parser<'a>) -> Result<Self> {
         let bytes: &[u8] = parser.parse()?;
@@ -340,7 +341,7 @@ impl<'a> Parse<'a> for String {
     }
 }
 
-/// A type to look for a `(` with.
+/// A type for a peek at a `(`.
 #[derive(Debug)]
 pub struct LParen {
     _private: (),
@@ -357,7 +358,7 @@ impl Peek for LParen {
     }
 }
 
-/// A type to look for a `)` with.
+/// A type for a peek at a `)`.
 #[derive(Debug)]
 pub struct RParen {
     _private: (),

@@ -4,15 +4,15 @@ use core::cell::{Cell, OnceCell};
 use core::{iter, slice, str};
 use wat_lex::shim::alloc::AllocError;
 
-/// Bytes that live as long as this does, added one after the other through a shared reference.
+/// An append-only storage of byte strings. Strings are added through a shared reference, and live as long as the storage.
 ///
-/// Short ones are in cells of their size or a little more, and a longer one has an allocation of its own.
+/// A string of up to 63 bytes is in a cell of its length or slightly more. A longer one has a separate allocation.
 #[derive(Default)]
 pub struct Strings {
     sizes: OnceCell<Box<[Sizes]>>,
 }
 
-/// Each byte, at its place.
+/// Each byte at the index of its value.
 static BYTES: [u8; 256] = {
     let mut bytes = [0; 256];
     let mut i = 0;
@@ -23,7 +23,7 @@ static BYTES: [u8; 256] = {
     bytes
 };
 
-/// These bytes where the program has them itself: one byte at most, and what each module in binary begins with, its magic number and its version.
+/// Returns a static copy of the bytes, if there is one: for a string of at most 1 byte, and for the magic number and the version of a binary module.
 fn known(bytes: &[u8]) -> Option<&'static [u8]> {
     match bytes {
         [] => Some(&[]),
@@ -34,7 +34,7 @@ fn known(bytes: &[u8]) -> Option<&'static [u8]> {
     }
 }
 
-/// The cells by their bytes; one byte more says whether a cell is set.
+/// The cells by their capacity in bytes. Each has 1 more byte that records if the cell is set.
 #[derive(Default)]
 struct Sizes {
     of_2: Cells<[u8; 2]>,
@@ -58,7 +58,7 @@ struct Sizes {
 }
 
 impl Strings {
-    /// Keeps the bytes.
+    /// Stores a copy of the bytes.
     pub fn keep(&self, bytes: &[u8]) -> Result<&[u8], AllocError> {
         if let Some(known) = known(bytes) {
             return Ok(known);
@@ -93,12 +93,12 @@ impl Strings {
         }
     }
 
-    /// Keeps a text.
+    /// Stores a copy of a string.
     pub fn keep_text(&self, text: &str) -> Result<&str, AllocError> {
         Ok(str::from_utf8(self.keep(text.as_bytes())?).expect("a text is UTF-8"))
     }
 
-    /// Most texts have no string to keep, and take no memory for it.
+    /// Returns the cells, which are allocated on first use: most texts have no string to store.
     fn sizes(&self) -> Result<&Sizes, AllocError> {
         if let Some(sizes) = self.sizes.get() {
             return Ok(&sizes[0]);
@@ -108,20 +108,20 @@ impl Strings {
     }
 }
 
-/// Cells in blocks, each a quarter longer than the one before, so that none of them ever moves, and few are not set at the end.
+/// A list of cells in blocks. Each block has a quarter more cells than the one before it, so cells never move, and few are unused at the end.
 struct Cells<T> {
     blocks: OnceCell<Box<[Block<T>]>>,
-    /// The block that has cells which are not set, and how many are.
+    /// Index of the last block; `set` is the number of its cells that are set.
     last: Cell<usize>,
     set: Cell<usize>,
 }
 
 type Block<T> = OnceCell<Box<[OnceCell<T>]>>;
 
-/// Together they have more cells than the longest text has strings.
+/// Maximum number of blocks. Together they have more cells than the longest text has strings.
 const BLOCKS: usize = 80;
 
-/// How many cells the first block has.
+/// Number of cells in the first block.
 const FIRST: usize = 16;
 
 impl<T> Default for Cells<T> {
@@ -146,7 +146,7 @@ impl<T> Cells<T> {
         Ok(cell.get_or_init(|| item))
     }
 
-    /// The first cell of a new block after the one that is full.
+    /// Allocates the next block and returns its first cell. `full` is the number of cells of the block before it.
     #[cold]
     fn block_after(&self, full: Option<usize>) -> Result<&OnceCell<T>, AllocError> {
         if self.blocks.get().is_none() {

@@ -2,22 +2,22 @@ use crate::floats::{f32_bits, f64_bits};
 use crate::parser::{Parse, Parser, Result, unless_refused};
 use wat_lex::shim::alloc::{AllocError, Global};
 
-/// The bits of a 32-bit floating-point number. Two of them are equal where all bits are.
+/// The bits of a 32-bit floating-point number. Two values are equal if all bits are equal.
 #[derive(Clone, Copy, Debug, PartialEq, Eq, Hash)]
 pub struct F32 {
-    /// Sign, exponent and significand, as IEEE 754 lays them.
+    /// Sign, exponent and significand in the format of IEEE 754.
     pub bits: u32,
 }
 
-/// The bits of a 64-bit floating-point number. Two of them are equal where all bits are.
+/// The bits of a 64-bit floating-point number. Two values are equal if all bits are equal.
 #[derive(Clone, Copy, Debug, PartialEq, Eq, Hash)]
 pub struct F64 {
-    /// Sign, exponent and significand, as IEEE 754 lays them.
+    /// Sign, exponent and significand in the format of IEEE 754.
     pub bits: u64,
 }
 
-/// A number of a text, rounded to the nearest of the format, of two equally near the even one. One that rounds to infinity is refused, and so
-/// is a NaN's payload that is 0 or does not fit.
+/// Parses a literal and rounds it to the nearest value, with ties to even. Returns an error if the literal rounds to infinity, or if the payload of a
+/// NaN is 0 or does not fit.
 impl<'a> Parse<'a> for F32 {
     fn parse(parser: Parser<'a>) -> Result<Self> {
         let bits = number(parser, |word| f32_bits(Global, word))?;
@@ -25,7 +25,8 @@ impl<'a> Parse<'a> for F32 {
     }
 }
 
-/// As [`F32`].
+/// Parses a literal and rounds it to the nearest value, with ties to even. Returns an error if the literal rounds to infinity, or if the payload of a
+/// NaN is 0 or does not fit.
 impl<'a> Parse<'a> for F64 {
     fn parse(parser: Parser<'a>) -> Result<Self> {
         let bits = number(parser, |word| f64_bits(Global, word))?;
@@ -33,7 +34,7 @@ impl<'a> Parse<'a> for F64 {
     }
 }
 
-/// Takes a number, as the bits of its word.
+/// Consumes a float or an integer and returns its bits.
 fn number<'a, B>(
     parser: Parser<'a>,
     bits: impl FnOnce(&'a str) -> Result<Option<B>, AllocError>,
