@@ -1,4 +1,4 @@
-//! The stored texts, each with the list of its tokens that a program over the crate `wast` prints; and texts at the limits.
+//! Golden tests: each stored text with the token list of a program that uses the crate `wast`. Also tests of texts at the limits.
 
 use std::fmt::Write;
 use std::fs;
@@ -14,7 +14,7 @@ fn list(lexer: &Lexer<'_>) -> String {
     lines
 }
 
-/// `iter` and `parse` give what the proved lexer finds, and the readers read each token.
+/// Checks that `iter` and `parse` return what the verified lexer finds, and that the accessors accept each token.
 fn read_each(lexer: &Lexer<'_>) {
     let (text, mut pos) = (lexer.input(), 0);
     for item in lexer.iter(0) {

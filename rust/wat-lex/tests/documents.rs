@@ -1,4 +1,4 @@
-//! Texts that are edited: after each edit a document has what a whole read of its text has.
+//! Edits of documents: after each edit, a document equals one that is created from the new text.
 
 mod texts;
 
@@ -7,7 +7,7 @@ use std::ops::Range;
 use texts::Random;
 use wat_lex::{Change, Document, LexError, Lexer, LineIndex, Piece, Span, TokenKind};
 
-/// The pieces of a text, each found by itself.
+/// Lexes a text and returns its pieces, each found by a separate call.
 fn whole(lexer: &Lexer<'_>) -> Vec<Piece> {
     let mut at = 0;
     let next = || {
@@ -22,7 +22,7 @@ fn whole(lexer: &Lexer<'_>) -> Vec<Piece> {
     iter::from_fn(next).collect()
 }
 
-/// A piece by its place from the text's end.
+/// Describes a piece by its offset from the end of the text, its length, its kind and its error.
 fn from_end(piece: Piece, text: &str) -> (usize, usize, Option<TokenKind>, Option<LexError>) {
     let kind = piece.token().map(|token| token.kind);
     let error = piece.fault().map(|fault| fault.error);
@@ -34,12 +34,12 @@ fn from_end(piece: Piece, text: &str) -> (usize, usize, Option<TokenKind>, Optio
     )
 }
 
-/// A document beside its text, which the test edits itself.
+/// A document with a copy of its text, to which the test applies the same edits.
 struct Pair {
     document: Document,
     text: String,
     pieces: Vec<Piece>,
-    /// Bytes that were read again, by the pieces that are new.
+    /// Number of bytes that were lexed again, counted as the lengths of the new pieces.
     read: usize,
 }
 
@@ -64,7 +64,7 @@ impl Pair {
         self.pieces = pieces;
     }
 
-    /// The pieces of the text, after all that a document answers was compared with a whole read.
+    /// Compares the document with the result of lexing the whole text, and returns the pieces.
     fn compare(&self) -> Vec<Piece> {
         let (document, text) = (&self.document, &self.text);
         assert_eq!(document.text(), text);
@@ -81,7 +81,7 @@ impl Pair {
         pieces
     }
 
-    /// The pieces that were not read again are those that were there.
+    /// Checks that the pieces outside the reported change are the old ones.
     fn compare_change(&mut self, change: Change, text: &str, pieces: &[Piece]) {
         let Change {
             first,
@@ -128,13 +128,13 @@ impl Pair {
     }
 }
 
-/// A place from a byte on at which a character begins or the text ends.
+/// Returns the first char boundary at or after `from`.
 fn place(text: &str, from: usize) -> usize {
     let mut places = from.min(text.len())..=text.len();
     places.find(|at| text.is_char_boundary(*at)).unwrap()
 }
 
-/// Bytes of a text, mostly few.
+/// Returns a random range of char boundaries, usually a short one.
 fn range_of(text: &str, random: &mut Random) -> Range<usize> {
     let start = place(text, random.below(text.len() + 1));
     let most = if random.below(8) == 0 {
@@ -145,7 +145,8 @@ fn range_of(text: &str, random: &mut Random) -> Range<usize> {
     start..place(text, start + random.below(most))
 }
 
-/// So many random edits of texts, each compared with a whole read; how many bytes of all were read again, of a thousand.
+/// Applies `count` random edits and compares the document with lexing the whole text after each. Returns the number of bytes that were lexed again
+/// per 1000 bytes of text.
 fn edits(seed: u64, count: usize, parts: usize) -> usize {
     let mut random = Random(seed);
     let (mut pair, mut read, mut bytes) = (Pair::new(String::new(), false), 0, 0);

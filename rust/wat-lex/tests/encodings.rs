@@ -1,4 +1,4 @@
-//! The bytes of values in the binary format, and what a buffer holds after a value that has none.
+//! Encodings of values in the binary format, and the contents of a buffer after a value that has no encoding.
 
 mod refusing;
 
@@ -9,7 +9,7 @@ use wat_lex::shim::boxed::Box;
 use wat_lex::shim::string::String;
 use wat_lex::shim::vec::Vec;
 
-/// A buffer that holds a byte.
+/// Creates a buffer with one byte.
 fn buffer() -> Vec<u8> {
     vec![0xff].into()
 }
@@ -82,7 +82,7 @@ fn long_texts_and_lists_are_written_after_their_length() {
     assert!(*of_text == wanted && *of_list == wanted);
 }
 
-/// The least and the greatest length that the format has no bytes for.
+/// The smallest and the largest length that have no encoding.
 #[cfg(target_pointer_width = "64")]
 const TOO_LONG: [usize; 2] = [1 << 32, usize::MAX];
 

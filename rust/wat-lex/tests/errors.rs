@@ -1,6 +1,6 @@
-//! What errors answer and print, and what they are where memory is refused.
+//! Methods and messages of errors, with and without allocation failures.
 
-// What is compared is passed by value.
+// Compared values are passed by value.
 #![allow(clippy::needless_pass_by_value)]
 
 mod refusing;
@@ -36,7 +36,7 @@ fn of_fault(offset: usize, text: &str, fault: LexError) -> Error {
     Error::lex(Global, Span::from_offset(offset), text, fault)
 }
 
-/// An error that was given texts, one after another.
+/// Calls `set_text` of an error with each of several texts.
 fn given(mut error: Error, texts: &[&str]) -> Error {
     for text in texts {
         error.set_text(Global, text).unwrap();
@@ -44,7 +44,7 @@ fn given(mut error: Error, texts: &[&str]) -> Error {
     error
 }
 
-/// The error is at this place, has this message, and prints this.
+/// Checks the offset, the message and the printed text of an error.
 fn answers(error: Error, offset: usize, message: &str, printed: &str) {
     assert_eq!(error.to_string(), printed);
     assert_eq!(*error.message(Global).unwrap(), *message, "{printed}");
@@ -88,7 +88,7 @@ fn only_a_fault_is_one_of_the_lexer() {
     assert_eq!(Error::out_of_memory().lex_error(), None);
 }
 
-/// A width or a precision of the hole changes nothing of what is printed.
+/// Checks that a width or a precision in the format string does not change the output.
 fn is_never_padded(value: &dyn Display) {
     let printed = value.to_string();
     assert_eq!(format!("{value:>99}"), printed);

@@ -1,6 +1,6 @@
-//! Places, identifiers, indices, and identifiers that a program makes.
+//! Spans, identifiers, indices, and generated identifiers.
 
-// Places of one text have names that are alike.
+// Offsets in one text have similar names.
 #![allow(clippy::similar_names)]
 
 mod refusing;
@@ -21,7 +21,7 @@ fn owned<'a>(name: &str, span: Span) -> Id<'a> {
     Id::from_cow(CowStr::Owned(name.to_string().into()), span)
 }
 
-/// The first identifier that a program makes.
+/// Returns the first identifier that a new generator creates.
 fn made<'a>(span: Span) -> Id<'a> {
     Gensym::new().generate(span).unwrap()
 }
@@ -32,7 +32,7 @@ fn hash_of(value: &impl Hash) -> u64 {
     hasher.finish()
 }
 
-/// The values and their hashes are equal, or neither is.
+/// Checks that two values and their hashes are equal if `equal`, and that both differ otherwise.
 fn are_equal_if<T: Hash + PartialEq + Debug>(equal: bool, a: &T, b: &T) {
     assert_eq!(a == b, equal, "{a:?} {b:?}");
     assert_eq!(hash_of(a) == hash_of(b), equal, "{a:?} {b:?}");
@@ -49,7 +49,7 @@ fn places_are_ordered_by_their_offsets() {
     }
 }
 
-/// Line and column of a place of a text.
+/// Returns the line and the column of an offset, after comparing `linecol_in` with a `LineIndex`.
 fn place(text: &str, offset: usize) -> (usize, usize) {
     let place = at(offset).linecol_in(text);
     let lines = LineIndex::new(Global, text).unwrap();
@@ -68,7 +68,7 @@ fn places_are_lines_and_columns() {
     assert_eq!([0, usize::MAX].map(|offset| place("", offset)), [(0, 0); 2]);
 }
 
-/// Line and column of a place, the column in code units of UTF-16 as Rust counts them.
+/// Computes the line and the column of an offset in UTF-16 code units with Rust's `len_utf16`.
 fn utf16_place(text: &str, offset: usize) -> (usize, usize) {
     let (line, column) = place(text, offset);
     let start = offset - column;
@@ -147,7 +147,7 @@ fn identifiers_are_equal_at_any_place() {
             Id::new("y", span),
         ]
     };
-    // The first two are equal, and no others.
+    // Only the first two are equal.
     for (number, near) in ids(at(0)).iter().enumerate() {
         for (other, far) in ids(at(9)).iter().enumerate() {
             are_equal_if(number.max(1) == other.max(1), near, far);

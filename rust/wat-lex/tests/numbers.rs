@@ -1,6 +1,6 @@
-//! The number words of `tests/numbers.txt`, and words that are nearly numbers, each with what it is and reads as.
+//! The lexemes of `tests/numbers.txt`, numbers and near misses, each with its kind and parts.
 
-// Fields are optional.
+// Parts are optional.
 #![allow(clippy::ref_option)]
 
 use wat_lex::proved::lexer::{Float, Lexer, Token, TokenKind};
@@ -9,7 +9,7 @@ use wat_lex::shim::borrow::CowStr;
 
 const WORDS: &str = include_str!("../../../tests/numbers.txt");
 
-/// What may follow a word: nothing, and what ends a block of 16 bytes after it or goes on past its end.
+/// Texts that may follow a lexeme: none, one that ends a block of 16 bytes after it, and one that extends past the block.
 const FOLLOWING: [&str; 3] = ["", " ", ")5.5e5 and some bytes more"];
 
 fn part<'a>(digits: &'a Option<CowStr<'_>>) -> &'a str {
@@ -37,8 +37,8 @@ fn shown_float(float: Float<'_>) -> String {
     }
 }
 
-/// What a word is, as the table has it: the base and the digits of an integer; the base of a float, its digits before and after the dot and those
-/// of its exponent, where `_` is for none; the payload of a `nan`.
+/// Describes a token as the table does: base and digits of an integer; base, digits before and after the dot and exponent of a float, with `_` for a
+/// missing part; payload of a `nan`.
 fn shown(token: Token, text: &str) -> String {
     match token.kind {
         TokenKind::Integer(kind) => {

@@ -1,6 +1,6 @@
-//! Random texts, of which the layer answers what the proved lexer and its readers do.
+//! Differential fuzzing of the layer against the verified lexer and its accessors, on random texts.
 
-// What is compared is passed by value.
+// Compared values are passed by value.
 #![allow(clippy::needless_pass_by_value)]
 
 use std::borrow::Cow;
@@ -16,13 +16,13 @@ const PIECES: [&str; 40] = [
     "module", "$x", "@name", "\"ab\"", "$\"", "@\"", "\\ff", "\\61", ",", "\u{0}",
 ];
 
-/// Elements of a name, most of which are bytes of characters.
+/// Elements of a name. Most are single bytes of multi-byte characters.
 const ELEMENTS: [&str; 16] = [
     "a", "é", "\\t", "\\u{e9}", "\\61", "\\80", "\\90", "\\98", "\\9f", "\\a0", "\\a9", "\\c3",
     "\\e2", "\\ed", "\\f0", "\\f4",
 ];
 
-/// Random numbers below a count.
+/// A pseudorandom number generator with a fixed seed.
 struct Random(u64);
 
 impl Random {
@@ -48,7 +48,7 @@ impl Random {
     }
 }
 
-/// A text, and whether it is borrowed.
+/// Returns a string, and `true` if it is borrowed.
 fn shown(text: Cow<'_, str>) -> (bool, String) {
     (matches!(text, Cow::Borrowed(_)), text.into_owned())
 }
@@ -64,7 +64,7 @@ fn compare_names(ours: Result<Cow<'_, str>, Error>, theirs: Result<CowStr<'_>, P
     );
 }
 
-/// The calls that test a name without memory answer as the one that makes it. Whether it is right.
+/// Checks that the functions that test a name without allocating return the same as the one that decodes it. Returns `true` if the name is valid.
 fn compare_name(token: proved::Token, text: &str) -> bool {
     let name = token.name(Global, text).unwrap();
     assert_eq!(
@@ -134,7 +134,7 @@ fn compare_values(token: Token, found: proved::Token, text: &str) {
     }
 }
 
-/// How many tokens a text has, and whether a fault.
+/// Compares both lexers on a text. Returns the number of tokens, and `true` if the text has a lexical error.
 fn compare(lexer: &Lexer<'_>) -> (usize, bool) {
     let (text, proved) = (lexer.input(), lexer.proved().unwrap());
     let (mut tokens, mut pos, mut count) = (lexer.iter(0), 0, 0);

@@ -1,11 +1,11 @@
-//! Where tokens are read again after a fault: cases of each rule, and random texts against the rules as they are written.
+//! Error recovery: cases of each rule, and random texts compared with a direct implementation of the rules.
 
 mod texts;
 
 use texts::Random;
 use wat_lex::{LexError, Lexer, Piece};
 
-/// What each piece has of the text, a fault's in `<>`.
+/// Returns the source of each piece, that of a lexical error in `<>`.
 fn shown(text: &str) -> Vec<String> {
     let pieces = Lexer::new(text).pieces(0).unwrap();
     pieces
@@ -21,12 +21,12 @@ fn each_fault_covers_what_its_rule_says() {
     let rows: [(&str, &[&str]); 24] = [
         ("", &[]),
         ("(func $f)", &["(", "func", " ", "$f", ")"]),
-        // A character with which no token begins.
+        // A character that begins no token.
         (
             "a é漢\u{0} b",
             &["a", " ", "<é>", "<漢>", "<\u{0}>", " ", "b"],
         ),
-        // A block comment that nothing closes.
+        // An unclosed block comment.
         ("(; a (func)", &["<(;>", " ", "a", " ", "(", "func", ")"]),
         ("(; (; ;) a", &["<(;>", " ", "(; ;)", " ", "a"]),
         (
@@ -38,7 +38,7 @@ fn each_fault_covers_what_its_rule_says() {
         // A confusing character in a comment.
         (";; \u{202e} x\na", &["<;; \u{202e} x>", "\n", "a"]),
         ("(; \u{202e} (; ;) ;)a", &["<(; \u{202e} (; ;) ;)>", "a"]),
-        // A string: to its end in the line, or to the line's end.
+        // A string: up to its end in the line, or up to the end of the line.
         ("\"a\\q\" b", &["<\"a\\q\">", " ", "b"]),
         ("\"a\\q\"b\"c\"", &["<\"a\\q\">", "b\"c\""]),
         (
@@ -56,7 +56,7 @@ fn each_fault_covers_what_its_rule_says() {
         ("\"\\q\\\\\" c\"", &["<\"\\q\\\\\">", " ", "<c\">"]),
         ("\"\\\nb", &["<\"\\>", "\n", "b"]),
         ("\"\\", &["<\"\\>"]),
-        // The run that the string is in.
+        // The run that contains the string.
         ("a$\"b\"c\"d", &["<a$\"b\"c\"d>"]),
         ("a\"\\\"\"b\"\\q\"c", &["<a\"\\\"\"b\"\\q\">", "c"]),
         ("\"\\u{11\" a\"b\"", &["<\"\\u{11\">", " ", "a\"b\""]),
@@ -97,7 +97,7 @@ fn a_place_inside_a_character_is_none() {
     let _ = Lexer::new("é").resume(1);
 }
 
-/// Where the first string ends that has a fault, of the run at the start of a text, by trying each string by itself.
+/// Returns the end of the first string with an error in the run at the start of a text, by lexing each string separately.
 fn run_end(text: &str, lexer: &Lexer<'_>) -> usize {
     let mut end = 0;
     loop {
@@ -126,7 +126,7 @@ fn naive_string_end(text: &str, from: usize) -> usize {
     text.len()
 }
 
-/// Where the rule says that the fault at a byte ends.
+/// Returns the end of the lexical error at `pos` according to the rules.
 fn wanted_end(text: &str, lexer: &Lexer<'_>, pos: usize) -> usize {
     let rest = &text[pos..];
     if rest.starts_with(";;") || rest.starts_with("(;") {
@@ -141,7 +141,7 @@ fn wanted_end(text: &str, lexer: &Lexer<'_>, pos: usize) -> usize {
     }
 }
 
-/// What the tests count, so that none of them is empty.
+/// Counts of the texts, tokens and errors that were tested, to check that no kind is missing.
 #[derive(Debug, Default)]
 struct Counts {
     whole: usize,
@@ -216,7 +216,7 @@ fn pieces_are_tokens_and_what_faults_cover() {
     );
 }
 
-/// Each comment that nothing closes would else be looked through to the text's end.
+/// Checks that unclosed comments are not each searched up to the end of the text.
 #[test]
 fn many_open_comments_are_passed_over_at_once() {
     let text = "(;a".repeat(300_000);

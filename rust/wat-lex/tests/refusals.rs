@@ -1,4 +1,4 @@
-//! What the layer answers where a request for memory is refused: an error where the answer has place for one, else the program ends.
+//! Allocation-failure injection in the layer: a function that returns a `Result` returns an error, and any other aborts the program.
 
 mod refusing;
 
@@ -11,7 +11,7 @@ fn first(text: &str) -> Token {
     Lexer::new(text).parse(&mut 0).unwrap().unwrap()
 }
 
-/// The errors of a call that is refused its requests after the first, the second and so on, up to the one that is refused none.
+/// Calls a function with 0, 1, 2, .. successful allocations until no allocation fails, and returns the errors.
 fn errors_of_refusals<T>(call: impl Fn() -> Result<T, Error>) -> Vec<Error> {
     let mut errors = Vec::new();
     loop {
@@ -87,7 +87,7 @@ fn what_is_plain_takes_no_memory() {
     assert!(sum > text.len() / 2);
 }
 
-/// Calls whose answer has no place for an error.
+/// Calls a function that cannot return an error.
 fn call(name: &str) {
     let mut error = Error::new(Span::from_offset(1), "a message".to_string());
     match name {

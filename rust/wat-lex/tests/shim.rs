@@ -1,6 +1,6 @@
-//! What the shim answers, and what it leaves where a request for memory is refused: each request in turn.
+//! Results of the shim, and the state of its values after an allocation failure. Each allocation fails in turn.
 
-// A test whose requests are refused without end is stopped.
+// A test whose allocations fail forever is stopped.
 #![allow(clippy::maybe_infinite_iter)]
 
 mod refusing;
@@ -187,7 +187,7 @@ fn texts_are_joined_or_refused() {
     );
 }
 
-/// Counts itself where it is dropped.
+/// A value that counts its drops.
 #[derive(Debug)]
 struct Counted<'a>(&'a Cell<usize>);
 
@@ -266,16 +266,16 @@ fn a_map_is_as_it_was_where_a_pair_is_refused() {
 
 #[test]
 fn a_map_is_as_it_was_where_any_of_its_requests_is_refused() {
-    // So many keys, one that is inserted, and how many requests it makes.
+    // The number of keys, a key to insert, and the number of allocations of the insertion.
     for (count, key, requests) in [
         (0u64, 1, 1),
-        // Of the first numbers.
+        // The first leads are recorded.
         (8, 1, 2),
         (9, 1, 1),
         (16, 1, 1),
         (18, 1, 1),
         (32, 1, 1),
-        // A part is split: the first, one that finds room, and one that does not.
+        // A part is split: the first part, one for which the list of parts has capacity, and one for which it has not.
         (512, 1, 4),
         (512, 1023, 4),
         (896, 1791, 2),
@@ -287,7 +287,7 @@ fn a_map_is_as_it_was_where_any_of_its_requests_is_refused() {
     }
 }
 
-/// Whether a map of so many even keys, which is given an odd one, has a request refused where so many are granted.
+/// Inserts an odd key into a map of `count` even keys, with `granted` successful allocations. Returns `true` if the insertion fails.
 fn is_refused(count: u64, key: u64, granted: usize) -> bool {
     let mut map = BTreeMap::new(Global);
     for key in 0..count {
@@ -357,9 +357,9 @@ fn a_map_answers_as_that_of_rust() {
         compare_maps(keys, |key| {
             vec_of_bytes(&key.to_le_bytes()[..below(9, key)])
         });
-        // The first keys of many parts have the same number.
+        // The first keys of many parts have the same lead.
         compare_maps(keys, |key| text(&format!("{}_function_{key}", key % 3)));
-        // All but few begin with few bytes, with many or with zeros.
+        // All keys except a few begin with few bytes, with many, or with zeros.
         for prefix in ["f", "a_function_of_", "\0\0\0"] {
             compare_maps(keys, |key| match key {
                 0..8 => text(&prefix[..below(8, key).min(prefix.len())]),
@@ -370,7 +370,7 @@ fn a_map_answers_as_that_of_rust() {
     }
 }
 
-/// A number below another one, by a key.
+/// Returns an integer less than `most` that depends on the key.
 fn below(most: u64, key: u64) -> usize {
     usize::try_from(key % most).unwrap()
 }
@@ -385,7 +385,7 @@ fn vec_of_bytes(bytes: &[u8]) -> Vec<u8> {
     all
 }
 
-/// Changes maps at random, by so many keys.
+/// Changes a map and Rust's own at random, with `keys` different keys, and compares them.
 fn compare_maps<K: Key + std::fmt::Debug>(keys: u64, key_of: impl Fn(u64) -> K) {
     let (mut ours, mut theirs) = (BTreeMap::new(Global), StdMap::new());
     let mut random = 1u64;
@@ -412,7 +412,7 @@ fn compare_maps<K: Key + std::fmt::Debug>(keys: u64, key_of: impl Fn(u64) -> K) 
     assert!(ours.keys().eq(theirs.keys()));
 }
 
-/// Texts of characters that are measured together, among those that are not.
+/// Returns a random text in which some characters combine with their neighbors.
 fn measured_text(random: &mut u64, count: usize) -> std::string::String {
     const PIECES: [&str; 14] = [
         "a",
@@ -465,7 +465,7 @@ fn characters_have_the_width_of_their_text() {
     );
 }
 
-/// What is read of a text, from the lexer up to the printed error; `None` where memory was refused.
+/// Checks that a numeral is the longest prefix of a text.
 #[test]
 fn a_numeral_is_the_longest_at_the_start() {
     for (text, wanted) in [
@@ -524,7 +524,7 @@ fn read_all(text: &str) -> Option<std::vec::Vec<std::string::String>> {
         Some(error) => Some(error.message(Global).ok()?),
         None => None,
     };
-    // What the test itself takes is granted.
+    // The allocations of the test itself succeed.
     refusing::grant_all();
     let (printed, message) = (
         error.map(|error| error.to_string()),

@@ -1,4 +1,4 @@
-//! The stored texts: each has the tokens, or the fault, that its list says, which a program over the crate `wast` made.
+//! Golden tests: each stored text has the tokens of its list, which a program that uses the crate `wast` generated.
 
 use std::fmt::Write;
 use std::fs;
@@ -10,20 +10,20 @@ fn folder() -> PathBuf {
     Path::new(env!("CARGO_MANIFEST_DIR")).join("../../crates/wat_tokens/agreement")
 }
 
-/// The file with an ending more.
+/// Returns the path with `ending` appended.
 fn beside(path: &Path, ending: &str) -> PathBuf {
     let mut name = path.as_os_str().to_owned();
     name.push(ending);
     name.into()
 }
 
-/// The name of a token's kind, without what it says of a number.
+/// Returns the name of a token's kind, without the sign and the base of a number.
 fn kind_of(token: &Token) -> String {
     let shown = format!("{:?}", token.kind);
     shown.split(['(', ' ']).next().unwrap().to_owned()
 }
 
-/// The list of a text, as `wat_tokens` prints it: its tokens, up to the first fault, and that as it is printed.
+/// Lists the tokens of a text in the format of `wat_tokens`, up to the first lexical error. Returns the list and the printed error.
 fn list(text: &str, allow: bool) -> (String, Option<String>) {
     let mut lexer = Lexer::new(text);
     lexer.allow_confusing_unicode(allow);
@@ -40,7 +40,7 @@ fn list(text: &str, allow: bool) -> (String, Option<String>) {
     (lines, None)
 }
 
-/// Each stored text whose list has tokens alone, with its flag and its list.
+/// Returns each stored text that is lexed without arguments or with `--allow-confusing` only, and `true` for the latter.
 fn plain_lists() -> Vec<(PathBuf, bool)> {
     let mut found = Vec::new();
     for entry in fs::read_dir(folder()).unwrap() {
@@ -78,7 +78,7 @@ fn stored_texts_are_listed_as_they_are_stored() {
     assert!(texts.len() >= 240, "{}", texts.len());
 }
 
-/// Both ways of scanning answer the same from the start of a text to its end or its first fault.
+/// Checks that both scanners find the same tokens up to the end of the text or the first lexical error. Returns the number of tokens.
 fn scan_both_ways(text: &str) -> usize {
     let lexer = Lexer::new(text);
     let (mut pos, mut tokens) = (0, 0);

@@ -1,9 +1,9 @@
-//! Tokens that are read one after another, and strings and texts that are long.
+//! Sequences of tokens, and long strings and texts.
 
 use wat_lex::proved::lexer::{LexError, Lexer, Token, TokenKind};
 use wat_lex::shim::alloc::Global;
 
-/// The text of each token, and the name of each identifier.
+/// Returns the source of each token, followed by the name if it is an identifier.
 fn texts_and_names(text: &str) -> Vec<String> {
     let lexer = Lexer::new(text);
     let mut shown = Vec::new();
@@ -53,7 +53,7 @@ fn a_token_has_16_bytes() {
     assert_eq!(size_of::<Token>(), 16);
 }
 
-/// No proof bounds time and stack.
+/// Checks deep nesting, as no proof bounds time or stack.
 #[test]
 fn groups_may_be_deep() {
     let text = "(".repeat(1_000_000);

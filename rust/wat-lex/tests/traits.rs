@@ -1,4 +1,4 @@
-//! What a caller's generic code asks of the types, and their sizes.
+//! Traits of the public types that generic code requires, and the sizes of the types.
 
 use std::collections::HashSet;
 use std::error::Error as StdError;
@@ -68,7 +68,7 @@ fn hash(of: impl Hash) -> u64 {
     hasher.finish()
 }
 
-/// Values that are equal have equal hashes, and those of these texts that differ have others.
+/// Checks that values are equal if and only if their hashes are.
 fn is_key<T: Eq + Hash + Debug>(values: &[T]) {
     for (i, a) in values.iter().enumerate() {
         for (j, b) in values.iter().enumerate() {

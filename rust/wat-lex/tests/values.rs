@@ -1,4 +1,4 @@
-//! What the readers answer, with values from outside.
+//! Values of tokens, and methods of errors and spans, compared with expected results.
 
 use std::borrow::Cow;
 use std::ffi::OsStr;
@@ -296,7 +296,7 @@ fn places() {
     assert_eq!(Span::from_offset(9).linecol_in("a\nb"), (2, 0));
 }
 
-/// Readers refuse a token of another kind, and one that is outside of the text.
+/// Checks that accessors panic for a token of another kind, and for one that is not inside the text.
 #[test]
 fn a_token_of_another_kind_is_not_read() {
     let panics = |read: &dyn Fn()| catch_unwind(AssertUnwindSafe(read)).is_err();
@@ -333,7 +333,7 @@ fn a_token_of_another_kind_is_not_read() {
     }
 }
 
-/// Readers of numbers refuse a number of another kind.
+/// Checks that accessors of numbers panic for a number of another kind.
 #[test]
 fn a_number_of_another_kind_is_not_read() {
     let panics = |read: &dyn Fn()| catch_unwind(AssertUnwindSafe(read)).is_err();
@@ -353,7 +353,7 @@ fn a_number_of_another_kind_is_not_read() {
     assert!(panics(&|| drop(first("inf").float("inf", kind))));
 }
 
-/// A token of a text that only some settings take is read, as readers take most.
+/// Checks that accessors accept a token that the lexer finds only with other settings.
 #[test]
 fn a_token_of_any_settings_is_read() {
     let text = "\"\u{202e}\"";
@@ -392,7 +392,7 @@ fn errors_are_equal_where_they_print_the_same() {
     assert_ne!(fault("\""), custom);
 }
 
-/// A text of more than `u32::MAX` bytes, most of which are never written.
+/// Checks the errors for a text of more than `u32::MAX` bytes, most of which are never written.
 #[cfg(target_pointer_width = "64")]
 #[test]
 fn a_text_that_is_too_long_is_refused() {

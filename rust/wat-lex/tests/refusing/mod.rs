@@ -1,12 +1,12 @@
-//! Requests for memory that are refused.
-// Each of the tests uses a part of it.
+//! Allocation-failure injection.
+// Each test file uses a part of the module.
 #![allow(dead_code)]
 
 use std::alloc::{GlobalAlloc, Layout, System};
 use std::cell::Cell;
 use std::ptr::null_mut;
 
-/// An allocator that refuses each request of a thread after those that are granted.
+/// An allocator that fails every allocation of a thread after the first `GRANTED`.
 struct Refusing;
 
 thread_local! {
@@ -19,7 +19,7 @@ fn is_refused() -> bool {
     ASKED.get() > GRANTED.get()
 }
 
-// SAFETY: each block is the system's.
+// SAFETY: all blocks are allocated and freed by the system's allocator.
 unsafe impl GlobalAlloc for Refusing {
     unsafe fn alloc(&self, layout: Layout) -> *mut u8 {
         if is_refused() {
@@ -43,7 +43,7 @@ unsafe impl GlobalAlloc for Refusing {
 #[global_allocator]
 static ALLOCATOR: Refusing = Refusing;
 
-/// What a call answers where so many requests are granted, and how many it makes.
+/// Calls a function of whose allocations only the first `granted` succeed. Returns its result and the number of allocations.
 pub fn granting<T>(granted: usize, call: impl FnOnce() -> T) -> (T, usize) {
     ASKED.set(0);
     GRANTED.set(granted);
@@ -58,14 +58,15 @@ pub fn refusing<T>(call: impl FnOnce() -> T) -> T {
     answer
 }
 
-/// What a call answers that makes no request.
+/// Calls a function and checks that it does not allocate.
 pub fn without_memory<T>(call: impl FnOnce() -> T) -> T {
     let (answer, asked) = granting(0, call);
     assert_eq!(asked, 0, "a request was made");
     answer
 }
 
-/// What a call answers and leaves of what it is given, with its first request refused, its second and so on; and the same with none refused.
+/// Calls a function with 0, 1, 2, .. successful allocations until none fails. Returns the results and the changed arguments of the failed calls, and
+/// those of the last.
 pub fn refusing_in_turn<S, T>(
     given: impl Fn() -> S,
     call: impl Fn(&mut S) -> T,
@@ -82,7 +83,7 @@ pub fn refusing_in_turn<S, T>(
     }
 }
 
-/// Grants the requests from here on, within a call of [`granting`].
+/// Lets all further allocations succeed, inside a call of [`granting`].
 pub fn grant_all() {
     GRANTED.set(usize::MAX);
 }

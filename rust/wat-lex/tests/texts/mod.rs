@@ -1,4 +1,4 @@
-//! Random texts of parts that meet in many ways.
+//! Random texts of fragments that interact in many ways.
 
 const PARTS: [&str; 44] = [
     "(",
@@ -47,7 +47,7 @@ const PARTS: [&str; 44] = [
     ";; \u{2066}",
 ];
 
-/// Random numbers below a count, and texts.
+/// A pseudorandom number generator.
 pub struct Random(pub u64);
 
 impl Random {
@@ -59,7 +59,7 @@ impl Random {
         (self.0 >> 33) as usize % count
     }
 
-    /// A text of fewer parts than a number.
+    /// Returns a text of fewer than `parts` fragments.
     pub fn text(&mut self, parts: usize) -> String {
         let count = self.below(parts);
         (0..count).map(|_| PARTS[self.below(PARTS.len())]).collect()
