@@ -497,6 +497,7 @@ fn a_numeral_is_the_longest_at_the_start() {
     }
 }
 
+/// Lexes a text and formats its values and its error. Returns `None` if an allocation fails.
 fn read_all(text: &str) -> Option<std::vec::Vec<std::string::String>> {
     let lexer = Lexer::new(text);
     let (mut pos, mut found) = (0, [0usize; 4]);

@@ -1,6 +1,6 @@
-//! `F32` and `F64` against exact arithmetic: each value is compared with the two midpoints beside the number that it was rounded to.
+//! Compares `F32` and `F64` with exact arithmetic: each number must be between the two midpoints next to the float that it is rounded to.
 
-// Numbers are cut into their parts.
+// Integers are split into their parts.
 #![allow(clippy::cast_possible_truncation, clippy::cast_sign_loss)]
 
 use std::cmp::Ordering;
@@ -32,7 +32,7 @@ fn check_error(error: Option<&wat_parser::Error>) {
     }
 }
 
-/// A whole number of any size, the lowest 32 bits first.
+/// An integer of arbitrary size, the lowest 32 bits first.
 #[derive(Clone, Debug)]
 struct Whole(Vec<u32>);
 
@@ -41,7 +41,7 @@ impl Whole {
         Whole(vec![number as u32, (number >> 32) as u32])
     }
 
-    /// So many times the number, and so many more.
+    /// Multiplies the integer by `factor` and adds `more`.
     fn times(&mut self, factor: u32, more: u32) {
         let mut carry = u64::from(more);
         for part in &mut self.0 {
@@ -73,7 +73,7 @@ impl Whole {
     }
 }
 
-/// A number above 0: so many times the base to the exponent.
+/// A positive number: `count` times `base` to the power of `exponent`.
 #[derive(Clone, Debug)]
 struct Exact {
     count: Whole,
@@ -82,7 +82,7 @@ struct Exact {
 }
 
 impl Exact {
-    /// The value of digits with a point among them, in base 10 or 16, times 10 or 2 to the exponent.
+    /// Parses digits with an optional point in base 10 or 16, times 10 or 2 to the power of `exponent`.
     fn of_digits(digits: &str, base: u32, exponent: i32) -> Exact {
         let mut count = Whole::of(0);
         let mut behind = None;
@@ -103,7 +103,7 @@ impl Exact {
         }
     }
 
-    /// The number compared with so many times 2 to the exponent.
+    /// Compares the number with `count` times 2 to the power of `exponent`.
     fn compare(&self, count: u64, exponent: i32) -> Ordering {
         let scaled = |whole: Whole, base: u32, exponent: i32| {
             whole.power(base, u32::try_from(exponent).unwrap_or(0))
@@ -118,7 +118,7 @@ impl Exact {
 
 struct Format {
     significand: u32,
-    /// The exponent of the least step between two numbers.
+    /// The exponent of the smallest difference between two floats.
     least: i32,
     infinity: u64,
 }
@@ -136,7 +136,7 @@ const DOUBLE: Format = Format {
 };
 
 impl Format {
-    /// The number compared with the midpoint between these bits and the next.
+    /// Compares a number with the midpoint between the float of these bits and the next one.
     fn compare(&self, exact: &Exact, bits: u64) -> Ordering {
         let stored = bits & ((1 << self.significand) - 1);
         let raised = (bits >> self.significand) as i32;
@@ -147,7 +147,7 @@ impl Format {
         exact.compare(2 * count + 1, exponent - 1)
     }
 
-    /// Whether a number rounds to these bits, or to infinity where it has none.
+    /// Returns `true` if a number rounds to these bits, or to infinity if `bits` is `None`.
     fn fits(&self, exact: &Exact, bits: Option<u64>) -> bool {
         let bits = bits.unwrap_or(self.infinity);
         let is_even = bits & 1 == 0;
@@ -174,7 +174,7 @@ fn check(digits: &str, base: u32, exponent: i32) {
     }
 }
 
-/// The same numbers on each run.
+/// A pseudorandom number generator with a fixed seed.
 struct Numbers(u64);
 
 impl Numbers {
@@ -186,7 +186,7 @@ impl Numbers {
     }
 }
 
-/// Digits of both bases at random, with a point anywhere, zeros before and behind.
+/// Checks random digits of both bases, with a point anywhere and zeros at both ends.
 #[test]
 fn any_digits() {
     let mut numbers = Numbers(0x9e37_79b9_7f4a_7c15);
@@ -206,7 +206,7 @@ fn any_digits() {
     }
 }
 
-/// Midpoints of two numbers, and what lies a little beside them, as far as the least and the greatest.
+/// Checks midpoints of two floats and numbers slightly above and below them, from the smallest to the largest.
 #[test]
 fn midpoints() {
     let mut numbers = Numbers(0x1234_5678_9abc_def1);
@@ -232,7 +232,7 @@ fn midpoints() {
     }
 }
 
-/// A million decimals of all lengths and exponents, as Rust's library reads them, which rounds right.
+/// Compares a million decimals of all lengths and exponents with Rust's library, which rounds correctly.
 #[test]
 fn decimals_as_rust_reads_them() {
     let mut numbers = Numbers(0x0f1e_2d3c_4b5a_6978);
@@ -260,7 +260,7 @@ fn decimals_as_rust_reads_them() {
     }
 }
 
-/// Zeros that make up for an exponent, in texts of a million bytes.
+/// Checks zeros that compensate for an exponent, in texts of up to a million bytes.
 #[test]
 fn zeros_against_exponents() {
     for len in [9_990, 65_540, 1_000_000] {

@@ -1,4 +1,4 @@
-//! What the layer answers where a request for memory is refused: an error wherever it answers a `Result`.
+//! Allocation-failure injection in the layer: every function that returns a `Result` returns an error.
 
 #[path = "../../wat-lex/tests/refusing/mod.rs"]
 mod refusing;
@@ -16,12 +16,12 @@ annotation!(note);
 type Call = for<'a> fn(Parser<'a>) -> Result<()>;
 
 thread_local! {
-    /// What a parser is asked, and what it answered with so many requests granted, of as many as it made.
+    /// The call to run and the number of allocations that succeed; then the result and the number of allocations.
     static ASKED: RefCell<Option<(Call, usize)>> = const { RefCell::new(None) };
     static ANSWERED: RefCell<Option<(Result<()>, usize)>> = const { RefCell::new(None) };
 }
 
-/// A type that asks the parser.
+/// A type whose `parse` runs the call.
 struct Asking;
 
 impl<'a> Parse<'a> for Asking {
@@ -32,16 +32,16 @@ impl<'a> Parse<'a> for Asking {
     }
 }
 
-/// What a call answers at the start of a text with so many requests granted, and how many it makes.
+/// Runs a call at the start of a text with `granted` successful allocations. Returns its result and the number of allocations.
 fn asked(text: &str, call: Call, granted: usize) -> (Result<()>, usize) {
     let buffer = ParseBuffer::new(text).unwrap();
     ASKED.set(Some((call, granted)));
-    // Most calls leave tokens.
+    // Most calls do not consume all tokens.
     let _left = parser::parse::<Asking>(&buffer);
     ANSWERED.take().expect("an answer")
 }
 
-/// Refuses each request of a call in turn, and answers how many there are.
+/// Lets each allocation of a call fail in turn, and returns their number.
 fn refused_in_turn(text: &str, call: Call) -> usize {
     let mut granted = 0;
     loop {
@@ -116,7 +116,7 @@ fn a_value_and_an_error_are_refused() {
     }
 }
 
-/// More looks than fit into the series.
+/// Peeks at more types than a lookahead stores without an allocation.
 fn many_looks(parser: Parser<'_>) -> Result<()> {
     let mut look = parser.lookahead1();
     for _ in 0..12 {

@@ -1,6 +1,6 @@
-//! What types read as and are refused with, what is shown, and what errors print.
+//! Values and errors of types, visible tokens, and printed errors.
 
-// Types and texts of a test are in it.
+// Types and texts of a test are defined inside it.
 #![allow(clippy::items_after_statements, clippy::format_collect)]
 
 use std::collections::HashSet;
@@ -12,7 +12,7 @@ use wat_parser::parser::{self, Cursor, Parse, ParseBuffer, Parser, Peek, Result}
 use wat_parser::token::{Id, Index, ItemRef, LParen, NameAnnotation, RParen, Span};
 use wat_parser::{Error, annotation, custom_keyword, custom_reserved, gensym, kw};
 
-/// A value as it is printed, or the error's message and its byte.
+/// Formats a value, or an error's message and offset.
 fn told<T: Debug>(read: Result<T>) -> String {
     match read {
         Ok(value) => format!("{value:?}"),
@@ -20,7 +20,7 @@ fn told<T: Debug>(read: Result<T>) -> String {
     }
 }
 
-/// What a text reads as.
+/// Parses a text as a type and formats the result.
 macro_rules! read {
     ($type:ty, $text:expr) => {
         match ParseBuffer::new($text) {
@@ -30,7 +30,7 @@ macro_rules! read {
     };
 }
 
-/// What a text is, read by statements that end in a value.
+/// Runs statements on a parser of a text and formats their value.
 macro_rules! run {
     ($text:expr, |$parser:ident| $body:expr) => {{
         struct Value(String);
@@ -124,7 +124,7 @@ fn strings_and_names() {
     );
 }
 
-/// Many strings with escapes stay where they were read to.
+/// Checks that many strings with escapes stay valid while others are parsed.
 #[test]
 fn strings_with_escapes_stay() {
     let text: String = (0..1000).map(|n| format!(r#""\u{{e9}}{n}" "#)).collect();
@@ -212,7 +212,7 @@ custom_keyword!(a);
 
 #[test]
 fn lookaheads() {
-    // As many types are looked for as blanks stand before the token.
+    // Peeks at as many types as there are spaces before the token.
     let looked_for = |text: &str| {
         run!(text, |parser| {
             let blanks = parser.cur_span().offset();
@@ -256,7 +256,7 @@ fn groups() {
     };
     assert_eq!(nested("(1)"), r#"("(1, 1)", (0, 3, 3))"#);
     assert_eq!(nested(""), r#"("expected `(` at 0", (0, 0, 0))"#);
-    // A group that is refused leaves the parser before it.
+    // The parser's position is restored if parsing the group fails.
     assert_eq!(nested(" (1"), "extra tokens remaining after parse at 1");
     let deep = |depth: usize| {
         fn inner(parser: Parser<'_>) -> Result<()> {
@@ -274,7 +274,7 @@ fn groups() {
     assert_eq!(deep(101), "item nesting too deep at 101");
 }
 
-/// What is shown goes by the names that are registered at the look.
+/// Checks that visibility depends on the names that are registered at the time of the peek.
 #[test]
 fn names() {
     let shown = |text: &str| {
@@ -304,7 +304,7 @@ fn names() {
     assert_eq!(noted, "(1, 2)");
 }
 
-/// Where what is shown begins, while a name is registered and taken back.
+/// Offsets of the next token, while a name is registered and unregistered.
 struct Shown(Vec<usize>);
 
 impl<'a> Parse<'a> for Shown {
@@ -314,20 +314,20 @@ impl<'a> Parse<'a> for Shown {
         let mut places = vec![shown()];
         let registered = parser.register_annotation("note");
         places.push(shown());
-        // A refused group steps back.
+        // A failed group restores the position.
         let refused = parser.parens(|group| Err::<(), _>(group.error("refused")));
         places.push(refused.unwrap_err().span().offset());
         places.push(shown());
         drop(registered);
         places.push(shown());
-        // The cursor was made before the name is registered.
+        // The cursor was created before the name is registered.
         parser.step(|cursor| {
             let _registered = parser.register_annotation("note");
             places.push(cursor.cur_span().offset());
             Ok(((), cursor))
         })?;
         parser.parens(wat_parser::parser::Parser::parse::<u32>)?;
-        // At the text's end nothing is shown that could stay so.
+        // No token is visible at the end of the text, so none is kept.
         let _registered = parser.register_annotation("note");
         places.push(shown());
         parser.parens(wat_parser::parser::Parser::parse::<note>)?;
@@ -429,7 +429,7 @@ fn buffers() {
     let mut buffer = ParseBuffer::new_with_lexer(lexer).unwrap();
     buffer.track_instr_spans(true);
     assert_eq!(parser::parse::<&str>(&buffer).unwrap(), "\u{202e}");
-    // Short tokens need more rows than were asked for at first.
+    // Short tokens need more rows than one call fills.
     for count in [1, 20, 21, 1000, 4097] {
         let text = "(".repeat(count) + &")".repeat(count);
         let groups = run!(&text, |parser| {
@@ -463,7 +463,7 @@ fn a_text_of_4_gib_is_refused() {
     assert_eq!(Span::from_offset(1 << 31).linecol_in(&text), (0, 1 << 31));
 }
 
-/// A buffer can be made on one thread and read on another.
+/// Checks that a buffer can be created on one thread and read on another.
 #[test]
 fn a_buffer_is_sent() {
     let buffer = ParseBuffer::new("(@\"\\61\") \"a\\62\"").unwrap();
@@ -471,7 +471,7 @@ fn a_buffer_is_sent() {
     assert_eq!(read.join().unwrap(), "ab");
 }
 
-/// A buffer lends a shorter life than its text's.
+/// Borrows a buffer for a shorter lifetime than that of its text.
 fn lent(buffer: &ParseBuffer<'static>) -> u32 {
     parser::parse(buffer).unwrap()
 }

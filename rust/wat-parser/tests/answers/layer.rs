@@ -1,4 +1,4 @@
-//! What the layer with the names of `wast` answers.
+//! Calls of the layer with the names of `wast`.
 
 mod typed;
 
@@ -20,7 +20,7 @@ fn refusal(refusals: Refusals, error: &Error) -> String {
     }
 }
 
-/// The lexer of a row's text, by the end of its call.
+/// Creates a lexer of a test case's text, with the settings that the call's suffix selects.
 fn lexer(row: &Row) -> Lexer<'_> {
     let mut lexer = Lexer::new(&row.text);
     lexer
@@ -38,7 +38,7 @@ fn token(token: Token) -> String {
     )
 }
 
-/// What the lexer's calls answer.
+/// Runs a call of the lexer.
 fn lexing(row: &Row) -> Option<Result<String, Error>> {
     let (text, lexer, at) = (row.text.as_str(), lexer(row), row.at());
     Some(match row.call {
@@ -71,7 +71,7 @@ fn lexing(row: &Row) -> Option<Result<String, Error>> {
     })
 }
 
-/// The kind and the text of a token, and what the reader of its kind answers.
+/// Formats a token's kind, its source, and the result of the accessor of its kind.
 fn first(token: Token, text: &str) -> String {
     let (kind, source) = (token.kind.name(), token.src(text));
     match token.kind {
@@ -81,7 +81,7 @@ fn first(token: Token, text: &str) -> String {
     }
 }
 
-/// The value of a token.
+/// Formats the value of a token.
 fn read(token: Token, text: &str) -> Result<String, Error> {
     Ok(match token.kind {
         TokenKind::String => format!("String {:?}", token.string(text)),
@@ -103,7 +103,7 @@ fn encoded<T: Encode>(number: Option<T>) -> String {
     format!("{bytes:?}")
 }
 
-/// What errors, places, numbers and names of types answer.
+/// Runs a call about errors, offsets, encodings or display names.
 fn others(row: &Row) -> Option<Result<String, Error>> {
     let (text, span) = (row.text.as_str(), Span::from_offset(row.at()));
     Some(match row.call {
@@ -129,7 +129,7 @@ fn value<'a, T: Parse<'a> + Debug>(buffer: &'a ParseBuffer<'a>) -> Result<String
     parser::parse::<T>(buffer).map(|value| format!("{value:?}"))
 }
 
-/// What a whole text is read as.
+/// Parses the whole text as a type.
 fn types<'a>(call: &str, buffer: &'a ParseBuffer<'a>) -> Option<Result<String, Error>> {
     Some(match call {
         "u32" | "u32-strict" => value::<u32>(buffer),
@@ -138,7 +138,7 @@ fn types<'a>(call: &str, buffer: &'a ParseBuffer<'a>) -> Option<Result<String, E
     })
 }
 
-/// The kinds that a cursor sees.
+/// Lists the kinds of which the cursor's `peek_` method returns `true`.
 fn seen(cursor: Cursor) -> Result<String, Error> {
     let kinds = [
         ("lparen", cursor.peek_lparen()?),
@@ -158,10 +158,10 @@ fn seen(cursor: Cursor) -> Result<String, Error> {
         .join(", "))
 }
 
-/// The kind of a token that was taken, its value, and what is shown after it.
+/// The kind of a consumed token, its value, and the cursor after it.
 type Taken<'a> = (&'static str, String, Cursor<'a>);
 
-/// What each taker answers.
+/// Calls each method that consumes a token, and returns the results that are not `None`.
 fn takers<'a>(cursor: Cursor<'a>) -> Result<Vec<Taken<'a>>, Error> {
     let sign = |kind, value: &str, next| (kind, value.to_owned(), next);
     let word = |kind| move |(value, next): (&'a str, _)| (kind, value.to_owned(), next);
@@ -194,7 +194,7 @@ fn taken(cursor: Cursor) -> Result<String, Error> {
     Ok(shown.collect::<Vec<_>>().join(", "))
 }
 
-/// The tokens that are shown, where a name is registered or none, and the fault after them.
+/// Lists the visible tokens, with the case's name registered if it has one, and the error after them.
 fn shown(row: &Row, parser: Parser) -> String {
     let _registered = (!row.with.is_empty()).then(|| parser.register_annotation(row.with));
     let mut items = Vec::new();
@@ -252,7 +252,7 @@ fn peeks(parser: Parser) -> String {
     format!("{first}, {second}, {third}")
 }
 
-/// What a parser at the start of the text answers, through a type that asks it.
+/// Runs a call of a parser or cursor at the start of the text.
 fn parsing(row: &Row, parser: Parser<'_>) -> Option<Result<String, Error>> {
     Some(match row.call {
         "shown" | "shown-allowing" => Ok(shown(row, parser)),
@@ -296,7 +296,7 @@ thread_local! {
     static ANSWERED: RefCell<Option<Result<String, Error>>> = const { RefCell::new(None) };
 }
 
-/// A type that asks the parser what the row at hand says, and leaves the rest.
+/// A type whose `parse` runs the current test case and leaves the remaining tokens.
 struct Asked;
 
 impl<'a> Parse<'a> for Asked {
@@ -307,13 +307,13 @@ impl<'a> Parse<'a> for Asked {
     }
 }
 
-/// What a row is answered; None where the layer has no such call.
+/// Runs a test case. Returns `None` if the layer does not have the call.
 pub fn answer(row: &Row) -> Option<String> {
     let answered = lexing(row).or_else(|| others(row)).or_else(|| {
         let buffer = ParseBuffer::new_with_lexer(lexer(row)).expect("memory");
         types(row.call, &buffer).or_else(|| {
             ASKED.set(Some(row.clone()));
-            // What is left after the question is an error of its own.
+            // The remaining tokens cause an error, which is ignored.
             let _left = parser::parse::<Asked>(&buffer);
             ANSWERED.take()
         })

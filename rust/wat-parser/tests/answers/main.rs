@@ -1,7 +1,7 @@
-//! `tests/answers.txt`: each row is a call and its text, and in the next line what it answers. The proved calls are asked all of them, over both
-//! buffers, and the layer with the names of `wast` those that it has.
+//! Runs the test cases of `tests/answers.txt`: a line with a call and its text, followed by a line with the expected result. The verified library
+//! runs all of them with both buffers, and the layer with the names of `wast` runs those that it has.
 
-// Calls that answer alike have arms of their own, and what is shown is passed by value.
+// Calls with equal results have separate match arms, and formatted values are passed by value.
 #![allow(clippy::match_same_arms, clippy::needless_pass_by_value)]
 
 mod layer;
@@ -16,7 +16,7 @@ use sources::{SOURCES, Source};
 
 const TABLE: &str = include_str!("../../../../tests/answers.txt");
 
-/// Asks each row of the table, and answers how many had an answer: the wanted one.
+/// Runs each test case and compares the result with the expected one. Returns the number of cases that have a result.
 fn ask(answer: fn(&Row) -> Option<String>, source: Source) -> usize {
     let lines: Vec<&str> = TABLE.lines().collect();
     let mut answered = 0;

@@ -1,4 +1,4 @@
-//! Characters that a line can't hold, as pictures of them.
+//! Escapes of the table for characters that a line cannot contain.
 
 const PICTURES: [(char, char); 6] = [
     ('⏎', '\n'),
@@ -9,7 +9,7 @@ const PICTURES: [(char, char); 6] = [
     ('␠', ' '),
 ];
 
-/// The text of a row, with what its pictures and its `‹..›` are for.
+/// Decodes the text of a test case: pictures of characters, and groups `‹..›`.
 pub fn spelled(row: &str) -> String {
     let plain = |c| {
         let pictured = PICTURES.iter().find(|(picture, _)| *picture == c);
@@ -23,7 +23,7 @@ pub fn spelled(row: &str) -> String {
         .fold(before, |text, part| text + &part)
 }
 
-/// A part that was after `‹`: the number of a character, or a count and what is repeated, then `›` and plain text.
+/// Decodes the part after a `‹`: a code point in hexadecimal, or a count, `×` and a text to repeat, followed by `›` and plain text.
 fn spelled_part(part: &str) -> String {
     let (spelled, after) = part.split_once('›').expect("an end of what is spelled");
     let text = if let Some((count, piece)) = spelled.split_once('×') {
@@ -35,7 +35,7 @@ fn spelled_part(part: &str) -> String {
     text + after
 }
 
-/// An answer as its line shows it, also where it is empty or ends in a space.
+/// Encodes a result as its line in the table, including an empty one and one that ends with a space.
 pub fn drawn(answer: &str) -> String {
     if answer.is_empty() {
         return "nothing".to_owned();

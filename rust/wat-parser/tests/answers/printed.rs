@@ -1,8 +1,8 @@
-//! Values as they are printed.
+//! Debug output of values.
 
 use std::fmt::Debug;
 
-/// A value as it is printed, with `_` for the name of a type.
+/// Formats a value, with `_` as the type argument of a `PhantomData`.
 pub fn printed<T: Debug>(value: &T) -> String {
     let value = format!("{value:?}");
     let of_type = value.split_once("PhantomData<");

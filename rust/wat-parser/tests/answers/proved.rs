@@ -1,4 +1,4 @@
-//! What the proved calls answer.
+//! Calls of the verified library.
 
 mod blanking;
 mod closures;
@@ -17,7 +17,7 @@ use wat_lex::proved::error::Error;
 use wat_lex::proved::lexer::{Token, TokenKind};
 use wat_lex::shim::alloc::Global;
 
-/// What a row is answered; None where its call is none of a group's.
+/// A group of calls, which runs a test case, or returns `None` if it does not have the call.
 type Group = fn(&Row) -> Option<Result<String, Error>>;
 
 const GROUPS: [Group; 7] = [
@@ -66,7 +66,7 @@ fn name(kind: TokenKind) -> &'static str {
     }
 }
 
-/// A token as `Kind a..b`.
+/// Formats a token as `Kind a..b`.
 fn token(token: Token) -> String {
     let end = token.offset + token.len as usize;
     format!("{} {}..{end}", name(token.kind), token.offset)

@@ -1,16 +1,16 @@
-//! Rows of the table.
+//! Test cases of the table.
 
 use crate::pictures::spelled;
 use crate::sources::Source;
 
-/// How a row shows a refusal.
+/// How a test case formats an error.
 #[derive(Clone, Copy)]
 pub enum Refusals {
-    /// Its message, and the byte at which it is reported.
+    /// The message and the offset.
     Brief,
-    /// As it is printed, with the line.
+    /// The printed text, with the line.
     Printed,
-    /// The lexer's fault in it.
+    /// The lexical error in it.
     Cause,
 }
 
@@ -18,10 +18,10 @@ pub enum Refusals {
 pub struct Row {
     pub refusals: Refusals,
     pub call: &'static str,
-    /// What is after the call's `@`.
+    /// The part of the call after `@`.
     pub with: &'static str,
     pub text: String,
-    /// What the parser of a row reads.
+    /// The buffer that the parser reads.
     pub source: Source,
 }
 
@@ -46,7 +46,7 @@ impl Row {
         }
     }
 
-    /// The number after the call's `@`, or else 0.
+    /// Returns the integer after the call's `@`, or 0.
     pub fn at(&self) -> usize {
         self.with.parse().unwrap_or(0)
     }

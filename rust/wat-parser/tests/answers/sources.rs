@@ -1,4 +1,4 @@
-//! The two buffers that the proved parser reads: with a table of the text's tokens, and without.
+//! The two buffers of the verified parser: with a token table, and lexed on demand.
 
 use std::iter::from_fn;
 use wat_lex::proved::error::Error;
@@ -43,7 +43,7 @@ impl Buffer<'_> {
         }
     }
 
-    /// Reads the whole text.
+    /// Parses the whole text.
     pub fn parse<'b, T: Parse<'b>>(&'b self) -> Result<T, Error> {
         match self {
             Buffer::Table(buffer) => parse::<T>(buffer),
@@ -51,7 +51,7 @@ impl Buffer<'_> {
         }
     }
 
-    /// The raw tokens, up to the text's end or its fault.
+    /// Returns the raw tokens, up to the end of the text or the first lexical error.
     pub fn raw(&self) -> impl Iterator<Item = Token> {
         let (mut number, mut at) = (0, 0);
         from_fn(move || {

@@ -1,4 +1,4 @@
-//! What the layer answers of types: values, their copies, where the parser is after them, and how they are displayed.
+//! Typed values in the layer: values, their copies, the parser's position after them, and their display names.
 
 use super::refusal;
 use crate::row::Row;
@@ -8,7 +8,7 @@ use wat_parser::{Error, annotation, custom_reserved, kw};
 
 custom_reserved!(spaceship = "<=>");
 
-/// An index, its place, and whether a copy has both.
+/// Formats an index, its offset, and whether a copy is equal in both.
 fn index(index: &Index) -> String {
     let (copy, place) = (*index, index.span());
     let is_same = copy == *index && copy.span() == place;
@@ -25,20 +25,20 @@ fn indices(parser: Parser) -> Result<String, Error> {
     Ok(format!("{first}; {second}"))
 }
 
-/// An identifier is shown as an index that is one.
+/// Formats an identifier like an index.
 fn identifier(parser: Parser) -> Result<String, Error> {
     let id: Id = parser.parse()?;
     Ok(index(&id.into()))
 }
 
-/// An item: the places of its kind and of a copy's index.
+/// Formats an item reference: the offset of its keyword, and the index of a copy.
 fn item(parser: Parser) -> Result<String, Error> {
     let item = parser.parse::<ItemRef<kw::func>>()?.clone();
     let place = item.kind.0.offset();
     Ok(format!("kind at {place}, {}", index(&item.idx)))
 }
 
-/// What a parser at the start of the text answers, and where it is then.
+/// Runs a call of a parser at the start of the text, and appends the end offset of the consumed tokens.
 pub fn answer(row: &Row, parser: Parser) -> Option<Result<String, Error>> {
     let answered = match row.call {
         "indices" => indices(parser),
@@ -53,7 +53,7 @@ pub fn answer(row: &Row, parser: Parser) -> Option<Result<String, Error>> {
     )))
 }
 
-/// How a type is displayed.
+/// Returns the display name of a type.
 pub fn display(name: &str) -> &'static str {
     match name {
         "u8" => u8::display(),

@@ -1,4 +1,4 @@
-//! Texts with spaces over their comments, and whether they show the same.
+//! Texts whose comments are replaced by spaces, which must have the same visible tokens.
 
 use super::parsing::{blanked_at, shown};
 use crate::row::{Refusals, Row};
@@ -8,7 +8,7 @@ use wat_lex::proved::lexer::{Lexer, Token};
 use wat_lex::shim::alloc::Global;
 use wat_lex::shim::string::String as Text;
 
-/// The lexer of a text under two settings.
+/// Creates a lexer with both settings.
 fn lexer_of(text: &str, allow: bool, strict: bool) -> Lexer<'_> {
     let mut lexer = Lexer::new(text);
     lexer
@@ -17,13 +17,14 @@ fn lexer_of(text: &str, allow: bool, strict: bool) -> Lexer<'_> {
     lexer
 }
 
-/// Whether two texts show the same, with a name registered and without.
+/// Returns `true` if two texts have the same visible tokens, both with and without a registered name.
 fn both_show(text: &Buffer, other: &Buffer) -> Result<bool, Error> {
     let shown = |buffer, name| shown(Refusals::Brief, buffer, name);
     Ok(shown(text, "")? == shown(other, "")? && shown(text, "a")? == shown(other, "a")?)
 }
 
-/// Whether a text with spaces over a raw token shows the same, under each of the four settings under which the token is one.
+/// Returns `true` if the visible tokens stay the same after a raw token is replaced by spaces, under each of the four settings under which the lexer
+/// finds the token.
 fn is_same(source: Source, text: &str, token: Token, other: &str) -> Result<bool, Error> {
     for (allow, strict) in [(false, false), (false, true), (true, false), (true, true)] {
         let before = source.buffer_with_lexer(lexer_of(text, allow, strict))?;
@@ -35,7 +36,7 @@ fn is_same(source: Source, text: &str, token: Token, other: &str) -> Result<bool
     Ok(true)
 }
 
-/// How many comments a text has, each of which changes nothing that is shown where spaces are over it.
+/// Replaces each comment by spaces, separately. Reports the number of comments, or the first that changes the visible tokens.
 fn each(source: Source, text: &str) -> Result<String, Error> {
     let mut found = 0;
     for number in 0..text.len() {
@@ -49,13 +50,13 @@ fn each(source: Source, text: &str) -> Result<String, Error> {
     Ok(format!("{found} comments, none changes what is shown"))
 }
 
-/// The first comment of a text and the text with spaces over it; None where it has none.
+/// Returns the first comment of a text, and the text in which it is replaced by spaces, or `None` if there is no comment.
 fn blanked_first(text: &str) -> Result<Option<(Token, Text)>, Error> {
     let mut blanked = (0..text.len()).map(|number| blanked_at(text, number).transpose());
     blanked.find_map(|blanked| blanked).transpose()
 }
 
-/// The text with spaces over its comments, one after another.
+/// Replaces the comments of a text by spaces, one after another, and compares the visible tokens.
 fn all(source: Source, text: &str) -> Result<String, Error> {
     let mut now = Text::from_str(Global, text)?;
     while let Some((token, other)) = blanked_first(&now)? {

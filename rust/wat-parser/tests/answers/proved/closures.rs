@@ -1,4 +1,4 @@
-//! Calls with closures: what they answer, and where they leave the parser.
+//! Calls with closures: their results, and the parser's position after them.
 
 use super::refusal;
 use crate::row::Row;
@@ -6,7 +6,7 @@ use wat_lex::proved::error::Error;
 use wat_lex::proved::token::Span;
 use wat_parser::proved::parser::Parser;
 
-/// Takes a keyword.
+/// Consumes a keyword.
 fn keyword<'a>(parser: &mut Parser<'a>) -> Result<&'a str, Error> {
     parser.step(|cursor| match cursor.keyword()? {
         Some(found) => Ok(found),
@@ -14,14 +14,14 @@ fn keyword<'a>(parser: &mut Parser<'a>) -> Result<&'a str, Error> {
     })
 }
 
-/// Takes two keywords.
+/// Consumes two keywords.
 fn two_keywords(parser: &mut Parser) -> Result<String, Error> {
     let first = keyword(parser)?;
     let second = keyword(parser)?;
     Ok(format!("{first} and {second}"))
 }
 
-/// Takes a group of a keyword and a group of a keyword, and a keyword after it.
+/// Consumes a group of a keyword and an inner group with a keyword, and a keyword after them.
 fn two_groups(parser: &mut Parser) -> Result<String, Error> {
     parser.parens(|parser| {
         keyword(parser)?;
@@ -32,7 +32,7 @@ fn two_groups(parser: &mut Parser) -> Result<String, Error> {
     Ok(format!("groups up to {place}, {after}"))
 }
 
-/// Registers a name inside of a group, and refuses the group.
+/// Registers a name inside a group, and returns an error from the group.
 fn refused_group(parser: &mut Parser) -> Result<String, Error> {
     parser.parens(|parser| {
         parser.register_annotation("a")?;
@@ -41,7 +41,7 @@ fn refused_group(parser: &mut Parser) -> Result<String, Error> {
     })
 }
 
-/// Takes so many groups, each in the one before, and asks in each whether it is too deep.
+/// Consumes `count` nested groups, and checks the depth in each.
 fn nested(parser: &mut Parser, count: usize) -> Result<(), Error> {
     if count == 0 {
         return Ok(());
@@ -52,20 +52,20 @@ fn nested(parser: &mut Parser, count: usize) -> Result<(), Error> {
     })
 }
 
-/// Takes three groups, each in the one before, which are empty.
+/// Consumes three nested groups, of which the innermost is empty.
 fn three_groups(parser: &mut Parser) -> Result<String, Error> {
     nested(parser, 3)?;
     Ok("three groups".to_owned())
 }
 
-/// Takes a keyword, and so many groups after it.
+/// Consumes a keyword and `count` nested groups.
 fn groups(parser: &mut Parser, count: usize) -> Result<String, Error> {
     keyword(parser)?;
     nested(parser, count)?;
     Ok(format!("{count} groups"))
 }
 
-/// Takes a keyword, and refuses what is after it, there or at a byte.
+/// Consumes a keyword, and returns an error at the next token or at an offset.
 fn refused_after(parser: &mut Parser, at: &str) -> Result<String, Error> {
     keyword(parser)?;
     Err(match at.parse() {
@@ -74,7 +74,7 @@ fn refused_after(parser: &mut Parser, at: &str) -> Result<String, Error> {
     })
 }
 
-/// What a call answers, where it leaves the parser, and whether `a` is registered then.
+/// Runs a call, and appends the parser's position and depth, and whether `a` is registered.
 pub fn answer(row: &Row) -> Option<String> {
     let buffer = row.source.buffer(&row.text).expect("memory");
     let parser = &mut buffer.parser();

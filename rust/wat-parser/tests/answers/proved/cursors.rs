@@ -1,9 +1,9 @@
-//! Calls of the cursor at the start of a text.
+//! Calls of a cursor at the start of a text.
 
 use wat_lex::proved::error::Error;
 use wat_parser::proved::parser::Cursor;
 
-/// The kinds that are seen.
+/// Lists the kinds of which the cursor's `peek_` method returns `true`.
 pub fn seen(cursor: Cursor) -> Result<String, Error> {
     let kinds = [
         ("lparen", cursor.peek_lparen()?),
@@ -20,7 +20,7 @@ pub fn seen(cursor: Cursor) -> Result<String, Error> {
     Ok(seen.join(", "))
 }
 
-/// What each taker answers, and what is shown after it.
+/// Calls each method that consumes a token, and lists the values with the offset of the token after each.
 pub fn taken(cursor: Cursor) -> Result<String, Error> {
     let then = |kind, value: &str, next: Cursor| {
         let place = next.cur_span().offset();
@@ -49,19 +49,19 @@ pub fn taken(cursor: Cursor) -> Result<String, Error> {
     Ok(taken.join(", "))
 }
 
-/// The identifier that is shown.
+/// Returns the identifier that the next token is.
 pub fn id(cursor: Cursor) -> Result<String, Error> {
     let found = cursor.id()?;
     Ok(found.map_or("none".to_owned(), |(name, _)| name.as_str().to_owned()))
 }
 
-/// The annotation that is shown.
+/// Returns the annotation that the next token is.
 pub fn annotation(cursor: Cursor) -> Result<String, Error> {
     let found = cursor.annotation()?;
     Ok(found.map_or("none".to_owned(), |(name, _)| name.as_str().to_owned()))
 }
 
-/// The comment that comes next, and where the tokens after it begin.
+/// Returns the next comment, and the offset of the token after it.
 pub fn comment(cursor: Cursor) -> Result<String, Error> {
     let Some((comment, next)) = cursor.comment()? else {
         return Ok("none".to_owned());

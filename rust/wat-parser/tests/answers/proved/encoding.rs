@@ -1,4 +1,4 @@
-//! The bytes of numbers.
+//! Encodings of integers.
 
 use crate::row::Row;
 use std::str::FromStr;

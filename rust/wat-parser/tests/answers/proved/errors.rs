@@ -1,4 +1,4 @@
-//! Errors, and places in a text.
+//! Errors, and lines and columns of offsets.
 
 use crate::row::Row;
 use std::str;
@@ -8,18 +8,18 @@ use wat_lex::proved::token::{LineIndex, Span};
 use wat_lex::shim::alloc::Global;
 use wat_lex::shim::string::String as Text;
 
-/// More bytes than any report that is written.
+/// A buffer size that no report fills.
 const LONGEST: usize = 128;
-/// How many bytes a report is cut to.
+/// The buffer size of truncated reports.
 const CUT: usize = 30;
 
-/// How a comment is reported that nothing closes.
+/// Creates the report of an unclosed comment.
 fn rendered(text: &str, offset: usize) -> Rendered<'_> {
     let error = LexError::DanglingBlockComment;
     Rendered::new(text, LexFault { offset, error })
 }
 
-/// A report that is written into so many bytes, the rest of which stay.
+/// Writes a report to a buffer of `ROOM` bytes, and checks that the bytes after it are unchanged.
 fn written<const ROOM: usize>(rendered: Rendered) -> String {
     let mut bytes = [7; ROOM];
     let count = rendered.write_to(&mut bytes);
@@ -27,7 +27,7 @@ fn written<const ROOM: usize>(rendered: Rendered) -> String {
     str::from_utf8(&bytes[..count]).expect("a text").to_owned()
 }
 
-/// The lexer's fault of this name, with the characters or the number of it.
+/// Returns the lexical error of this name, with characters or an integer from `with`.
 fn lex_error(name: &str, with: &str) -> LexError {
     let mut characters = with.chars();
     let first = characters.next().unwrap_or(' ');

@@ -1,4 +1,4 @@
-//! Calls of long texts, or deep in groups. Their answers are lengths.
+//! Calls on long texts or in deeply nested groups. Their results are lengths.
 
 use super::parsing::blanked_at;
 use crate::row::Row;
@@ -10,7 +10,7 @@ use wat_lex::shim::string::String as Text;
 use wat_lex::shim::vec::Vec as Calls;
 use wat_parser::proved::parser::{Call, Parser, replay};
 
-/// The string that is the whole text.
+/// Parses the whole text as one string.
 fn string(source: Source, text: &str) -> Result<String, Error> {
     let buffer = source.buffer(text)?;
     Ok(format!(
@@ -19,7 +19,7 @@ fn string(source: Source, text: &str) -> Result<String, Error> {
     ))
 }
 
-/// Registers the words of a text as names, and counts those that are registered then.
+/// Registers the words of a text as names, and returns the number of registered ones.
 fn names(source: Source, text: &str) -> Result<String, Error> {
     let buffer = source.buffer("")?;
     let mut parser = buffer.parser();
@@ -30,7 +30,7 @@ fn names(source: Source, text: &str) -> Result<String, Error> {
     Ok(format!("{} names", registered.count()))
 }
 
-/// The message of an error of a parser.
+/// Creates an error with the text as its message.
 fn message(source: Source, text: &str) -> Result<String, Error> {
     let buffer = source.buffer("")?;
     let error = buffer.parser().error_at(Span::from_offset(0), text);
@@ -40,7 +40,7 @@ fn message(source: Source, text: &str) -> Result<String, Error> {
     ))
 }
 
-/// Looks so many times at what a parser shows first.
+/// Peeks `count` times at the next token.
 fn looks(source: Source, text: &str, count: usize) -> Result<String, Error> {
     let buffer = source.buffer(text)?;
     let mut parser = buffer.parser();
@@ -55,7 +55,7 @@ fn looks(source: Source, text: &str, count: usize) -> Result<String, Error> {
     ))
 }
 
-/// How many replies a look has in so many groups, each in the one before.
+/// Peeks inside `count` nested groups, and returns the number of replies.
 fn look_within(parser: &mut Parser, count: usize) -> Result<usize, Error> {
     if count == 0 {
         return Ok(replay(Global, parser, &[Call::Look])?.len());
@@ -69,7 +69,7 @@ fn deep_look(source: Source, text: &str, count: usize) -> Result<String, Error> 
     Ok(format!("{replies} replies in {count} groups"))
 }
 
-/// The text with spaces over the comment that it begins with.
+/// Replaces the comment at the start of a text by spaces.
 fn blanked(text: &str) -> Result<String, Error> {
     let Some((_, other)) = blanked_at(text, 0)? else {
         return Ok("no comment".to_owned());

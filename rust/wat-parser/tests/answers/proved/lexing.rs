@@ -1,4 +1,4 @@
-//! Calls of the lexer, and of the readers of its tokens.
+//! Calls of the lexer and of the accessors of its tokens.
 
 use super::{name, refusal, token};
 use crate::row::Row;
@@ -6,7 +6,7 @@ use wat_lex::proved::error::Error;
 use wat_lex::proved::lexer::{Float, Lexer, TokenKind};
 use wat_lex::shim::alloc::Global;
 
-/// The lexer of a row's text, by the end of its call.
+/// Creates a lexer of a test case's text, with the settings that the call's suffix selects.
 pub fn lexer(row: &Row) -> Lexer<'_> {
     let mut lexer = Lexer::new(&row.text);
     lexer
@@ -15,7 +15,7 @@ pub fn lexer(row: &Row) -> Lexer<'_> {
     lexer
 }
 
-/// All tokens but white space, and the fault after them.
+/// Lists all tokens except whitespace, and the lexical error after them.
 fn tokens(row: &Row) -> String {
     let items: Vec<String> = lexer(row)
         .iter(Global, 0)
@@ -25,7 +25,7 @@ fn tokens(row: &Row) -> String {
     items.join(", ")
 }
 
-/// The fault of a text.
+/// Returns the first lexical error of a text.
 fn fault(row: &Row) -> Result<String, Error> {
     match lexer(row).iter(Global, 0).find_map(Result::err) {
         Some(error) => Err(error),
@@ -33,7 +33,7 @@ fn fault(row: &Row) -> Result<String, Error> {
     }
 }
 
-/// The kind and the text of the first token, and what the reader of its kind answers.
+/// Formats the first token's kind, its source, and the result of the accessor of its kind.
 fn first(row: &Row) -> Result<String, Error> {
     let text = row.text.as_str();
     let Some(token) = lexer(row).parse(Global, &mut 0)? else {
@@ -47,7 +47,7 @@ fn first(row: &Row) -> Result<String, Error> {
     })
 }
 
-/// What is at a byte.
+/// Formats the token or lexical error at an offset.
 fn scan(row: &Row) -> String {
     match lexer(row).scan(row.at()) {
         Ok(Some(found)) => token(found),
@@ -56,7 +56,7 @@ fn scan(row: &Row) -> String {
     }
 }
 
-/// Where tokens are read again after the fault at a byte.
+/// Returns the offset at which lexing continues after the lexical error at an offset.
 fn resume(row: &Row) -> String {
     let lexer = lexer(row);
     match lexer.scan(row.at()) {
@@ -65,13 +65,13 @@ fn resume(row: &Row) -> String {
     }
 }
 
-/// The annotation at a byte.
+/// Returns the annotation at an offset.
 fn annotation(row: &Row) -> Result<String, Error> {
     let found = lexer(row).annotation(Global, row.at())?;
     Ok(found.map_or("none".to_owned(), token))
 }
 
-/// The value of the word at a byte.
+/// Formats the value of the token at an offset.
 fn read(row: &Row) -> Result<String, Error> {
     let text = row.text.as_str();
     let Some(token) = lexer(row).parse(Global, &mut row.at())? else {
@@ -91,7 +91,7 @@ fn read(row: &Row) -> Result<String, Error> {
     })
 }
 
-/// Whether the first word has a name, and what is wrong with it.
+/// Compares the name of the first token, or reports its error.
 fn name_of(row: &Row) -> Result<String, Error> {
     let text = row.text.as_str();
     let Some(token) = lexer(row).parse(Global, &mut 0)? else {
@@ -103,7 +103,7 @@ fn name_of(row: &Row) -> Result<String, Error> {
     })
 }
 
-/// How many bytes the parts of a floating-point number have.
+/// Formats the lengths in bytes of the parts of a floating-point number.
 fn part_lengths(float: &Float) -> String {
     match float {
         Float::Val {
@@ -125,7 +125,7 @@ fn part_lengths(float: &Float) -> String {
     }
 }
 
-/// How long the value of the first word is.
+/// Returns the length in bytes of the first token's value.
 fn length(row: &Row) -> Result<String, Error> {
     let text = row.text.as_str();
     let Some(token) = lexer(row).parse(Global, &mut 0)? else {

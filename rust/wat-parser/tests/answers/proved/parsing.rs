@@ -1,4 +1,4 @@
-//! Calls of a parser, and of the cursor at the start of a text.
+//! Calls of a parser, and of a cursor at the start of a text.
 
 use super::cursors::{annotation, comment, id, seen, taken};
 use super::replaying::{full_replies, replies};
@@ -13,7 +13,7 @@ use wat_parser::proved::laws;
 use wat_parser::proved::parser::{ParseBuffer, Parser};
 use wat_parser::proved::token::{LParen, RParen};
 
-/// Takes the token that is shown; None at the end.
+/// Consumes the next token. Returns `None` at the end of the text.
 fn take(parser: &mut Parser) -> Result<Option<Token>, Error> {
     parser.step(|cursor| match cursor.any()? {
         Some((token, next)) => Ok((Some(token), next)),
@@ -21,7 +21,7 @@ fn take(parser: &mut Parser) -> Result<Option<Token>, Error> {
     })
 }
 
-/// A parser of a text where a name is registered, or none.
+/// Creates a parser with a registered name, or without one if `name` is empty.
 fn parser_under<'b>(buffer: &'b Buffer, name: &str) -> Result<Parser<'b>, Error> {
     let mut parser = buffer.parser();
     if !name.is_empty() {
@@ -30,7 +30,7 @@ fn parser_under<'b>(buffer: &'b Buffer, name: &str) -> Result<Parser<'b>, Error>
     Ok(parser)
 }
 
-/// The tokens that are shown where a name is registered or none, and the fault after them.
+/// Lists the visible tokens, with a registered name or without one, and the error after them.
 pub fn shown(refusals: Refusals, buffer: &Buffer, name: &str) -> Result<String, Error> {
     let mut parser = parser_under(buffer, name)?;
     let mut shown = Vec::new();
@@ -46,7 +46,7 @@ pub fn shown(refusals: Refusals, buffer: &Buffer, name: &str) -> Result<String, 
     }
 }
 
-/// The raw tokens, and the fault after them.
+/// Lists the raw tokens, and the lexical error after them.
 fn raw(buffer: &Buffer) -> String {
     let fault = buffer.lex_fault();
     let fault = fault.map(|fault| format!("{:?} at {}", fault.error, fault.offset));
@@ -54,7 +54,7 @@ fn raw(buffer: &Buffer) -> String {
     tokens.chain(fault).collect::<Vec<_>>().join(", ")
 }
 
-/// The raw token of this number and the text with spaces over it; None where it is no comment.
+/// Returns the raw token of this index, and the text in which it is replaced by spaces, or `None` if it is not a comment.
 pub fn blanked_at(text: &str, number: usize) -> Result<Option<(Token, Text)>, Error> {
     let mut lexer = Lexer::new(text);
     lexer.allow_confusing_unicode(true);
@@ -67,13 +67,13 @@ pub fn blanked_at(text: &str, number: usize) -> Result<Option<(Token, Text)>, Er
     }
 }
 
-/// The text with spaces over the raw token of the row's number.
+/// Replaces the raw token of the case's index by spaces.
 fn blanked(row: &Row) -> Result<String, Error> {
     let blanked = blanked_at(&row.text, row.at())?;
     Ok(blanked.map_or("no comment".to_owned(), |(_, other)| other.into()))
 }
 
-/// How many tokens are shown where a name is registered or none, and the place after them.
+/// Returns the number of visible tokens, with a registered name or without one, and the end offset of the last.
 fn counted(row: &Row, buffer: &Buffer) -> Result<String, Error> {
     let mut parser = parser_under(buffer, row.with)?;
     let mut count = 0;
@@ -86,7 +86,7 @@ fn counted(row: &Row, buffer: &Buffer) -> Result<String, Error> {
     ))
 }
 
-/// Which parenthesis two peeks see.
+/// Returns the parenthesis that two peeks recognize.
 fn side(left: Result<bool, Error>, right: Result<bool, Error>) -> Result<&'static str, Error> {
     Ok(match (left, right) {
         (Ok(true), Ok(false)) => "left",
@@ -98,7 +98,7 @@ fn side(left: Result<bool, Error>, right: Result<bool, Error>) -> Result<&'stati
     })
 }
 
-/// Which parentheses are the first three tokens.
+/// Returns the parentheses that the next 3 tokens are.
 fn peeks(parser: &Parser) -> Result<String, Error> {
     let first = side(parser.peek::<LParen>(), parser.peek::<RParen>())?;
     let second = side(parser.peek2::<LParen>(), parser.peek2::<RParen>())?;

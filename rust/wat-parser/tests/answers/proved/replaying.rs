@@ -8,7 +8,7 @@ use wat_lex::shim::string::String as Text;
 use wat_lex::shim::vec::Vec as Calls;
 use wat_parser::proved::parser::{Call, FaultKind, Parser, Reply, replay};
 
-/// The call of a word: `reg=NAME`, `unreg=NAME`, `parens=COUNT`, `take`, `comment` or `look`.
+/// Parses a call: `reg=NAME`, `unreg=NAME`, `parens=COUNT`, `take`, `comment` or `look`.
 fn call(word: &str) -> Result<Call, AllocError> {
     Ok(match word.split_once('=').unwrap_or((word, "")) {
         ("reg", name) => Call::Register(Text::from_str(Global, name)?),
@@ -36,7 +36,7 @@ fn shown(reply: &Reply) -> String {
     }
 }
 
-/// The replies to calls with commas between them, and the place after them.
+/// Replays calls that are separated by commas, and returns the replies and the parser's position after them.
 fn replied(parser: &mut Parser, words: &str) -> Result<String, Error> {
     let mut calls = Calls::new(Global);
     for word in words.split(',') {
@@ -48,19 +48,19 @@ fn replied(parser: &mut Parser, words: &str) -> Result<String, Error> {
     Ok(format!("{}, place {place}", shown.join(", ")))
 }
 
-/// The replies of a parser at the start of a text.
+/// Replays calls on a parser at the start of a text.
 pub fn replies(buffer: &Buffer, words: &str) -> Result<String, Error> {
     replied(&mut buffer.parser(), words)
 }
 
-/// Registers `a` as often as a name may be registered.
+/// Registers `a` `usize::MAX` times, the maximum.
 pub fn register_fully(parser: &mut Parser) -> Result<(), Error> {
     parser.register_annotation("a")?;
     parser.set_registrations("a", usize::MAX);
     Ok(())
 }
 
-/// The replies where `a` is registered as often as a name may be.
+/// Replays calls on a parser in which `a` is registered `usize::MAX` times.
 pub fn full_replies(buffer: &Buffer, words: &str) -> Result<String, Error> {
     let mut parser = buffer.parser();
     register_fully(&mut parser)?;

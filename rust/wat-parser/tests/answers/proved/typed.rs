@@ -1,4 +1,4 @@
-//! Values of types, their copies, and where the parser is after them.
+//! Typed values, their copies, and the parser's position after them.
 
 use super::refusal;
 use super::replaying::register_fully;
@@ -15,7 +15,7 @@ use wat_parser::proved::token::{
 use wat_parser::proved::{annotation, kw};
 use wat_parser::words::{Std, StdAnnotation};
 
-/// An index, its place, and whether a copy has both.
+/// Formats an index, its offset, and whether a copy is equal in both.
 fn index(index: &Index) -> Result<String, Error> {
     let (copy, place) = (index.clone(Global)?, index.span());
     let is_same = copy == *index && copy.span() == place;
@@ -26,14 +26,14 @@ fn index(index: &Index) -> Result<String, Error> {
     Ok(format!("{shown} at {}, copied {is_same}", place.offset()))
 }
 
-/// Two indices, with their copies.
+/// Formats two indices.
 fn indices(parser: &mut Parser) -> Result<String, Error> {
     let first = index(&parser.parse()?)?;
     let second = index(&parser.parse()?)?;
     Ok(format!("{first}; {second}"))
 }
 
-/// An identifier, its place, and whether a copy has both.
+/// Formats an identifier, its offset, and whether a copy is equal in both.
 fn identifier(parser: &mut Parser) -> Result<String, Error> {
     let id = parser.parse::<Id>()?;
     let copy = id.clone(Global)?;
@@ -45,14 +45,14 @@ fn identifier(parser: &mut Parser) -> Result<String, Error> {
     ))
 }
 
-/// An item: the places of its kind and its index.
+/// Formats an item reference: the offset of its keyword, and its index.
 fn item(parser: &mut Parser) -> Result<String, Error> {
     let item = parser.parse::<ItemRef<kw::func>>()?;
     let place = item.kind.span.offset();
     Ok(format!("kind at {place}, {}", index(&item.idx)?))
 }
 
-/// An optional name, with its copy.
+/// Formats an optional name, and whether a copy is equal.
 fn optional_name(row: &Row, parser: &mut Parser) -> Result<String, Error> {
     if !row.with.is_empty() {
         parser.register_annotation(row.with)?;
@@ -64,13 +64,13 @@ fn optional_name(row: &Row, parser: &mut Parser) -> Result<String, Error> {
     Ok(format!("{}, copied {is_same}", found.name))
 }
 
-/// A type under a name that is registered as often as a name may be.
+/// Parses an integer under a name that is already registered `usize::MAX` times.
 fn too_often(parser: &mut Parser) -> Result<String, Error> {
     register_fully(parser)?;
     Ok(parser.with_annotation::<u32>("a")?.to_string())
 }
 
-/// A name that is registered as often as it may be, taken back once and registered twice.
+/// Registers a name `usize::MAX` times, unregisters it once, and registers it twice.
 fn once_more(parser: &mut Parser) -> Result<String, Error> {
     register_fully(parser)?;
     parser.unregister_annotation("a");
@@ -79,7 +79,7 @@ fn once_more(parser: &mut Parser) -> Result<String, Error> {
     Ok("registered".to_owned())
 }
 
-/// Looks at so many types, none of which is there: up to five, or many times at one.
+/// Peeks at `count` types and returns `true` if one is recognized. The types differ if `count` is at most 5.
 fn is_seen(lookahead: &mut Lookahead1, count: usize) -> Result<bool, Error> {
     let mut is_seen = false;
     for number in 0..count {
@@ -94,7 +94,7 @@ fn is_seen(lookahead: &mut Lookahead1, count: usize) -> Result<bool, Error> {
     Ok(is_seen)
 }
 
-/// What a lookahead reports after so many misses.
+/// Returns the error of a lookahead after `count` failed peeks.
 fn report(parser: &Parser, count: usize) -> Result<String, Error> {
     let mut lookahead = parser.lookahead1();
     if is_seen(&mut lookahead, count)? {
@@ -103,7 +103,7 @@ fn report(parser: &Parser, count: usize) -> Result<String, Error> {
     Err(lookahead.error())
 }
 
-/// How a type is displayed.
+/// Returns the display name of a type.
 fn display(name: &str) -> &'static str {
     match name {
         "u8" => u8::display(),
@@ -131,12 +131,12 @@ fn display(name: &str) -> &'static str {
     }
 }
 
-/// A word, whether `@` is before it, and how it is displayed.
+/// Formats a token type: its `AT`, its lexeme or name, and its display name.
 fn spelled<W: Word>() -> String {
     format!("{} `{}` {}", W::AT, W::word(), W::display())
 }
 
-/// The words at the ends of the lists of standard words, and after them.
+/// Formats the token types at the ends of the standard lists, and those after them.
 fn word(name: &str) -> String {
     match name {
         "last" => spelled::<Std<232>>(),
@@ -147,7 +147,7 @@ fn word(name: &str) -> String {
     }
 }
 
-/// Whether the spans of instructions are tracked: at first, where asked for, and no longer.
+/// Returns the value of `track_instr_spans` by default, after it was turned on, and after it was turned off.
 fn tracked(mut buffer: Buffer) -> String {
     let first = buffer.parser().track_instr_spans();
     buffer.track_instr_spans(true);
@@ -157,7 +157,7 @@ fn tracked(mut buffer: Buffer) -> String {
     format!("{first}, {then}, {last}")
 }
 
-/// What a call answers of a parser.
+/// Runs a call of a parser.
 fn called(row: &Row, parser: &mut Parser) -> Option<Result<String, Error>> {
     let list = |list: &[u32]| format!("{list:?}");
     Some(match row.call {

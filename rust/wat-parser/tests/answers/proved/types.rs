@@ -1,4 +1,4 @@
-//! Whole texts that are read as a type.
+//! Types as which a whole text is parsed.
 
 use super::lexing;
 use crate::printed::printed;
@@ -26,12 +26,12 @@ impl Word for Spaceship {
     }
 }
 
-/// The value that a whole text is read as.
+/// Parses the whole text as a type.
 fn value<'a, T: Parse<'a> + Debug>(buffer: &'a Buffer<'_>) -> Result<String, Error> {
     Ok(printed(&buffer.parse::<T>()?))
 }
 
-/// Types at the ends of their lists, one with a word of one's own, a number and an optional identifier.
+/// Parses the whole text as one of the types: those at the ends of the standard lists, a custom one, an integer, and an optional identifier.
 pub fn answer(row: &Row) -> Option<Result<String, Error>> {
     let buffer = row.source.buffer_with_lexer(lexing::lexer(row));
     let buffer = &buffer.expect("memory");
