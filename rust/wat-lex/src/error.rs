@@ -26,8 +26,8 @@ use std::path::{Path, PathBuf};
 /// ```
 ///
 /// Two errors are equal if they have the same offset and the same lexical error and print the same text.
-// An error is one pointer wide, since `parse` and `iter` return it in a `Result` with a token. `None` is the out-of-memory error, so that creating
-// one never allocates.
+// An error is one pointer wide, which keeps the results of `parse` and `iter` small. `None` is the out-of-memory error, so creating one never
+// allocates.
 #[derive(Debug)]
 pub struct Error(Option<Box<Located>>);
 
@@ -79,14 +79,14 @@ impl Error {
         }
     }
 
-    /// Attaches the source text, so that the error prints the line. Only the first call has an effect.
+    /// Attaches the source text, so that the error prints the line. Has no effect if the error already has a text, as an error of the lexer does.
     pub fn set_text(&mut self, contents: &str) {
         if let Some(located) = &mut self.0 {
             granted(located.error.set_text(Global, contents));
         }
     }
 
-    /// Attaches the path of the source file. Only the first call has an effect; a path that is not UTF-8 is not printed.
+    /// Attaches the path of the source file. Has no effect if the error already has a path. A path that is not UTF-8 is not printed.
     #[cfg(feature = "std")]
     pub fn set_path(&mut self, path: &Path) {
         if let Some(located) = &mut self.0 {
@@ -137,7 +137,7 @@ impl fmt::Display for Located {
         };
         let message = granted(self.error.message(Global));
         let printed = self.error.to_string();
-        // The first name after the message is the file's, if the error prints one.
+        // The first `<anon>` after the message is the file name, if one is printed.
         let place = printed[message.len()..].replacen(NO_NAME, file, 1);
         write!(f, "{message}{place}")
     }

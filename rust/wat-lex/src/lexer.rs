@@ -13,13 +13,14 @@ use core::iter::FusedIterator;
 #[derive(Clone)]
 pub struct Lexer<'a> {
     input: &'a str,
-    /// The verified lexer over `input`. Its text is empty if `input` has more than `u32::MAX` bytes, a precondition of `proved::lexer::Lexer::new`.
+    /// The verified lexer over `input`. If `input` has more than `u32::MAX` bytes, which a precondition of `proved::lexer::Lexer::new` excludes, its
+    /// text is empty.
     proved: proved::lexer::Lexer<'a>,
 }
 
 impl<'a> Lexer<'a> {
-    /// Creates a lexer over a source text, with both settings off. If the text has more than `u32::MAX` bytes, the methods that read it return an
-    /// error or panic.
+    /// Creates a lexer over a source text, with both settings off. Lexing a text of more than `u32::MAX` bytes returns an error, or panics in a
+    /// method that does not return a `Result`.
     #[must_use]
     pub fn new(input: &'a str) -> Lexer<'a> {
         let taken = if is_too_long(input.len()) { "" } else { input };
@@ -47,8 +48,8 @@ impl<'a> Lexer<'a> {
         Ok(&self.proved)
     }
 
-    /// Sets whether comments and strings may contain the nine characters that control text direction or shaping and so can make a text look different
-    /// from its bytes: U+202A, U+202B, U+202D, U+202E, U+2066 to U+2069, and U+206C.
+    /// Sets whether comments and strings may contain the nine confusing characters, which control text direction or shaping and so can hide what a
+    /// text contains: U+202A, U+202B, U+202D, U+202E, U+2066 to U+2069, and U+206C.
     pub fn allow_confusing_unicode(&mut self, allow: bool) -> &mut Self {
         self.proved.allow_confusing_unicode(allow);
         self
@@ -208,7 +209,7 @@ impl<'a> Lexer<'a> {
         }
     }
 
-    /// Returns the verified lexer, after checking that `pos` is a char boundary of the text: a precondition of its methods.
+    /// Returns the verified lexer, after an assertion that `pos` is a char boundary of the text, which is a precondition of its methods.
     fn proved_at(&self, pos: usize) -> Result<&proved::lexer::Lexer<'a>, Error> {
         let lexer = self.proved()?;
         assert!(

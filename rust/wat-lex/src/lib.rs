@@ -64,7 +64,7 @@ mod lexer;
 mod lines;
 mod number;
 mod recover;
-// Names and signatures are those of Rattle's library, which documents their errors; blocks of bytes are integers that are truncated.
+// Names and signatures are those of Rattle's library, which documents their errors. The code for blocks of bytes truncates integers.
 #[allow(clippy::pedantic)]
 pub mod shim;
 mod token;

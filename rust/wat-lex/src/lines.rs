@@ -41,7 +41,7 @@ impl<'a> LineIndex<'a> {
     }
 
     /// Returns the line and the column of an offset, the column in UTF-16 code units, as in editors and the language server protocol. The column
-    /// counts the characters of the line that begin before the offset. Reads at most 128 KiB of the line.
+    /// counts the characters of the line that begin before the offset. Reads at most 128 KiB of the text.
     #[must_use]
     pub fn utf16_linecol(&self, span: Span) -> (usize, usize) {
         self.proved.utf16_linecol(span)

@@ -24,7 +24,7 @@ pub enum Float<'a> {
         integral: Cow<'a, str>,
         /// The digits after the dot, or `None` if there are none.
         fractional: Option<Cow<'a, str>>,
-        /// The digits of the exponent, or `None` if there is no exponent; a `-` is kept.
+        /// The digits of the exponent, or `None` without an exponent; a `-` is kept.
         exponent: Option<Cow<'a, str>>,
     },
 }

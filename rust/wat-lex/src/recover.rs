@@ -173,8 +173,8 @@ impl Placed for Piece {
 pub struct Pieces<'a> {
     lexer: Lexer<'a>,
     pos: usize,
-    /// Sorted offsets of the unclosed block comments, from the first that was found. They are collected once, as the lexer searches up to the end of
-    /// the text for the end of each.
+    /// Sorted offsets of the unclosed block comments, from the first that was found. They are collected once, because the lexer would search for the
+    /// end of each up to the end of the text.
     unclosed: Vec<usize>,
     /// Number of these offsets that are before `pos`.
     passed: usize,

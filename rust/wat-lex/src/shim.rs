@@ -7,7 +7,7 @@ pub mod boxed;
 pub mod collections;
 pub mod fast_float;
 mod macros;
-// Calls of the target's SIMD instructions. The methods of a block have the names of Rattle's and of Rust's library.
+// The module calls the target's SIMD instructions. Methods without documentation are named as in the libraries of Rattle and Rust.
 #[allow(missing_docs, unsafe_code)]
 pub mod simd;
 #[cfg(not(target_pointer_width = "16"))]

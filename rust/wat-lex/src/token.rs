@@ -45,7 +45,7 @@ impl Token {
         self.offset..self.end()
     }
 
-    /// Returns the bytes of the token as a part of the text `s` that it was lexed from.
+    /// Returns the source of the token, a slice of `s`. `s` must be the text that the token was lexed from.
     ///
     /// # Panics
     ///
@@ -94,7 +94,7 @@ impl Token {
     ///
     /// # Errors
     ///
-    /// Returns an error if the name is empty or not UTF-8.
+    /// Returns an error if the name is empty or not UTF-8, or if an allocation fails.
     ///
     /// # Panics
     ///
@@ -109,7 +109,7 @@ impl Token {
     ///
     /// # Errors
     ///
-    /// Returns an error if the name is empty or not UTF-8.
+    /// Returns an error if the name is empty or not UTF-8, or if an allocation fails.
     ///
     /// # Panics
     ///

@@ -550,7 +550,7 @@ impl<'a> Parser<'a> {
         T::peek(self.cursor())
     }
 
-    /// Returns `true` if the type recognizes the second of the next tokens with [`Peek::peek2`].
+    /// Returns `true` if the token after the next one is one with which the type begins.
     ///
     /// # Errors
     ///

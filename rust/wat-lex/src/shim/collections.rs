@@ -343,8 +343,8 @@ impl<K: Key, V> BTreeMap<K, V> {
         part.unwrap_or(&mut self.first)
     }
 
-    /// Returns the number of parts of `more` whose first key is at most `key`. The count may be too high by one if that part's first key has the same
-    /// lead as `key`.
+    /// Returns the number of parts of `more` whose first key is at most `key`. The last of these parts may begin with a greater key that has the same
+    /// lead.
     #[inline(always)]
     fn begun<Q: Key + ?Sized>(&self, key: &Q, head: u64) -> usize
     where
@@ -381,7 +381,8 @@ impl<K: Key, V> BTreeMap<K, V> {
         begin + same.partition_point(|part| part.first() <= key)
     }
 
-    /// Returns the number of parts of `more` to pass to `part` for a key, and the key's index in that part, or the index at which to insert it.
+    /// Returns the position of a key, or the position at which to insert it: the number of parts of `more` up to the key's part, and the index in
+    /// that part.
     #[inline(always)]
     fn find<Q: Key + ?Sized>(&self, key: &Q) -> (usize, Result<usize, usize>)
     where
@@ -395,7 +396,8 @@ impl<K: Key, V> BTreeMap<K, V> {
         }
     }
 
-    /// Returns the position of a key that is not in a part. If the part's first key is greater than `key`, the key may be in the part before it.
+    /// Returns the position of a key that is not in the part at `begun`, in which it would have the index `place`. If that index is 0, the key may be
+    /// in the part before it.
     fn miss<Q: Key + ?Sized>(
         &self,
         key: &Q,

@@ -2,7 +2,7 @@
 use core::ops::{Neg, Range};
 use core::str::{self, FromStr};
 
-/// Number of digits that decide the rounding: no 64-bit float is halfway between two decimal numerals with more than 767 significant digits.
+/// Number of digits that decide the rounding: no midpoint of two adjacent 64-bit floats has more than 767 significant digits.
 const DECISIVE: usize = 800;
 
 /// The longest prefix of a text that is a decimal numeral: digits, an optional dot with optional digits, and an optional exponent. It may have no

@@ -34,7 +34,7 @@ impl u8x16 {
         u8x16(neon!(vdupq_n_u8(byte)))
     }
 
-    /// Returns the byte at each index, or 0 if the index is at least 128. Other indices must be less than 16.
+    /// Returns a block with the byte of `self` at each index, and 0 for an index of at least 128. Other indices must be less than 16.
     #[inline(always)]
     pub fn swizzle_dyn(self, indices: u8x16) -> u8x16 {
         u8x16(neon!(vqtbl1q_u8(self.0, indices.0)))
@@ -69,7 +69,7 @@ impl BitOr for u8x16 {
     }
 }
 
-/// Shifts each byte right by the bits of the same lane, which must be less than 8.
+/// Shifts each byte right by the count in the same lane, which must be less than 8.
 impl Shr for u8x16 {
     type Output = u8x16;
 

@@ -22,7 +22,7 @@ impl u8x16 {
         u8x16([byte; 16])
     }
 
-    /// Returns the byte at each index, or 0 if the index is at least 128. Other indices must be less than 16.
+    /// Returns a block with the byte of `self` at each index, and 0 for an index of at least 128. Other indices must be less than 16.
     #[inline(always)]
     pub fn swizzle_dyn(self, indices: u8x16) -> u8x16 {
         u8x16(from_fn(|i| match indices.0[i] {
@@ -60,7 +60,7 @@ impl BitOr for u8x16 {
     }
 }
 
-/// Shifts each byte right by the bits of the same lane, which must be less than 8.
+/// Shifts each byte right by the count in the same lane, which must be less than 8.
 impl Shr for u8x16 {
     type Output = u8x16;
 

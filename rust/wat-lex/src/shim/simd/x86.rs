@@ -64,7 +64,7 @@ impl u8x16 {
         u8x16(sse2!(_mm_set1_epi8(byte as i8)))
     }
 
-    /// Returns the byte at each index, or 0 if the index is at least 128. Other indices must be less than 16.
+    /// Returns a block with the byte of `self` at each index, and 0 for an index of at least 128. Other indices must be less than 16.
     #[inline(always)]
     pub fn swizzle_dyn(self, indices: u8x16) -> u8x16 {
         #[cfg(target_feature = "ssse3")]
@@ -103,8 +103,8 @@ impl BitOr for u8x16 {
     }
 }
 
-/// Shifts each byte right by the bits of the same lane, which must be less than 8.
-// Applies the shifts by 4, 2 and 1 that the bits of each lane select. If the counts are constant, the compiler reduces this to one shift.
+/// Shifts each byte right by the count in the same lane, which must be less than 8.
+// Applies the shifts by 4, 2 and 1 that the bits of each count select. If the counts are constant, the compiler reduces this to one shift.
 impl Shr for u8x16 {
     type Output = u8x16;
 

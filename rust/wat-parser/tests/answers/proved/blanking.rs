@@ -23,8 +23,8 @@ fn both_show(text: &Buffer, other: &Buffer) -> Result<bool, Error> {
     Ok(shown(text, "")? == shown(other, "")? && shown(text, "a")? == shown(other, "a")?)
 }
 
-/// Returns `true` if the visible tokens stay the same after a raw token is replaced by spaces, under each of the four settings under which the lexer
-/// finds the token.
+/// Returns `true` if replacing a raw token by spaces does not change the visible tokens, under each of the four settings under which the lexer finds
+/// the token.
 fn is_same(source: Source, text: &str, token: Token, other: &str) -> Result<bool, Error> {
     for (allow, strict) in [(false, false), (false, true), (true, false), (true, true)] {
         let before = source.buffer_with_lexer(lexer_of(text, allow, strict))?;
@@ -50,7 +50,7 @@ fn each(source: Source, text: &str) -> Result<String, Error> {
     Ok(format!("{found} comments, none changes what is shown"))
 }
 
-/// Returns the first comment of a text, and the text in which it is replaced by spaces, or `None` if there is no comment.
+/// Returns the first comment of a text, and the text in which it is replaced by spaces, or `None` if the text has none.
 fn blanked_first(text: &str) -> Result<Option<(Token, Text)>, Error> {
     let mut blanked = (0..text.len()).map(|number| blanked_at(text, number).transpose());
     blanked.find_map(|blanked| blanked).transpose()
