@@ -48,8 +48,8 @@ impl<'a> Lexer<'a> {
         Ok(&self.proved)
     }
 
-    /// Sets whether comments and strings may contain the nine confusing characters, which control text direction or shaping and so can hide what a
-    /// text contains: U+202A, U+202B, U+202D, U+202E, U+2066 to U+2069, and U+206C.
+    /// Sets whether comments and strings may contain the 9 confusing characters, which control text direction or shaping and so can hide what a text
+    /// contains: U+202A, U+202B, U+202D, U+202E, U+2066 to U+2069, and U+206C.
     pub fn allow_confusing_unicode(&mut self, allow: bool) -> &mut Self {
         self.proved.allow_confusing_unicode(allow);
         self

@@ -75,7 +75,7 @@ pub use error::Error;
 /// The verified code, with its contracts.
 ///
 /// The code is generated from a program in Rattle, which is Rust with contracts. Ghost code is erased, and the contract of each function is kept in a
-/// section *Proved* of its documentation. A function that allocates takes the allocator as a parameter, and returns an error if an allocation fails.
+/// section *Proved* of its documentation. A function that allocates has the allocator as a parameter, and returns an error if an allocation fails.
 ///
 /// # Reading a contract
 ///

@@ -3,9 +3,8 @@ use crate::proved;
 use crate::shim::alloc::{Global, granted};
 use core::fmt;
 
-/// An index of the line starts of a text, for converting many offsets. Each conversion is a binary search, while [`Span::linecol_in`] reads the text
-/// up to the offset. The index allocates 8 bytes per line, and 8 bytes per 64 KiB of the text if a line is longer than 64 KiB. `wast` has no such
-/// type.
+/// An index of the lines of a text, for converting many offsets. Each conversion is a binary search, while [`Span::linecol_in`] reads the text up to
+/// the offset. The index stores a `usize` per line, and one per 64 KiB of the text if a line is longer than 64 KiB. `wast` has no such type.
 ///
 /// Lines and columns count from 0, and a line ends at a line feed. Past the end of the text the line is the number of lines, and the column is 0.
 ///
