@@ -1,13 +1,13 @@
 #!/usr/bin/env python3
-"""Runs the program over long texts, and counts the bytes that it asks for, those that it still holds at its end, its writes and the files it opens.
+"""Runs the program on long texts, and checks the bytes that it allocates, the bytes that it still holds at its end, its writes and its opened files.
 
 usage: tools/check_bytes.py PROGRAM
 
-Where BY_CARGO is set the program is the one that cargo builds, and Rust's library still holds the buffer of standard input at the end.
+If BY_CARGO is set, PROGRAM was built with cargo, and Rust's library still holds the buffer of standard input at the end.
 
-Each run has a bound of the bytes for each byte of its text, and of the writes; it ends in time; and what it writes is compared with what is put
-together here, or with a run that has to answer the same. Nothing may be held at the end. The counts are those of tools/refuse_requests.c, which is
-loaded in front of the C library.
+Each run has a bound on the bytes allocated for each byte of its text, and a bound on its writes. It must end within a time limit, and its output is
+compared with output generated here or with that of an equivalent run. At the end no memory may be held. The counts are those of
+tools/refuse_requests.c, which is loaded before the C library.
 """
 import os
 import pathlib
@@ -18,13 +18,13 @@ import sys
 import tempfile
 
 TOOLS = pathlib.Path(__file__).resolve().parent
-# A run is much faster. What takes a time that grows with the square of the text's length takes minutes.
+# Time limit of a run. A correct run is much faster; a run whose time is quadratic in the length of the text takes minutes.
 SECONDS = 20
-# What a run asks for beside what goes by the text: the words, a report, one block of output.
+# The bytes that a run may allocate in addition to those in proportion to the text: for arguments, a report and one block of output.
 BESIDE = 200_000
-# What the library of the program's compiler holds to the end.
+# The bytes that the runtime library of the program's compiler holds until the end.
 KEPT = 9_000 if os.environ.get("BY_CARGO") else 0
-# How much of standard input is read at once.
+# The number of bytes of standard input that are read at once.
 PIECE = 65_536
 WHITE = ("Whitespace", "LineComment", "BlockComment")
 
@@ -37,7 +37,7 @@ def compiler():
 
 
 class Room:
-    """A folder of its own, with the library and the files of the runs."""
+    """A temporary directory with the counting library and the files of the runs."""
 
     def __init__(self, program, folder):
         self.program, self.folder = pathlib.Path(program).resolve(), pathlib.Path(folder)
@@ -50,7 +50,7 @@ class Room:
         (self.folder / name).write_bytes(text)
 
     def run(self, words, text=b""):
-        """Status, what was written, reported and counted in a run on the text, which is in a file, so that each read gives as much."""
+        """Runs the program on a text, and returns its status, output, report and counts. Standard input is a file, so that reads are not short."""
         counts, given = self.folder / "counts", self.folder / "given"
         given.write_bytes(text)
         with open(counts, "wb") as counted, open(given, "rb") as source:
@@ -66,7 +66,7 @@ class Room:
         return done.returncode, done.stdout, done.stderr, numbers
 
     def check(self, name, words, text=b"", *, size=None, times, writes, opens=0, wanted=None, status=0):
-        """A run whose bytes, writes and opened files stay within bounds, and which answers what is wanted; answers what it wrote."""
+        """Runs the program, records a fault if a bound, the status or the output is not as specified, and returns the output."""
         got, written, reported, counted = self.run(words, text)
         self.runs += 1
         size = len(text) if size is None else size
@@ -94,13 +94,13 @@ class Room:
 
 
 def lines(count):
-    """Lines of a module's text with comments, names and strings."""
+    """Yields parts of a module's text, each with comments, names and strings."""
     for i in range(count):
         yield f'(func $f{i} (param $x i32) "a\\n{i}") ;; line {i}\n(; block\n;)\n'
 
 
 def blanked(text):
-    """The text with spaces over its comments but their line ends, where no string has a comment's mark in it."""
+    """Returns the text with its comments replaced by spaces, except for their line ends. No string of the text may contain a comment's delimiter."""
     return re.sub(rb";;[^\r\n]*|\(;.*?;\)", lambda it: re.sub(rb"[^\r\n]", b" ", it[0]), text, flags=re.DOTALL)
 
 
@@ -117,7 +117,7 @@ def leb128(number):
 
 
 def module(count):
-    """A module's text with so many types, and its bytes."""
+    """Returns the text of a module with `count` types, and its bytes."""
     one = b"(type (func (param i32 i64) (result f32)))\n"
     content = leb128(count) + count * b"\x60\x02\x7f\x7e\x01\x7d"
     return b"(module\n" + count * one + b")", b"\0asm\x01\0\0\0\x01" + leb128(len(content)) + content
@@ -139,7 +139,7 @@ def lists(room):
 
 
 def groups(room):
-    """A name that is registered, and one that is not, in front of each token."""
+    """Checks texts with a registered and an unregistered annotation before each token, and deeply nested groups."""
     text = 100_000 * b"(@a (b)) (@z ()) x\n"
     shown = room.check("sig, many annotations", ["sig", "a"], text, times=1.7, writes=380)
     if shown.count(b" Annotation\n") != 100_000 or shown.count(b" LParen\n") != 200_000 or shown.count(b" Keyword\n") != 200_000:
@@ -177,7 +177,7 @@ def layouts(room):
 
 
 def files(room):
-    """Five files, each other than the next, of which two are laid out."""
+    """Checks commands on five different files, of which two are already formatted."""
     texts = {f"{i}.wat": "".join(lines(3_900 + i)).encode().replace(b" (param", b"\n\n   (param") for i in range(5)}
     for i in (1, 3):
         texts[f"{i}.wat"] = room.run(["fmt"], texts[f"{i}.wat"])[1]

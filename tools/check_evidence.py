@@ -1,12 +1,12 @@
 #!/usr/bin/env python3
-"""Reads the sources for what could make a refusal of memory, or a failure, that no request and no call of the system made.
+"""Searches the sources for code that could return an allocation failure without a failed allocation, or a failure without a failed system call.
 
 usage: tools/check_evidence.py [--self-test] [CRATES]
 
-It goes by the tokens of each source that is built into a library or program, and finds, outside the places that stand in its lists with a reason:
-values that mean a refusal; requests for memory whose size is no single item and no given text; requests whose refusal is not handed on, or
-whose room is not used; values that mean a failed call; and words that keep memory for good. Contracts, comments, strings
-and what comes after `#[cfg(test)]` are left out. docs/verification.md says what it does not see. CRATES is the folder of the crates.
+It checks the tokens of each source that is built into a library or a program. Outside of the expressions in its lists, each of which has a reason, it
+reports: values that mean an allocation failure; allocations whose size is neither one item nor a given text; allocations whose failure is not
+propagated, or whose capacity is not used; values that mean a failed call; and code that keeps memory forever. Contracts, comments, strings and items
+after `#[cfg(test)]` are ignored. docs/verification.md lists what it does not see. CRATES is the folder of the crates.
 """
 import collections
 import dataclasses
@@ -18,8 +18,9 @@ import tempfile
 import rattle_source
 from rattle_source import OPEN, items_of, past_group, split_at, tokens_of, uses_of, written
 
-# A place is a file, a function of it, and what is there, once. Functions of an `impl` have the type's name in front, and the trait's.
-# The places that may make a refusal.
+# Each entry of a list has a file, a function of it, and an expression that occurs there once. A function of an `impl` is preceded by the type's name,
+# and by the trait's if there is one.
+# The expressions that may construct an allocation failure, each with its reason.
 REFUSALS = [
     ("wat_lex/src/error.rt", "Error::out_of_memory", "Error::from(AllocError)", "the public constructor, for callers who have no refusal in hand"),
     ("wat_lex/src/encode.rt", "From<AllocError> for EncodeError::from", "EncodeError::Memory", "made of a refusal"),
@@ -41,8 +42,8 @@ REFUSALS = [
         "the standard library keeps only the kind of an `io::Error`, and this kind is that of a refused request",
     ),
 ]
-# Requests whose size is no single item and no given text: the request, all of the function's body that comes before it, which says what its size
-# is, and why that is no more than what is at hand.
+# Allocations whose size is neither one item nor a given text: the allocation; the function's body up to it, which shows its size (empty if not
+# checked); and the reason why the size is bounded by that of existing data.
 REQUESTS = [
     (
         "wat_lexer_parser/src/parser/table.rt",
@@ -111,7 +112,7 @@ REQUESTS = [
         "the fault's line, which is a part of the text, with its marker",
     ),
 ]
-# The places that may make a value that means a failed call, or a number that means a refusal. What holds such a value is made of one.
+# The expressions that may construct a value of a failed call, or an integer that means an allocation failure, each with the value it is derived from.
 FAILURES = [
     ("wat_lines/src/failed.rt", "Failed::of", "Failed { code: error.raw_os_error().map(|code| code.unsigned_abs()) }", "of an error of std's"),
     ("wat_lines/src/failed.rt", "taken", "Ok(0) => Err(Failed { code: None })", "of a write that takes nothing"),
@@ -143,7 +144,7 @@ FAILURES = [
     ("wat_commands/src/outcome.rt", "Exit::or", "Exit { code: self.code.max(other.code) }", "of two statuses"),
     ("wat_commands/src/outcome.rt", "Exit::idle", "Exit { code: 0 }", "of nothing that was done"),
 ]
-# Files in which a status is a plain number.
+# Files in which a status is a plain integer.
 STATUSES = {
     "wat_parser_c/src/answers.rt",
     "wat_parser_c/src/by_place.rt",
@@ -158,13 +159,13 @@ STATUSES = {
     "wat_tokens/src/main.rt",
 }
 
-# Values that mean a refusal.
+# Names of types and functions that mean an allocation failure.
 REFUSAL = {"AllocError", "AllocFailed", "TryReserveError", "SpawnError", "LayoutError", "out_of_memory"}
-# Errors of which the variant for a refusal holds nothing.
+# Error types whose variant for an allocation failure has no field.
 BARE = {"EncodeError", "FillError", "RunError"}
-# Ways to a value out of nothing.
+# Functions and types that create a value out of nothing.
 MADE_OF_BYTES = {"transmute", "transmute_copy", "zeroed", "MaybeUninit", "assume_init", "read_unaligned", "from_raw", "from_raw_parts", "default", "Default"}
-# Words of the standard library and of the crates that we stand on that ask for a number of items, or for as many as an iterator has.
+# Names in the standard library, and in the crates that the project depends on, that allocate for a number of items or for all items of an iterator.
 SIZED = set(
     "vec from_elem with_capacity with_capacity_in reserve reserve_exact try_reserve try_reserve_exact reserve_one reserve_by_hint reserved_exactly "
     "try_grow grow resize resize_with extend extend_one extend_with extend_items extend_chars extend_strs extend_from_within collect from_iter "
@@ -172,22 +173,22 @@ SIZED = set(
     "realloc string_with_room vec_with_room zeros new_zeroed new_uninit to_heap replace_range replacen join concat sort sort_by sort_by_key "
     "sort_by_cached_key map_indices map_chunks map_vec Layout".split()
 )
-# Where one of them is no request: a macro that joins strings as it is compiled, a vector of the processor, a name of ours.
+# Uses of these names that do not allocate: the macro `concat!` at compile time, a vector of the processor, and functions of the project.
 HARMLESS = {
     "concat": lambda before, after: after == ["!"],
     "from_array": lambda before, after: before == ["u8x16", "::"],
     "sort": lambda before, after: before[-1:] not in (["."], ["::"]) or before == ["crate", "::"],
 }
-# Words that ask for one item or for a given text, and answer whether they got it.
+# Functions that allocate for one item or for a given text, and return whether the allocation succeeded.
 ONE = set("push push_str push_back push_front insert insert_str extend_from_slice from_str from_slice clone to_owned into_owned to_string to_vec append".split())
-# Macros that print, and words that take an answer without handing on a refusal.
+# Macros that print, and methods that discard an allocation failure.
 PRINTS = set("format write writeln print println eprint eprintln".split())
 TAKEN = set("is_ok is_err ok err unwrap_or unwrap_or_default unwrap_or_else map_or map_or_else".split())
-# Words that keep memory for good.
+# Names that keep memory forever.
 KEEPS = {"forget", "ManuallyDrop", "leak", "into_raw", "into_raw_parts", "Rc", "Arc"}
-# The one other name for something.
+# The renaming imports that are allowed.
 ALIASES = ["wat_format::error::Error as FormatError"]
-# Values that mean a call that failed, as the beginning of what makes one.
+# Patterns of the expressions that construct a value of a failed call, each with its description.
 FAILED = [
     (re.compile(r"^(Failed|Stopped)\{"), "a failure"),
     (re.compile(r"^io::Error::(from|new|other|from_raw_os_error|last_os_error)\b"), "an error of std's"),
@@ -198,25 +199,25 @@ FAILED = [
     (re.compile(r"^Outcome::(Kept|Wrong)\b"), "an outcome of words or files"),
 ]
 STATUS = [(re.compile(r"^(Answer|Look|Exit)\{(?!needed(:[^{}]*)?,status:0,?\})"), "a status"), (re.compile(r"^2$"), "a status of 2")]
-# The longest array, and the widest hole of what is printed, that need not be listed.
+# The longest array, and the widest hole of a format string, that need not be listed.
 LONGEST_ARRAY = 65_536
 WIDEST = 64
 
 
 class Code:
-    """A stretch of a source: its file, the function that it is of, and its tokens; and whether these are types alone."""
+    """A part of a source: its file, its function, its tokens, and whether they are types only."""
 
     def __init__(self, file, place, tokens, only_types=False):
         self.file, self.place, self.tokens, self.only_types = file, place, tokens, only_types
         self.words = [it.text for it in tokens]
 
     def around(self, at):
-        """The two words before a place, and the one after it."""
+        """Returns the two tokens before an index, and the one after it."""
         return self.words[max(at - 2, 0) : at], self.words[at + 1 : at + 2]
 
 
 def stretches(file, items, front=""):
-    """The stretches of a source, without contracts and tests."""
+    """Yields the parts of a source, without contracts and tests."""
     for item in items:
         if item.is_test:
             continue
@@ -244,7 +245,7 @@ def stretches(file, items, front=""):
 
 
 def patterns(tokens):
-    """The places of the tokens that stand in a pattern: in `let`, in an arm of `match`, in `matches!`."""
+    """Returns the indices of the tokens in patterns: of `let`, of the arms of `match`, and of `matches!`."""
     words = [it.text for it in tokens]
     inside = set()
     for at, word in enumerate(words):
@@ -264,7 +265,7 @@ def patterns(tokens):
 
 
 def past(tokens, at, ends, last=None):
-    """The place of the first of some words that is in no bracket."""
+    """Returns the index of the first token in `ends` outside of brackets, or `last` if there is none."""
     last = len(tokens) if last is None else last
     while at < last and tokens[at].text not in ends:
         at = past_group(tokens, at) if tokens[at].text in OPEN and tokens[at].text not in ends else at + 1
@@ -272,7 +273,7 @@ def past(tokens, at, ends, last=None):
 
 
 def arms(tokens, at, last):
-    """Where the pattern of each arm of a `match` begins and ends, with its guard."""
+    """Yields the start and the end of the pattern of each arm of a `match`, including its guard."""
     while at < last:
         arrow = past(tokens, at, {"=>"}, last)
         yield at, arrow
@@ -285,26 +286,26 @@ def arms(tokens, at, last):
 
 
 def spread(text):
-    """The words of a text of the lists."""
+    """Returns the tokens of an entry's code."""
     return [it.text for it in tokens_of(text)]
 
 
 def without_commas(words):
-    """Words without the commas that a bracket's end makes needless, and the places that they had."""
+    """Returns the words without trailing commas before a closing bracket, and their original indices."""
     kept = [i for i, it in enumerate(words) if not (it == "," and words[i + 1 : i + 2] and words[i + 1] in ")]}")]
     return [words[i] for i in kept], kept
 
 
 class Search:
-    """What is found in the sources, and which of the listed places were met."""
+    """The findings in the sources, and the number of occurrences of each listed expression."""
 
     def __init__(self):
         self.found, self.met = [], collections.Counter()
-        # what constants stand for, by file and name, and by name alone
+        # values of constants, keyed by file and name, and by name alone
         self.constants = collections.defaultdict(list)
 
     def places(self, code, lists):
-        """The places of the tokens that a list allows here."""
+        """Returns the indices of the tokens that a list allows in this part, and counts the occurrences of its entries."""
         allowed = set()
         words, kept = without_commas(code.words)
         for entry in lists:
@@ -333,7 +334,7 @@ class Search:
         self.unused(code)
 
     def names(self, code):
-        """Other names for what is looked for, and names of std's that would be."""
+        """Reports imports that rename a checked name, or that import an error type of `std::io` or `std::fmt` without its module."""
         if "as" in code.words and written(code.tokens) not in ALIASES:
             self.say(code, 0, f"another name: {written(code.tokens)}")
         for _, path in uses_of(code.tokens):
@@ -341,7 +342,7 @@ class Search:
                 self.say(code, 0, f"a name that is looked for with its module: {'::'.join(path)}")
 
     def refusals(self, code):
-        """Values that mean a refusal, and ways to make one."""
+        """Reports values that mean an allocation failure, and code that creates a value out of nothing."""
         allowed = self.places(code, REFUSALS)
         inside = patterns(code.tokens)
         words = code.words
@@ -359,7 +360,7 @@ class Search:
                 self.say(code, at, "unsafe code that is no text of the caller's")
 
     def is_type(self, code, at):
-        """Whether the name of a refusal is a type in code: in `<..>`, or before `::from(`."""
+        """Returns `True` if the name of an allocation failure is a type: in `<..>`, before `::from(`, or in a `use` that does not rename it."""
         words = code.words
         if code.place == "use":
             return words[at + 1 : at + 2] != ["as"]
@@ -368,7 +369,7 @@ class Search:
         return words[at - 1 : at] in (["<"], [","]) and words[at + 1 : at + 2] == [">"]
 
     def requests(self, code):
-        """Requests whose size is a number, or what an iterator has."""
+        """Reports allocations of an unlisted size, discarded allocation failures, and memory that is kept forever."""
         allowed = self.places(code, REQUESTS)
         words = code.words
         for at, word in enumerate(words):
@@ -389,14 +390,14 @@ class Search:
         self.pins(code)
 
     def call(self, code, at):
-        """The call of a word, as a reader sees it."""
+        """Returns the call at a name as one line, for a message."""
         bracket = past(code.tokens, at, {"(", "[", ";", ",", "}"})
         end = past_group(code.tokens, bracket) if code.words[bracket : bracket + 1] in (["("], ["["]) else bracket
         start = at - 2 if code.words[at - 1 : at] == ["::"] else at
         return written(code.tokens[start:end])
 
     def is_request(self, code, at):
-        """Whether a call that ends here asks for memory: its bracket is looked for backwards."""
+        """Returns `True` if the call whose closing parenthesis is at `at` allocates. Its opening parenthesis is searched for backwards."""
         if code.words[at : at + 1] != [")"]:
             return False
         depth = 0
@@ -407,7 +408,7 @@ class Search:
         return False
 
     def widths(self, code, at, allowed):
-        """A width or a precision in the text of a macro that prints."""
+        """Reports a width or a precision in a format string that is given by an argument or is larger than `WIDEST`."""
         for i in range(at, past_group(code.tokens, at + 2)):
             if code.tokens[i].kind == "string" and i not in allowed:
                 for hole in re.findall(r"\{[^{}]*\}", code.tokens[i].text.replace("{{", "").replace("}}", "")):
@@ -416,7 +417,7 @@ class Search:
                         self.say(code, i, f"a request that is not listed: a hole with a width, {hole}")
 
     def arrays(self, code, allowed):
-        """Arrays that are long, or of a length that is no number and no constant."""
+        """Reports arrays that are longer than `LONGEST_ARRAY`, or whose length is neither an integer nor a constant."""
         for at, word in enumerate(code.words):
             if word != "[" or at in allowed or code.words[at - 1 : at] == ["!"] or code.words[at - 1 : at] == ["#"]:
                 continue
@@ -434,7 +435,7 @@ class Search:
         return code.only_types and len(words[0]) == 1
 
     def pins(self, code):
-        """What comes before a listed request, which says what its size is."""
+        """Reports functions whose body does not begin with the code that the list has before a listed allocation."""
         for entry in REQUESTS:
             if entry[3] and entry[0] == code.file and entry[1] == code.place and not code.only_types:
                 words = without_commas(code.words)[0][1:]
@@ -443,7 +444,7 @@ class Search:
                     self.say(code, 0, f"before {entry[2]} there is more than what its list says")
 
     def failures(self, code):
-        """Values that mean a failed call, and numbers that mean a refusal."""
+        """Reports values that mean a failed call, and integers that mean an allocation failure."""
         allowed = self.places(code, FAILURES)
         inside = patterns(code.tokens)
         forms = FAILED + (STATUS if code.file in STATUSES else [])
@@ -467,7 +468,7 @@ class Search:
                     break
 
     def unused(self, code):
-        """Requests whose room, or whose refusal, is thrown away."""
+        """Reports allocations whose capacity is not used, or whose failure is discarded."""
         for at, word in enumerate(code.words):
             name = code.words[at + 1 : at + 2]
             if word == "let" and name and name[0].startswith("_"):
@@ -477,7 +478,7 @@ class Search:
                     self.say(code, at, f"a request whose room is not used: {written(code.tokens[at:end])[:90]}")
 
     def ends(self, files):
-        """The listed places that were not met, or more than once, in the files that are there."""
+        """Reports entries of the lists that do not occur exactly once, for the files that are given."""
         for entry in REFUSALS + REQUESTS + FAILURES:
             count = self.met[id(entry)]
             if entry[0] in files and count != 1:
@@ -485,7 +486,7 @@ class Search:
 
 
 def searched(files):
-    """What is found in sources, which are given by name; those of the lists that are missing are not looked for."""
+    """Returns the findings in sources, given as texts by name, sorted by file and line. Entries of the lists for other files are ignored."""
     search = Search()
     parsed = {name: items_of(tokens_of(text)) for name, text in files.items()}
     for name, item in ((name, it) for name, items in parsed.items() for it in items if it.kind == "const"):
@@ -499,7 +500,7 @@ def searched(files):
 
 
 def modules(file, items):
-    """The files of the modules that a source declares, without those of tests."""
+    """Yields the files of the modules that a source declares, except those of tests."""
     folder = file.parent if file.name in ("lib.rt", "main.rt") else file.with_suffix("")
     for item in items:
         if item.kind == "mod" and not item.is_test and not item.body:
@@ -507,7 +508,7 @@ def modules(file, items):
 
 
 def sources(crates):
-    """The sources by name: those that a library or a program has as its modules."""
+    """Returns the texts of the sources that are modules of a library or a program, by name."""
     files, todo = {}, []
     for crate in sorted(crates.iterdir()):
         todo += [it for it in (crate / "src/lib.rt", crate / "src/main.rt") if it.exists()]
@@ -519,7 +520,7 @@ def sources(crates):
     return files
 
 
-# Bodies of a function that make a refusal or a failure of their own, or ask for more than an item or a text: each has to be found.
+# Bodies of a function with a seeded fault: each constructs a failure without a cause, or allocates for more than an item or a given text.
 BODIES = r"""
 if text.len() > 16 { return Err(AllocError); }
 let refused = AllocError;
@@ -590,7 +591,7 @@ return Err(RunError::Write);
 let failed = RunError::Read;
 unsafe { list.set_len(10) }
 """.strip("\n").split("\n")
-# Items that do so.
+# Items with a seeded fault.
 ITEMS = [
     "use std::alloc::AllocError as Lacking;",
     "type Lacking = AllocError;\nfn f() -> Lacking { make() }",
@@ -610,7 +611,7 @@ ITEMS = [
     "mod inner { fn f() -> AllocError { AllocError } }",
     "#[cfg(test)]\nmod tests { fn f() { AllocError } }\nfn g() -> AllocError { AllocError }",
 ]
-# Bodies and items that only hand on, or ask for an item or a text.
+# Items without a fault: they propagate failures, or allocate for an item or a given text.
 HANDED_ON = [
     "fn push(&mut self, token: Token) -> Result<(), AllocError> { self.list.push(token)?; Ok(()) }",
     "use std::alloc::{AllocError, AllocFailed, Global};",
@@ -630,7 +631,7 @@ HANDED_ON = [
     "fn f() { match reader.read(buffer) { Err(Failed { code }) => code, Ok(count) => count } }",
     "fn f() { if error.kind() == io::ErrorKind::NotFound { return Ok(()); } }",
 ]
-# What a change of a listed place has to be found by: a file, what is there, and what is put there.
+# Seeded faults in listed functions: a file, the old text and the new text.
 CHANGED = [
     ("wat_lexer_parser/src/parser/table.rt", "Ok(Table {", "let text = other_text();\n        Ok(Table {"),
     ("wat_lexer_parser/src/parser/table.rt", "with_capacity(alloc, first_room(text))", "with_capacity(alloc, usize::MAX / 64)"),
@@ -658,7 +659,7 @@ CHANGED = [
 ]
 
 
-# Crates of which a module refuses: by name of a file, and whether the refusal is in what is built.
+# Crates with a module that returns an allocation failure: the sources by file name, and whether that module is built.
 TREES = [
     ({"lib.rt": "mod tests;", "tests.rt": "fn f() { Err(AllocError) }"}, True),
     ({"lib.rt": "mod tests;", "tests.rt": "mod inner;", "tests/inner.rt": "fn f() { Err(AllocError) }"}, True),
@@ -668,7 +669,7 @@ TREES = [
 
 
 def tree_found(files):
-    """Whether a crate of these files has a fault."""
+    """Returns `True` if a crate of these files has a finding."""
     with tempfile.TemporaryDirectory() as folder:
         for name, text in files.items():
             file = pathlib.Path(folder) / "crates/wat_x/src" / name
@@ -678,7 +679,7 @@ def tree_found(files):
 
 
 def changed_found(files, name, before, after):
-    """Whether a source with a change has a fault that it has not as it is."""
+    """Returns `True` if a changed source has a finding that the original does not have."""
     if before not in files[name]:
         return False
     other = {name: files[name].replace(before, after, 1)}

@@ -1,10 +1,11 @@
 #!/usr/bin/env python3
-"""Reads what the program writes with --json by Python's own parser of JSON, and compares each object with the row of the plain list and with
-the text: offset, length, kind and text, and line and column, which are counted here once more. Report and exit status must be those of the plain
-list, and after the last token an object of the fault must say what the report says. The texts are those of crates/wat_tokens/agreement, generated ones, and some with each byte that is escaped. At some tokens of
-plain ASCII the text is cut and a fault put after it, whose message must have the object's line and column.
+"""Checks what the program writes with --json. Python's JSON parser reads it, and each object is compared with the line of the plain list and with
+the text: its offset, length, kind and text, and its line and column, which are counted again here. The report and the exit status must be those
+of the plain list. After the last token of a text with a lexical error, an object must say what the report says. The texts are the golden tests of
+crates/wat_tokens/agreement, generated texts, and texts with each byte that is escaped. Texts of plain ASCII are also cut at some tokens and
+followed by a lexical error, whose message must have the line and column of the token's object.
 
-usage: tools/check_json.py PROGRAM [FILE..]     these files in place of the texts
+usage: tools/check_json.py PROGRAM [FILE..]     these files instead of the texts
 """
 import bisect
 import json
@@ -35,7 +36,7 @@ def run(program, options, text):
 
 
 def faults(text, rows, lines):
-    """What is wrong with the lines of JSON of a text, beside the rows of its plain list."""
+    """Yields the differences between the JSON lines of a text and the rows of its plain list."""
     if len(rows) != len(lines):
         yield f"{len(lines)} lines for {len(rows)} rows"
     starts = [0] + [at + 1 for at, byte in enumerate(text) if byte == 10]
@@ -50,7 +51,7 @@ def faults(text, rows, lines):
 
 
 def fault_faults(text, report, line):
-    """What is wrong with the line of a fault as JSON, beside its report."""
+    """Yields the differences between the JSON line of a lexical error and its report."""
     fault = json.loads(line.decode())
     if list(fault) != FAULT:
         yield f"no line of a fault: {line!r}"
@@ -66,18 +67,18 @@ def fault_faults(text, report, line):
 
 
 def places(program, text, lines):
-    """Of some tokens of a text of plain ASCII the object, and the message of a fault that is put in the token's place."""
+    """Yields the objects of some tokens of a plain ASCII text, each with the message of an error at the token's offset."""
     plain = all(byte in (10, 13) or 32 <= byte < 127 for byte in text)
     for line in lines[:: max(1, len(lines) // 8)] if plain else []:
         found = json.loads(line.decode())
         message = run(program, [], text[: found["offset"]] + b"\x7f")[1].decode()
-        # A line comment goes on where its line end is taken away, and far to the right a message has another form.
+        # A line comment continues if its line end is cut off, and far to the right a message has another form.
         if message and found["column"] <= 500:
             yield found, message
 
 
 def check(program, name, text):
-    """What is wrong with a text's lists as JSON, how many objects there were, and how many messages."""
+    """Returns the faults of a text's JSON lists, the number of objects, and the number of messages."""
     wrong, objects, messages = [], 0, 0
     for command in (["list"], ["sig"], ["--allow-confusing", "sig", "a"]):
         status, report, rows = run(program, command, text)
@@ -98,7 +99,7 @@ def check(program, name, text):
 
 
 def generated():
-    """Texts of the generators: one of all, and one of each kind."""
+    """Yields the texts of the generators: one of all kinds, and one of each kind."""
     yield "generate.py", subprocess.run([sys.executable, TOOLS / "generate.py", "0.05"], capture_output=True, check=True).stdout
     yield from ((name, "".join(piece() for _ in range(40)).encode()) for name, piece in kinds.PIECES.items())
     yield from ((name, make(4000).encode()) for name, make in kinds.WHOLE.items())

@@ -1,11 +1,11 @@
 #!/usr/bin/env python3
-"""Checks the documents: that each link leads to a file, and to a heading where it has an anchor, and in a package for a registry to one of its own;
-that README leads to each document in two links at most; that no cell of a table has more than twelve words; that README has 110 lines at most; and
-that none of a few worn words is used.
+"""Checks the documents: each link must lead to a file, and to a heading if it has an anchor, and a link of a package for a registry must stay in the
+package; README must lead to each document in at most two links; a table cell may have at most twelve words; README may have at most 110 lines; and
+none of a few worn words may occur.
 
 usage: tools/check_links.py
 
-Each fault is a line, and the status is then 1. Blocks of code, and words between backquotes or in quotation marks, are not looked at.
+Prints a line for each fault, and exits with status 1 if there is one. Code blocks and words in backquotes or quotation marks are ignored.
 """
 import pathlib
 import re
@@ -18,28 +18,28 @@ WORN = re.compile(r"\b(behind|told|stands|anew)\b", re.I)
 
 
 def plain(text):
-    """The text without its blocks of code."""
+    """Returns the text without its code blocks."""
     return re.sub(r"^```.*?^```$", "", text, flags=re.S | re.M)
 
 
 def links(path, text):
-    """The files to which a document leads, each with its anchor or None."""
+    """Returns the target files of a document's links, each with its anchor or `None`."""
     return [((path.parent / name).resolve() if name else path, anchor) for name, anchor in LINK.findall(plain(text))]
 
 
 def anchors(text):
-    """What headings are called in links."""
+    """Returns the anchors of a document's headings."""
     return [re.sub(r"[^\w\- ]", "", head.lower()).replace(" ", "-") for head in re.findall(r"^#+ (.*)$", plain(text), re.M)]
 
 
 def cells(text):
-    """The cells of all tables."""
+    """Returns the cells of all tables."""
     lines = [line for line in plain(text).split("\n") if line.startswith("|")]
     return [cell.strip() for line in lines for cell in re.split(r"(?<!\\)\|", line)[1:-1]]
 
 
 def is_of_a_package(path):
-    """Whether a document is in a package that a registry would show."""
+    """Returns `True` if the document is part of a package that is published to a registry."""
     manifest = path.parent / "Cargo.toml"
     return manifest.exists() and "\ndocumentation" in manifest.read_text(encoding="utf-8")
 

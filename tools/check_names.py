@@ -1,11 +1,11 @@
 #!/usr/bin/env python3
-"""Compares the public names of the libraries, with their variants, fields and signatures, with those that are asked, which stand in
-tools/public_names.txt. Names that nobody asked for are no difference, but for variants, public fields, members of traits and derived traits.
+"""Compares the public names of the libraries, with their variants, fields and signatures, with the required ones, which tools/public_names.txt
+lists. Additional names are not a difference, except variants, public fields, members of traits and derived traits.
 
 usage: tools/check_names.py [--self-test]
 
-Each difference is a line, and the status is then 1. Those that are known stand in the list too, each with its reason, and as a table in
-docs/compatibility.md; a known one that is none, or that is in one of the two alone, is a difference too.
+Prints a line for each difference, and exits with status 1 if there is one. Known differences are in the list too, each with its reason, and in a
+table of docs/compatibility.md. A known difference that does not occur, or that only one of the two files has, is a difference too.
 """
 import collections
 import re
@@ -21,7 +21,7 @@ DERIVED = {"Copy", "Clone", "Debug", "PartialOrd", "Ord", "PartialEq", "Eq", "Ha
 
 
 class Module:
-    """A module of a crate: its items by name, its modules, and the names that it gives again."""
+    """A module of a crate: its items and its modules by name, its re-exports and its `impl` blocks."""
 
     def __init__(self, path, tokens, file, root, read):
         self.path, self.items, self.modules, self.uses, self.impls = path, {}, {}, [], []
@@ -58,7 +58,7 @@ def text_of(file):
 
 
 class Crates:
-    """The libraries, read as they are asked for, and where their names lead; `read` gives the text of a file."""
+    """The libraries, parsed on first use, and the resolution of their names. `read` returns the text of a file."""
 
     def __init__(self, read):
         self.read, self.known = read, {}
@@ -70,7 +70,7 @@ class Crates:
         return self.known[name]
 
     def find(self, path, start=None):
-        """What a path names: a module, or an item with the module that declares it; None where it names nothing."""
+        """Returns the module of a path, or its item with the module that declares it, or `None` if the path does not resolve."""
         words = list(path)
         if start and words[0] in ("crate", "self", "super"):
             here = start.root if words[0] == "crate" else start
@@ -103,7 +103,7 @@ class Crates:
 
 
 def short(words):
-    """Words without the fronts of paths."""
+    """Returns the tokens of paths reduced to their last segments."""
     return [it for i, it in enumerate(words) if it != "::" and words[i + 1 : i + 2] != ["::"]]
 
 
@@ -112,7 +112,7 @@ def texts(tokens):
 
 
 def elided(words, fresh, answer=None):
-    """Words with a lifetime where one is left out: a new one, or in an answer the one given."""
+    """Returns the tokens with a lifetime at each elided one: `answer` if it is given, otherwise a fresh one."""
     result = []
     for at, word in enumerate(words):
         if word == "'_":
@@ -125,7 +125,7 @@ def elided(words, fresh, answer=None):
 
 
 def receiver(words, fresh):
-    """The words of `self`, with the lifetime of its loan, if it is one."""
+    """Returns the tokens of a `self` parameter, and the lifetime of its reference, or `None` if it is not a reference."""
     words = [it for it in words if it != "mut" or words[0] == "&"]
     if words[0] != "&":
         return words, None
@@ -135,7 +135,7 @@ def receiver(words, fresh):
 
 
 def without_name(part):
-    """A parameter's type."""
+    """Returns the tokens of a parameter's type."""
     for at, token in enumerate(part):
         if token.text == ":":
             return part[at + 1 :]
@@ -143,7 +143,7 @@ def without_name(part):
 
 
 def bounds_of(part):
-    """A generic with its bounds in the order of their names."""
+    """Returns the tokens of a generic parameter, with its bounds in alphabetical order."""
     words = texts(part)
     if ":" not in words or words[0] == "const":
         return short(words)
@@ -153,19 +153,19 @@ def bounds_of(part):
 
 
 def names_in(generics):
-    """The names of generics: lifetimes, types and constants."""
+    """Returns the names of generic parameters: lifetimes, types and constants."""
     return [texts(it)[1] if texts(it)[0] == "const" else texts(it)[0] for it in split_at(generics, ",")]
 
 
 def renamed(words, names, front):
-    """Words with the names of generics by their places in the words."""
+    """Returns the tokens with each name of a generic parameter replaced by `front` and the index of its first occurrence among these names."""
     order = [it for it in dict.fromkeys(words) if it in names]
     places = {it: f"{front}{i}" for i, it in enumerate(order)}
     return [places.get(it, it) for it in words]
 
 
 def signature(item, own, own_names):
-    """A function's form that can be compared: generics, parameters and answer, with names by their places; `own` is the type."""
+    """Returns a function's comparable form: its parameters, return type and generics, with names replaced by their order. `own` replaces `Self`."""
     count = iter(range(100))
     fresh = lambda: f"'fresh{next(count)}"
     parameters, loan = [], None
@@ -186,7 +186,7 @@ def signature(item, own, own_names):
 
 
 def shown(item):
-    """A function as a reader sees it."""
+    """Returns a function's signature as text, for a message."""
     generics = "<" + written(item.generics) + ">" if item.generics else ""
     parts = [written(it if "self" in texts(it)[-1:] else without_name(it)) for it in split_at(item.head, ",")]
     return spaced(f"{generics}({','.join(parts)})" + (f" -> {written(item.answer)}" if item.answer else ""))
@@ -198,14 +198,14 @@ def spaced(text):
 
 
 class Names:
-    """The comparison: each method takes the rest of a line of its kind and gives the differences."""
+    """The comparison: each method compares the rest of a line of its kind and yields the differences."""
 
     def __init__(self, crates):
         self.crates, self.asked_members, self.elsewhere = crates, collections.defaultdict(set), collections.defaultdict(set)
         self.exceptions = collections.defaultdict(dict)
 
     def at(self, path):
-        """The item of a path, with its module; of a crate that is no library, that of the crate it is the program of."""
+        """Returns the item of a path with its module. Items of a crate without a library are searched for in wat_commands and its re-exports."""
         found = self.crates.find(path)
         if found or self.crates.crate(path[0]) is not None:
             return found
@@ -236,7 +236,7 @@ class Names:
             yield f"missing: {line.split(' = ')[0]}, another name of {line.split(' = ')[1]}"
 
     def head(self, line):
-        """A path with generics at its end, and what follows."""
+        """Returns the path of a line, the generic parameters at its end, and the tokens after them."""
         tokens = tokens_of(line)
         at = past_head(tokens, 0, {"<", "{", "(", ":", "="})
         path = [it.text for it in tokens[:at] if it.text != "::"]
@@ -290,7 +290,7 @@ class Names:
             yield f"beyond: trait {'::'.join(path)}: {name}"
 
     def method(self, path, own):
-        """The public function of a path: of a module, a type or a trait; with the words and names of its type."""
+        """Returns the public function at a path, of a module, a type or a trait, with the tokens and the generic names of its type, or `None`."""
         found = self.at(path)
         if found and not isinstance(found, Module) and found[0].kind == "fn":
             return found[0], ["Self"], []
@@ -371,7 +371,7 @@ class Names:
             yield from self.alias(place.split("::") + [name], [], tokens_of(value.replace("<I>", f"<{at}>")))
 
     def impl_of(self, trait, type_of):
-        """The `impl` of a trait for a type, by the names of both; that of a trait of one crate may stand in another one."""
+        """Returns the `impl` of a trait for a type, or `None`. All parsed crates are searched, as a trait may be implemented in a different crate."""
         asked = renamed(short(texts(tokens_of(type_of))), GENERIC, "own ")
         name = texts(tokens_of(trait))[0]
         for crate in [it for it in self.crates.known.values() if it]:
@@ -438,7 +438,7 @@ def past_trait(tokens, at):
 
 
 def past_head_of_path(tokens):
-    """Where a function's generics or parameters begin in a line."""
+    """Returns the index at which a function's generic parameters or its parameters begin."""
     at = 1
     while tokens[at].text != "(":
         if tokens[at].text == "<":
@@ -452,7 +452,7 @@ def past_head_of_path(tokens):
 
 
 def plain_path(tokens):
-    """A path without the generics of its type."""
+    """Returns the tokens of a path without the generics of its type."""
     result, at = [], 0
     while at < len(tokens):
         if tokens[at].text == "<":
@@ -464,7 +464,7 @@ def plain_path(tokens):
 
 
 def own_type(tokens):
-    """The name of the type in a function's path, and the names of its generics."""
+    """Returns the name of the type in a function's path, followed by the names of its generic parameters."""
     words = texts(tokens)
     if "<" in words:
         at = words.index("<")
@@ -483,7 +483,7 @@ def field(part):
 
 
 def fields_of(item):
-    """The public fields of a struct by name, and the names of the private ones."""
+    """Returns the public fields of a struct by name, and the names of the private ones."""
     public, private = {}, []
     body = item.body[1:-1]
     for number, part in enumerate(map(without_attributes, split_at(body, ","))):
@@ -513,7 +513,7 @@ def compared(what, kind, asked, here):
 
 
 def lines_of(text):
-    """The lines of the list, and the blocks of the known differences."""
+    """Returns the lines of the list, and the blocks of the known differences."""
     items, _, known = text.partition("\ndepartures\n")
     lines = [it for it in items.split("\n") if it and not it.startswith("#")]
     blocks = []
@@ -523,7 +523,7 @@ def lines_of(text):
 
 
 def differences(lines, read=text_of):
-    """What the sources have otherwise than the lines ask."""
+    """Returns the differences between the sources and the lines of the list."""
     names = Names(Crates(read))
     for line in lines:
         kind, rest = line.split(" ", 1)
@@ -546,13 +546,13 @@ def row(block):
 
 
 def table(text):
-    """The rows of the table under the heading."""
+    """Returns the rows of the table under the heading."""
     section = text.partition(HEADING + "\n")[2].partition("\n## ")[0]
     return [it for it in section.split("\n") if it.startswith("| ")][1:]
 
 
 def check(lines, blocks, document):
-    """The differences that are not known, and what is wrong with the known ones."""
+    """Yields the differences that are not known, and the faults of the known ones."""
     found = differences(lines)
     known = [rest for block in blocks for key, rest in block if key == "is"]
     yield from (it for it in found if it not in known)
@@ -563,7 +563,7 @@ def check(lines, blocks, document):
     yield from (f"in the table of compatibility.md alone: {it}" for it in rows if it not in wanted)
 
 
-# What is planted in a source, each as (file, what is there, what is put there, the beginning of a line that says it).
+# Seeded faults: a file, the old text, the new text, and the beginning of the line that reports the fault.
 PLANTED = [
     ("wat_lex/src/lexer/kinds.rt", "    pub len: u32,", "    pub len: u64,", "other: struct wat_lex::lexer::Token: asked u32, here u64"),
     ("wat_lex/src/lexer/kinds.rt", "    Plus,\n", "", "missing: enum wat_lex::lexer::SignToken: variant Plus"),
@@ -595,7 +595,7 @@ PLANTED = [
 
 
 def planted_found(lines, file, before, after, said):
-    """Whether a planted difference is reported."""
+    """Returns `True` if a seeded fault is reported."""
     place = rattle_source.CRATES / file
     if before not in text_of(place):
         return False

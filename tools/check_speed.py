@@ -1,13 +1,13 @@
 #!/usr/bin/env python3
-"""Checks that docs/speed/calls.txt has a row for each public call of Rattle (tools/public_names.txt, and the
-libraries' sources), of the Rust crates and of C, and that each row
-has a figure which is in the data of docs/speed, or says why there is none; and that the figures of docs/benchmarks.md's first table are of the data.
+"""Checks docs/speed/calls.txt. It must have a row for each public call of Rattle (tools/public_names.txt, and the libraries' sources), of the Rust
+crates and of C, and each row must have a figure from the data of docs/speed, or the reason why there is none. The ratios in the first table
+of docs/benchmarks.md must occur in the data.
 
 usage: tools/check_speed.py [--write | --self-test]
 
-With `--write` the figures are written again. Each fault is a line, and the status is then 1. A row is
+With `--write` the figures are updated. Prints a line for each fault, and exits with status 1 if there is one. A row is
 
-    LANGUAGE CALL | FILE: SUITE; TEXT; CALL | FIGURE            the milliseconds of ours and, where the crate has it, the ratio
+    LANGUAGE CALL | FILE: SUITE; TEXT; CALL | FIGURE            the milliseconds of ours and, if the crate has the call, the ratio
     LANGUAGE CALL | not measured: WHY
 """
 import re
@@ -25,7 +25,7 @@ TRAITS = {"Parse", "Peek", "Encode"}
 
 
 def bare(path):
-    """A path up to its parameters, without its generics."""
+    """Returns a path up to its parameters, without its generics."""
     depth, kept = 0, ""
     for sign in path.replace("->", ""):
         depth += (sign == "<") - (sign == ">")
@@ -36,7 +36,7 @@ def bare(path):
 
 
 def calls_of_asked():
-    """Those that are asked for."""
+    """Yields the calls and trait implementations that tools/public_names.txt lists."""
     names = (ROOT / "tools/public_names.txt").read_text(encoding="utf-8").split("\ndepartures\n")[0]
     crate = ""
     for line in names.split("\n"):
@@ -49,7 +49,7 @@ def calls_of_asked():
 
 
 def calls_of_libraries():
-    """Those that the libraries have, of types and in modules that others see; laws and lemmas state, and nobody calls them."""
+    """Yields the public functions of the libraries, except lemmas and those of `laws`, which only state theorems and are never called."""
     crates = check_names.Crates(check_names.text_of)
     for name in LIBRARIES:
         root = crates.crate(name)
@@ -70,7 +70,7 @@ def calls_of_c():
 
 
 def calls_of_items(items, owner, in_trait=False):
-    """The public calls among items, after the name of what they are in; of a trait and of an `impl` those in it."""
+    """Yields the public calls among the items, prefixed by their owner's name, including those of traits and `impl` blocks."""
     for item in items:
         if item.is_test:
             continue
@@ -96,7 +96,7 @@ def calls_of_rust():
 
 
 def figures(folder):
-    """The figures of all data, by file, suite, text and call."""
+    """Returns the figures of all data, keyed by file, suite, text and call."""
     found = {}
     for file in sorted(folder.glob("*.tsv")):
         for line in file.read_text(encoding="utf-8").split("\n"):
@@ -107,7 +107,7 @@ def figures(folder):
 
 
 def checked(table, wanted, found):
-    """The table with its figures written again, and its faults."""
+    """Returns the table with its figures updated, and its faults."""
     lines, faults, seen = [], [], []
     for line in table.split("\n"):
         if not line or line.startswith("#"):
@@ -128,7 +128,7 @@ def checked(table, wanted, found):
 
 
 def unknown_ratios(page, found):
-    """The ratios of the page's first table that are in no data."""
+    """Returns a fault for each ratio in the first table of docs/benchmarks.md that does not occur in the data."""
     table = page.split("\n|---", 1)[1].split("\n\n")[0]
     known = {ratio for figure in found.values() for ratio in re.findall(r"\d+\.\d\d$", figure)}
     return [f"docs/benchmarks.md: {ratio} is in no data" for ratio in re.findall(r"\b\d+\.\d\d\b", table) if ratio not in known]
@@ -139,7 +139,7 @@ def wanted_calls():
 
 
 def self_test():
-    """Whether faults that are planted are seen."""
+    """Checks that seeded faults are found. Returns the names of those that are not."""
     found = {"a.tsv: s; t; c": "1.000 ms, 2.00"}
     table = "C f | a.tsv: s; t; c | 1.000 ms, 2.00\nC g | not measured: why"
     planted = {"none": table, "a figure": table.replace("2.00", "3.00"), "no row": table.split("\n")[0], "no reason": table[:-3],

@@ -1,5 +1,5 @@
 #!/usr/bin/env python3
-"""Compares each place that has the version of this project with `version` in rust/Cargo.toml, which is the one to change.
+"""Compares each copy of this project's version with `version` in rust/Cargo.toml, which is the one to change.
 
 usage: check_version.py [--self-test]
 """
@@ -10,7 +10,7 @@ import sys
 PROJECT = pathlib.Path(__file__).resolve().parents[1]
 SOURCE = ("rust/Cargo.toml", r'^version = "(.*)"$')
 PROGRAM = r'"wat_tokens ([^ ]*), of '
-# The other places, and how the version is found there.
+# The files with a copy of the version, each with a pattern that finds it.
 IN_RELEASE = r"wat-(\d+\.\d+\.\d+)/rust"
 TEXTS = [
     ("rust/Cargo.lock", r'^name = "wat-.*"\nversion = "(.*)"$'),
@@ -28,7 +28,7 @@ TEXTS = [
     ("crates/wat_options/specs/Help.antt", PROGRAM),
     ("rust/wat-tokens/src/generated/wat_options/help.rs", PROGRAM),
 ]
-# Those that have it as a number.
+# The files in which the version is one integer.
 NUMBERS = [
     ("include/wat.h", r"^#define WAT_VERSION (\d+)$"),
     ("crates/wat_parser_c/src/version.rt", r"ensures \{ result ≡ (\d+) \}"),
@@ -42,7 +42,7 @@ def read(path):
 
 
 def number(version):
-    """10000 times the first part of a version, 100 times the second, and the third."""
+    """Returns a version as an integer: 10000 times its first part, plus 100 times its second, plus its third."""
     first, second, third = (int(part) for part in version.split("."))
     return str(10000 * first + 100 * second + third)
 
@@ -52,7 +52,7 @@ def found(text, pattern):
 
 
 def faults(read):
-    """The places that have another version, or none."""
+    """Returns a message for each file in which a version is missing or differs."""
     versions = found(read(SOURCE[0]), SOURCE[1])
     if len(versions) != 1:
         return [f"{SOURCE[0]} has the versions {versions}"]
@@ -61,7 +61,7 @@ def faults(read):
 
 
 def changed(path, pattern):
-    """Reads as `read` does, but for the last version at a place, which is another one."""
+    """Returns a reader that behaves like `read`, except that the last version which the pattern finds in `path` is changed."""
     def with_another(other):
         text = read(other)
         if other != path:
@@ -73,7 +73,7 @@ def changed(path, pattern):
 
 
 def self_test():
-    """Whether another version is seen at each place."""
+    """Checks that a changed version is found in each file. Returns `True` if one is missed."""
     places = [SOURCE, *TEXTS, *NUMBERS]
     unseen = [path for path, pattern in places if not faults(changed(path, pattern))]
     for path in unseen:

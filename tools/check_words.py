@@ -1,7 +1,7 @@
 #!/usr/bin/env python3
-"""Checks the standard words, without a proof: the tables of wat_words are those of standard_words.txt, where a stretch of lines has the
-keywords and the next one the names of annotations; and each word has one type, at its place, whose name and comment are of that word. That the
-type of a place reads the word at that place is proved; which words there are, and which name is for which place, is not.
+"""Checks the standard keywords and annotation names. The tables of wat_words must be those of standard_words.txt, whose first paragraph has the
+keywords and whose second has the annotation names. Each word must have one type, at its index in the table, with the word's name and comment. It is
+proved that the type of an index reads the word at that index; the words themselves, and the name for each index, are not proved.
 
 usage: tools/check_words.py
 """
@@ -13,7 +13,7 @@ TOOLS = pathlib.Path(__file__).resolve().parent
 CRATES = TOOLS.parent / "crates"
 TABLE = CRATES / "wat_words/src/table.rt"
 TYPES = CRATES / "wat_lexer_parser/src"
-# Words that are no names of types in Rust, or that name something else there.
+# Words that are reserved, or have another meaning, in Rust: a type's name gets a trailing `_`.
 KEPT = set(
     "abstract as async await become box break const continue crate do dyn else enum extern false final fn for gen if impl in let loop macro "
     "match mod move mut override priv pub ref return self static struct super trait true try type typeof unsafe unsized use virtual where "
@@ -23,19 +23,19 @@ TYPE = re.compile(r"/// The (?:keyword|annotation) `(@?)([^`]*)`\.\npub type (\w
 
 
 def words_of(macro):
-    """The words of a table, in their order, after the sign that is before them."""
+    """Returns the words of a table in order, without the prefix that is its first string."""
     body = re.search(rf"macro_rules! {macro} \{{.*?\$entries! \{{(.*?)\}}", TABLE.read_text(encoding="utf-8"), re.DOTALL)
     return re.findall(r'"([^"]*)"', body[1])[1:]
 
 
 def name_of(word):
-    """The name of a word's type."""
+    """Returns the name of a word's type."""
     name = re.sub(r"[-.:+]", "_", word.replace("string-encoding=", "string_"))
     return name + "_" if name in KEPT else name
 
 
 def faults(file, macro, wanted):
-    """What is wrong with the types of a file, beside the words of a table."""
+    """Yields the differences between the types of a file and the words of a table."""
     words = words_of(macro)
     text = (TYPES / file).read_text(encoding="utf-8")
     found = TYPE.findall(text)
