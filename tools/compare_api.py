@@ -1,12 +1,13 @@
 #!/usr/bin/env python3
 """Compares the public names of the modules `lexer`, `parser`, `token`, `gensym` and of `Error` of the crate `wast` with those of rust/wat-lex and
-rust/wat-parser: types, fields, variants, functions with their signatures, traits and what is derived.
+rust/wat-parser: types, fields, variants, functions with their signatures, traits and derives.
 
 usage: tools/compare_api.py FOLDER     the folder has the crate's sources, as lexer.rs or lexer.rs.txt
        tools/compare_api.py --self-test
 
-Lifetimes, names of parameters and `mut` are left out, and so is what a macro writes. Each name that is missing or differs is a line, and the status
-is then 1, but for those of the table in docs/compatibility.md, each of which has to be one. What these crates have beside the crate's names is none.
+Lifetimes, parameter names, `mut` and what a macro generates are ignored. Prints a line for each name that is missing or differs, and exits with
+status 1 if there is one. The names in the table of docs/compatibility.md are exempt, and each of them must differ. Names that only these crates
+have are not reported.
 """
 import pathlib
 import re
@@ -16,7 +17,7 @@ from rattle_source import ROOT, items_of, past_group, split_at, tokens_of, writt
 
 LEX, PARSER = ROOT / "rust/wat-lex/src", ROOT / "rust/wat-parser/src"
 PROVED = LEX / "generated/wat_lex"
-# The files of each module, with the names that are taken of a file; none means all.
+# The files of each module, with the names to take from a file; an empty tuple takes all of them.
 OURS = {
     "lexer": {LEX / "lexer.rs": (), LEX / "token.rs": (), LEX / "number.rs": (), LEX / "traits.rs": (), LEX / "error.rs": ("LexError",),
               PROVED / "lexer/kinds.rs": ("TokenKind", "IntegerKind", "FloatKind", "SignToken"), PROVED / "lexer/faults.rs": ("LexError",),
@@ -31,7 +32,7 @@ HEADING = "### Names and signatures"
 
 
 def plain(tokens):
-    """Tokens as a line, without lifetimes, and without the paths of Rust's own names."""
+    """Returns tokens as one line, without lifetimes and without the paths of Rust's own names."""
     line = written([token for token in tokens if token.kind != "lifetime"])
     line = re.sub(r"\b(?:std|core|alloc|crate|fmt|super|cmp|hash)::(?=\w)|for<>", "", line)
     previous = None
@@ -41,7 +42,7 @@ def plain(tokens):
 
 
 def parameter(tokens):
-    """The type of a parameter, or what it says of `self`."""
+    """Returns the type of a parameter, or the form of `self`."""
     words = [token.text for token in tokens]
     if "self" in words[:4] and ":" not in words:
         return plain([token for i, token in enumerate(tokens) if token.text != "mut" or "&" in words[:i]])
@@ -49,7 +50,7 @@ def parameter(tokens):
 
 
 def bounds_of(item):
-    """The bounds after a `where`, but for those of lifetimes alone."""
+    """Returns the bounds of a `where` clause, except those of lifetimes alone."""
     parts = split_at(item.value[1:], ",") if item.value else []
     return ",".join(plain(part) for part in parts if part and part[0].kind != "lifetime")
 
@@ -73,7 +74,7 @@ def without_attributes(tokens):
 
 
 def of_type(item):
-    """A type, its public fields or its variants, and what it derives."""
+    """Yields a type, its public fields or its variants, and its derives."""
     yield item.name, item.kind
     for name in sorted(item.derives):
         yield f"{item.name}: {name}", "trait"
@@ -86,7 +87,7 @@ def of_type(item):
 
 
 def of_items(items, names):
-    """Each public name among items with what is said of it."""
+    """Yields each public name among the items, with its signature or kind."""
     for item in items:
         owner = re.sub(r"<.*", "", plain(item.head))
         if item.is_test or names and (owner if item.kind == "impl" else item.name) not in names:
@@ -114,7 +115,7 @@ def names_of(text, names=()):
 
 
 def known(page):
-    """The names of the table."""
+    """Returns the names in the table of the known differences."""
     table = page.split(HEADING, 1)[1].split("\n#", 1)[0]
     return re.findall(r"^\| `([^`]+)` \|", table, re.M)
 
@@ -145,7 +146,7 @@ def compare(folder):
 
 
 def self_test():
-    """Whether a difference of each kind is seen, and none where there is none."""
+    """Checks that a difference of each kind is found, and none between equal sources. Returns the names of the failed cases."""
     ours = names_of("""#[derive(Clone, Debug)] pub struct A<'a> { pub b: u8, c: &'a str } pub enum E { V(u8), W { x: char } }
         impl<'a> A<'a> { pub fn f<T: P<'a>>(mut self, s: &'a str) -> Option<&'a T> where T: Q { g() } fn hidden() {} }
         impl fmt::Debug for E {} pub trait P<'a>: Sized { fn read(p: A<'a>) -> Self; } pub type R<T, X = E> = Result<T, X>;""")

@@ -1,7 +1,7 @@
 #!/usr/bin/env python3
-"""Compares the declarations of the C header with those of the library, in Rattle and in the Rust that tools/erase makes of it. Compared are the
-names and types of arguments and of the fields of structs, in their order, the types of answers, and the numbers of faults and of kinds of
-tokens. A slice of Rattle is a pointer and a length in C and in Rust, and its allocator no argument.
+"""Compares the declarations of the C header with those of the library, both in Rattle and in the Rust that tools/erase generates from it. It compares
+the names and types of parameters and of struct fields, in order, the return types, and the codes of lexical errors and of token kinds. A slice of
+Rattle is a pointer and a length in C and in Rust, and an allocator parameter of Rattle does not occur there.
 
 usage: compare_declarations.py
 """
@@ -14,14 +14,14 @@ HEADER = PROJECT / "include/wat.h"
 RUST = sorted((PROJECT / "rust/wat-c/src").rglob("*.rs"))
 RATTLE = sorted(path for name in ("wat_parser_c", "wat_rows") for path in (PROJECT / "crates" / name / "src").rglob("*.rt"))
 NUMBERS = {"uint8_t": "u8", "uint32_t": "u32", "uint64_t": "u64", "size_t": "usize", "bool": "bool"}
-# Structs of which the library's name is not that in C without `wat_`.
+# Structs whose name in the library is not the C name without `wat_`.
 STRUCTS = {"wat_token": "TokenRow", "wat_kind": "KindRow"}
-# What C calls the length of a slice, where it is not the slice's name and `_len`.
+# The C name of a slice's length, if it is not the slice's name followed by `_len`.
 LENGTHS = {"text": "len", "out": "room", "rows": "count", "ends": "names_count", "feeds": "feeds_count"}
 
 
 def in_rust(c_type):
-    """A type of C as Rust writes it."""
+    """Returns a C type as Rust writes it."""
     words = c_type.replace("*", " * ").split()
     name = [word for word in words if word not in ("const", "struct", "*")][0]
     name = NUMBERS.get(name) or STRUCTS.get(name) or name.removeprefix("wat_").capitalize()
@@ -31,7 +31,7 @@ def in_rust(c_type):
 
 
 def of_c(declared):
-    """A parameter or field of C as Rust writes it."""
+    """Returns a C parameter or field as Rust writes it."""
     c_type, name = re.fullmatch(r"(.*?)(\w+)", declared.strip(), re.S).groups()
     return f"{name}: {in_rust(c_type)}"
 
@@ -50,7 +50,7 @@ def read_header(text):
 
 
 def of_slice(declared):
-    """A parameter of Rattle as Rust has it, with the name that C has for its length."""
+    """Returns the Rust parameters of a Rattle parameter, with the C name of a slice's length."""
     name, declared_type = declared.split(": ")
     reference, slice_of, bare = re.fullmatch(r"(&mut |&|\*const |\*mut )?(\[)?(\w+)\]?", declared_type).groups()
     if bare == "Global":
@@ -66,7 +66,7 @@ def listed(text):
 
 
 def read_library(text):
-    """What the library declares, in Rattle or in Rust."""
+    """Returns the functions, structs and codes that the library declares, in Rattle or in Rust."""
     text = re.sub(r"//.*", "", text)
     functions = {}
     exported = re.findall(r'#\[unsafe\(no_mangle\)\]\npub (?:unsafe )?extern "C" fn (\w+)\((.*?)\)(?: -> (\w+))?\s', text, re.S)
@@ -79,7 +79,7 @@ def read_library(text):
 
 
 def compare(language, library, header):
-    """How many declarations differ from the header's."""
+    """Prints the declarations that differ from the header's, and returns their number."""
     differ = 0
     for kind, of_header in zip(library[:2], header[:2]):
         for name in sorted(of_header.keys() | kind.keys()):

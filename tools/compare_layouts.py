@@ -1,12 +1,12 @@
 #!/usr/bin/env python3
-"""Compares the layouts of a program, by lines, with those of `tools/layout.py`, on all joins of a few hostile pieces, on longer random joins, and
-on the files that are named.
+"""Compares the formatted texts of a program, line by line, with those of `tools/layout.py`: on all joins of a few difficult fragments, on longer
+random joins, and on the given files.
 
-Of each answer it also asks what the layout promises: the same raw tokens but for white space, no blank before a line end, and the same answer
-when it is laid out again. Where `wat2wasm` is there and takes a file, it has to write the same bytes for the answer.
+It also checks the guarantees of each formatted text: it has the same raw tokens except whitespace, it has no blank before a line end, and formatting
+is idempotent. If `wat2wasm` is installed and accepts a file, it must write the same bytes for the formatted file.
 
-PROGRAM is rust/wat-tokens/examples/layouts.rs, or page/laid.mjs. With --command the files are laid out by `fmt` of that program. --alone leaves
-`wat2wasm` out.
+PROGRAM is rust/wat-tokens/examples/layouts.rs, or page/laid.mjs. With --command the files are formatted by `fmt` of that program. --alone skips
+`wat2wasm`.
 
 usage: compare_layouts.py [--joins LENGTH] [--random COUNT] [--command WAT_TOKENS] [--alone] PROGRAM [FILE..]
 """
@@ -31,7 +31,7 @@ ESCAPES = str.maketrans({"\n": "\\n", "\r": "\\r", "\t": "\\t", "\\": "\\\\"})
 
 
 def wanted(text):
-    """The layout of a text, or None where it has a fault."""
+    """Returns the formatted text, or `None` if the text has a lexical error."""
     try:
         return layout.layout(text)
     except layout.Fault:
@@ -39,19 +39,19 @@ def wanted(text):
 
 
 def answered(program, texts):
-    """What the program answers of some texts, as lines."""
+    """Returns the lines that the program writes for some texts."""
     lines = "".join(text.translate(ESCAPES) + "\n" for text in texts)
     ran = subprocess.run(program, input=lines.encode(), capture_output=True, check=True)
     return ran.stdout.decode().split("\n")[:-1]
 
 
 def without_white(text):
-    """The raw tokens of a text but for white space."""
+    """Returns the raw tokens of a text except whitespace."""
     return [token for token in layout.raw_tokens(text) if token[0] != "white"]
 
 
 def keeps_promises(text, answer):
-    """Whether an answer is what a layout promises."""
+    """Returns `True` if a formatted text has the guarantees of the formatter."""
     white = [word for kind, word in layout.raw_tokens(answer) if kind == "white"]
     return (
         without_white(text) == without_white(answer)
@@ -61,7 +61,7 @@ def keeps_promises(text, answer):
 
 
 def compare(program, texts):
-    """Compares the answers of some texts, and counts the texts and those that have no fault."""
+    """Compares the program's results for some texts, and returns a summary with the number of texts and of those without a lexical error."""
     count, fine = 0, 0
     while batch := list(itertools.islice(texts, MOST_AT_ONCE)):
         for text, answer in zip(batch, answered(program, batch), strict=True):
@@ -75,21 +75,21 @@ def compare(program, texts):
 
 
 def joins(length):
-    """All joins of up to so many pieces."""
+    """Yields all joins of at most `length` fragments."""
     for count in range(length + 1):
         for pieces in itertools.product(PIECES, repeat=count):
             yield "".join(pieces)
 
 
 def random_joins(count):
-    """Random joins of up to forty pieces."""
+    """Yields random joins of at most 39 fragments."""
     rng = random.Random(1)
     for _ in range(count):
         yield "".join(rng.choice(MORE) for _ in range(rng.randrange(40)))
 
 
 def file_texts(names):
-    """The texts of files that are UTF-8."""
+    """Yields the texts of the files that are UTF-8, and prints the names of the others."""
     for name in names:
         with open(name, "rb") as file:
             try:
@@ -99,7 +99,7 @@ def file_texts(names):
 
 
 def compare_files(command, names):
-    """Compares what the command writes for files, and counts them, those that have no fault and those that are laid out."""
+    """Compares what the command writes for files, and returns a summary: all files, those without a lexical error, and those already formatted."""
     count, fine, same = 0, 0, 0
     for name in names:
         for text in file_texts([name]):
@@ -114,7 +114,7 @@ def compare_files(command, names):
 
 
 def assembled(text):
-    """The bytes that `wat2wasm` writes for a text, or None where it refuses the text, or does not end."""
+    """Returns the bytes that `wat2wasm` writes for a text, or `None` if it rejects the text or does not terminate in time."""
     with tempfile.TemporaryDirectory() as room:
         source, target = pathlib.Path(room, "text.wat"), pathlib.Path(room, "text.wasm")
         source.write_bytes(text.encode())
@@ -126,7 +126,7 @@ def assembled(text):
 
 
 def compare_assembled(names):
-    """Compares what `wat2wasm` writes for files and for their layouts."""
+    """Compares what `wat2wasm` writes for files with what it writes for the formatted files, and returns a summary."""
     same, refused = 0, 0
     for text in file_texts(names):
         want = wanted(text)
@@ -141,7 +141,7 @@ def compare_assembled(names):
 
 
 def main():
-    """Reads the command line and compares."""
+    """Parses the command line and runs the comparisons."""
     parser = argparse.ArgumentParser()
     parser.add_argument("--joins", type=int, default=3)
     parser.add_argument("--random", type=int, default=20_000)

@@ -1,29 +1,30 @@
 #!/usr/bin/env python3
-"""Compares the bytes of modules with those of `wat2wasm --no-check` (Debian's package wabt), and with those of a second judge: the encoder of the crate
-wast 222. The modules are made at random of all that `wat_modules` takes, fields in any order that has imports first; then texts are made from them by one
-change of a token. tools/module_texts.py makes both, and says what is not made.
+"""Compares the bytes of modules with those of two reference implementations: `wat2wasm --no-check` (Debian's package wabt), and with --second the
+encoder of the crate wast 222. The modules are generated at random from everything that `wat_modules` accepts, with fields in any order that has
+imports first. Each mutant has one changed token. tools/module_texts.py generates both, and lists what is not generated.
 
-PROGRAM reads a module from standard input and writes its bytes to standard output; where it refuses the text its status is 1. It is
-rust/wat-modules/examples/module.rs. Where it leaves out forms, which --help lists, --without names these: none is made, and mutants that have one may be
-refused.
+PROGRAM reads a module from standard input and writes its bytes to standard output; if it rejects the text its status is 1. It is
+rust/wat-modules/examples/module.rs. If it does not implement some forms, which --help lists, --without names them: they are not generated, and
+mutants that have one may be rejected.
 
-A module is right where its bytes are those of `wat2wasm`, or where tools/module_departures.py says why they are not. `wat2wasm` 1.0.32 writes
-- a block of `(type x)` short where the type has a short form, which 6.5.2 does not have: then PROGRAM is asked for the lists of the type;
-- an index of a table from 64 on, after instructions of tables, in two bytes: then both are asked for lower ones;
-- no data count where no segment is, though an instruction needs one (5.5.16).
-And it refuses `table.get`, `set`, `size`, `grow` and `fill` without an index: then it is asked for the text with 0.
+A module passes if its bytes are those of `wat2wasm`, or if tools/module_departures.py explains the difference. `wat2wasm` 1.0.32 writes
+- a block with `(type x)` in the short form if the type has one, which 6.5.2 does not allow: PROGRAM is then given the type's short form;
+- an index of a table from 64 on, after instructions of tables, in two bytes: both are then given lower indices;
+- no data count in a module without data segments, even if an instruction needs it (5.5.16).
+It also rejects `table.get`, `set`, `size`, `grow` and `fill` without an index: it is then given the text with 0.
 
-ENCODER is the program that tools/wast_encoder.sh builds. What it answers is printed beside where ours are not the bytes of `wat2wasm`. Where both judges
-agree against us, that is a fault, but for mutants of what is left out, of later proposals or older texts, as module_departures.py says. A departure is a
-fault too where all three make bytes, and wast's are not our module. The three are compared section by section. Set aside is wast's section of names, as
-`wat2wasm` writes none. As the same module, spelled otherwise, count those whose sections say the same but for
-- the flags of an element segment: wast keeps a table 0 that is said, and elements as instructions; `wat2wasm` has them short;
-- the type of a block, by its index or short; and an index in more bytes than it takes.
-What wast does not read it is asked for as changed text: an underscore in a memory argument, a folded block in a segment without `offset` or `item`.
+ENCODER is the program that tools/wast_encoder.sh builds. Its results are reported for texts on which PROGRAM and `wat2wasm` differ. If both reference
+implementations agree with each other and not with PROGRAM, that is a fault, except for mutants with missing forms, later proposals or older syntax,
+as module_departures.py lists them. A known difference is also a fault if all three produce bytes, and wast's are not equivalent to PROGRAM's. The
+three are compared section by section, except for wast's name section, as `wat2wasm` writes none. Two modules are
+`the same, spelled otherwise` if their sections differ only in
+- the flags of an element segment: wast keeps an explicit table 0, and elements as instructions; `wat2wasm` writes the short form;
+- the type of a block, by its index or short; and an index in more bytes than necessary.
+Wast does not accept an underscore in a memory argument, or a folded block in a segment without `offset` or `item`. It is given changed texts instead.
 
 usage: compare_modules.py [--modules N] [--mutants N] [--seed N] [--without FORM,..] [--second ENCODER] [--show] PROGRAM [ARGUMENT..]
-       compare_modules.py [..] --second ENCODER                     the two judges alone, beside one another
-       compare_modules.py --texts FOLDER [--second ENCODER] PROGRAM [ARGUMENT..]       each FOLDER/**/*.wat in the place of made ones
+       compare_modules.py [..] --second ENCODER                     compares only the two reference implementations
+       compare_modules.py --texts FOLDER [--second ENCODER] PROGRAM [ARGUMENT..]       each FOLDER/**/*.wat instead of generated texts
        compare_modules.py --write FUNCTIONS [--named] [--seed N] [--without FORM,..] > TEXT
 """
 import argparse
@@ -47,18 +48,18 @@ AGREEING = ("the same bytes", "both refuse", "the same, spelled otherwise")
 
 
 def agrees(one, other):
-    """Whether two answers are the same module, or both refuse."""
+    """Returns `True` if two results are the same module, or both are rejections."""
     return agreement(one[0], other[0])[0] in AGREEING
 
 
 def cause(message):
-    """What a message says, without its place and what it quotes."""
+    """Returns the first line of a message without its location, with quoted text and integers replaced by `..`."""
     line = next((line for line in message.split("\n") if line), "")
     return re.sub(r'"[^"]*"|`[^`]*`|\d+', "..", line.split("error: ")[-1])
 
 
 def side_of(answer, ours, theirs):
-    """As which of two answers a third is: by its bytes, or else by what these say."""
+    """Returns which of two results a third one agrees with: by its bytes, otherwise by the meaning of its sections."""
     ways = {"ours": agreement(answer[0], ours[0])[0], "wat2wasm": agreement(answer[0], theirs[0])[0]}
     for way in AGREEING:
         sides = [who for who in ways if ways[who] == way]
@@ -68,14 +69,14 @@ def side_of(answer, ours, theirs):
 
 
 class Beside:
-    """What the second judge says of texts, beside `wat2wasm`."""
+    """The results of the second reference implementation, compared with those of `wat2wasm`."""
 
     def __init__(self, encoder):
         self.judge = Encoder(encoder)
         self.counts, self.sections, self.changes, self.examples = collections.Counter(), collections.Counter(), collections.Counter(), {}
 
     def answer(self, rng, tokens, text, wanted):
-        """Its answer; that of a changed text where this is one of those that are wanted, and that of the text as it is is not."""
+        """Returns wast's result for a text. If it agrees with none of `wanted`, returns the result for the text as changed for wast, if it can be."""
         answer = self.judge.answer(text)
         changed, names = known.written_for(known.FOR_WAST, tokens)
         if not names or answer[0] is not None and any(agrees(answer, other) for other in wanted):
@@ -86,7 +87,7 @@ class Beside:
         return second
 
     def note(self, what, text, answer, theirs):
-        """Counts how it agrees with `wat2wasm`, and keeps an example of each way not to."""
+        """Counts how a result agrees with that of `wat2wasm`, and records the text if it does not."""
         how, differ = agreement(answer[0], theirs[0])
         why = ", ".join(NAMES[number] for number in sorted(differ))
         if how == "refused by one":
@@ -97,7 +98,7 @@ class Beside:
             self.examples.setdefault((what, how, why), []).append(text)
 
     def show(self, all_examples):
-        """Prints what was counted, and the shortest example of each way not to agree, those of mutants where they are asked for."""
+        """Prints the counts, and the shortest example of each disagreement. Examples of mutants are printed only if `all_examples` is set."""
         for (what, how, why), texts in self.examples.items():
             if all_examples or what != MUTANTS:
                 print(f"--- {what}: {how}: {why}: {len(texts)}, as", min(texts, key=len), sep="\n")
@@ -110,7 +111,7 @@ class Beside:
 
 
 class Comparison:
-    """Answers of made texts, and what is counted of them."""
+    """The comparison of generated texts, and its counts."""
 
     def __init__(self, given):
         self.given, self.rng = given, choices(given.seed, FORMS.keys() - given.without)
@@ -119,11 +120,11 @@ class Comparison:
         self.counts, self.asked, self.sides, self.differ = collections.Counter({RIGHT: 0, REFUSED: 0}), collections.Counter(), collections.Counter(), []
 
     def made(self, _, text):
-        """What the program under test makes of a text."""
+        """Returns the result of the program under test for a text."""
         return self.program.answer(text)
 
     def reference(self, tokens, text):
-        """What `wat2wasm` makes of a text, or of one that says the same as it takes it."""
+        """Returns the result of `wat2wasm` for a text. If it rejects the text, returns the result for an equivalent text, if there is one."""
         answer = self.judge.answer(text)
         changed, names = known.written_for(known.FOR_WAT2WASM, tokens)
         if answer[0] is not None or not names:
@@ -134,7 +135,7 @@ class Comparison:
         return second
 
     def names_of(self, mutant, tokens, ours, theirs):
-        """What the answers are counted as: right, or the known departures, or None."""
+        """Returns the outcome of two results: equal bytes, both rejected, or the known differences. Returns `None` if it is not explained."""
         if self.program is None and not mutant and "Assertion" in theirs[1]:
             return known.STOPPED
         if ours[0] == theirs[0] and (mutant or ours[0] is not None):
@@ -144,12 +145,12 @@ class Comparison:
 
     @staticmethod
     def is_against(other, ours, theirs):
-        """Whether the second judge is with `wat2wasm` alone; or with none of three that all make bytes."""
+        """Returns `True` if the second reference disagrees with the program, and either all three produce bytes or it agrees with `wat2wasm`."""
         made = None not in (ours[0], theirs[0], other[0])
         return not agrees(other, ours) and (made or agrees(other, theirs))
 
     def compare(self, mutant, tokens, text):
-        """Compares what is made of a text."""
+        """Compares the results for a text, and counts the outcome."""
         theirs = self.reference(tokens, text)
         ours = self.program.answer(text) if self.program else theirs
         name = self.names_of(mutant, tokens, ours, theirs)
@@ -169,7 +170,7 @@ class Comparison:
             print(f"--- {name}", text, *answers(ours, theirs, other), sep="\n")
 
     def show(self):
-        """Prints what was counted, and what differs."""
+        """Prints the counts, and the texts that differ."""
         for mutant, text, *three in self.differ[:SHOWN]:
             print("--- mutant" if mutant else "--- module", text, *answers(*three), sep="\n")
         if self.second:
@@ -183,13 +184,13 @@ class Comparison:
 
 
 def answers(ours, theirs, other):
-    """Lines of answers."""
+    """Returns a line for each result."""
     every = {"ours:  ": ours, "theirs:": theirs, "wast:  ": other}
     return [f"{who} {answer[0].hex() if answer[0] is not None else ''} {answer[1]}" for who, answer in every.items() if answer]
 
 
 def compare_texts(given):
-    """Compares what is made of the texts of a folder, and answers whether any two differ, or none is the same."""
+    """Compares the results for the texts of a folder. Returns `True` if any two differ, or if no module has the same bytes."""
     counts, differ = collections.Counter({RIGHT: 0, REFUSED: 0}), []
     program, judge, second = Program(given.program), Wat2wasm(), Beside(given.second) if given.second else None
     for path in sorted(pathlib.Path(given.texts).rglob("*.wat")):
@@ -210,7 +211,7 @@ def compare_texts(given):
 
 
 def compare_made(given):
-    """Compares what is made of made texts, and answers whether any two differ."""
+    """Compares the results for generated texts. Returns `True` if any two differ."""
     comparison = Comparison(given)
     for made in made_texts(comparison.rng, given.modules, given.mutants):
         comparison.compare(*made)
@@ -219,7 +220,7 @@ def compare_made(given):
 
 
 def forms(words):
-    """The forms that words name."""
+    """Parses a comma-separated list of forms. Raises `ArgumentTypeError` if one is unknown."""
     names = set(words.split(","))
     if not names <= FORMS.keys():
         raise argparse.ArgumentTypeError(f"no such form: {', '.join(sorted(names - FORMS.keys()))}; there are {', '.join(FORMS)}")
@@ -227,7 +228,7 @@ def forms(words):
 
 
 def main():
-    """Does what is asked for."""
+    """Parses the command line and runs the comparison."""
     parser = argparse.ArgumentParser()
     parser.add_argument("--modules", type=int, default=200)
     parser.add_argument("--mutants", type=int, default=400)

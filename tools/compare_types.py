@@ -1,8 +1,8 @@
 #!/usr/bin/env python3
-"""Compares `wat_tokens types` with the reference tool `wat2wasm` (Debian's package wabt) on generated modules of function types.
+"""Compares `wat_tokens types` with the reference implementation `wat2wasm` (Debian's package wabt) on generated modules of function types.
 
-Fifty modules of up to forty types each have to get the same bytes from both. With --times both then read one module of 100,000 types, in turn,
-and the best times are printed: wat2wasm takes a minute for each.
+Both must write the same bytes for each of fifty modules of up to forty types. With --times, both then compile one module of 100,000 types, in turn,
+and the best times are printed; each run of `wat2wasm` takes a minute.
 
 usage: compare_types.py PROGRAM [--times]
 """
@@ -19,12 +19,12 @@ MODULES, MOST_TYPES, MANY_TYPES, PASSES = 50, 40, 100_000, 3
 
 
 def listed(rng, word):
-    """A group of the word with up to four value types."""
+    """Returns a group with the keyword and up to four value types."""
     return f"({word}{''.join(rng.choice(GAPS) + rng.choice(VALS) for _ in range(rng.randrange(5)))})"
 
 
 def params(rng):
-    """Groups of parameters, some of which have a name."""
+    """Returns groups of parameters, some of which have an identifier."""
     groups = []
     for at in range(rng.randrange(4)):
         named = f"(param{rng.choice(GAPS)}$p{at}{rng.choice(GAPS)}{rng.choice(VALS)})"
@@ -33,7 +33,7 @@ def params(rng):
 
 
 def definition(rng, place):
-    """A type definition, with or without an identifier."""
+    """Returns a type definition, with or without an identifier."""
     fields = params(rng) + [listed(rng, "result") for _ in range(rng.randrange(3))]
     func = "(func" + "".join(rng.choice(GAPS) + it for it in fields) + ")"
     name = rng.choice(["", f'{rng.choice(GAPS)}$t{place}'])
@@ -41,12 +41,12 @@ def definition(rng, place):
 
 
 def module(rng, count):
-    """A module of so many function types."""
+    """Returns a module of `count` function types."""
     return "(module" + "".join(rng.choice(GAPS) + definition(rng, at) for at in range(count)) + ")\n"
 
 
 def compiled(command, text):
-    """The bytes that a command writes for a text, and the seconds that it takes."""
+    """Returns the bytes that a command writes for a text, and the seconds that it runs. Exits with a message if the command fails."""
     begun = time.perf_counter()
     ran = subprocess.run(command, input=text.encode(), capture_output=True)
     seconds = time.perf_counter() - begun
@@ -56,14 +56,14 @@ def compiled(command, text):
 
 
 def reference(text, room):
-    """The same of `wat2wasm`, which reads a file."""
+    """Returns the bytes that `wat2wasm` writes for a text, and the seconds that it runs. The text is passed as a file."""
     with open(f"{room}/module.wat", "w", encoding="utf-8") as it:
         it.write(text)
     return compiled(["wat2wasm", f"{room}/module.wat", "--output=-"], "")
 
 
 def compare(program, rng, room):
-    """Compares many modules."""
+    """Compares the bytes of many modules, and exits with a message at the first difference."""
     types = 0
     for place in range(MODULES):
         count = rng.randrange(MOST_TYPES + 1)
@@ -75,7 +75,7 @@ def compare(program, rng, room):
 
 
 def measure(program, rng, room):
-    """Compares one large module, and prints the best times."""
+    """Compares the bytes of one large module, and prints the best times."""
     text = module(rng, MANY_TYPES)
     ours, theirs = [], []
     for _ in range(PASSES):

@@ -1,9 +1,9 @@
 #!/usr/bin/env python3
-"""Compares wat_tokens with a program over the crate wast: list, status, and all that is printed of a fault.
+"""Compares wat_tokens with a program that uses the crate wast: the token list, the exit status, and the message of a lexical error.
 
-The program over the crate is tools/oracle, `cd tools/oracle && cargo build --release`. Both read the same texts, each with and without
-`--allow-confusing`: the files named, all files of a folder named, below it too, and mutants of each: a cut, or some bytes or pieces put
-in, left out or doubled, at random by the seed. A text on which they differ is kept in the folder `differ`. The status is 1 where any is.
+The program is tools/oracle, `cd tools/oracle && cargo build --release`. Both read the same texts, each with and without `--allow-confusing`: the
+given files, all files below a given folder, and mutants of each. A mutant has one to three random changes: it is cut, or a few characters are
+deleted, duplicated or replaced, or a fragment is inserted. A text on which they differ is kept in the folder `differ`, and the exit status is then 1.
 
 usage: compare_with_crate.py [--mutants N] [--seed N] [--workers N] WAT_TOKENS ORACLE PATH..
 """
@@ -15,15 +15,15 @@ import sys
 from concurrent.futures import ThreadPoolExecutor
 
 SETTINGS = [[], ["--allow-confusing"]]
-# What goes wrong, or begins or ends a token, where it is put in.
+# Fragments that mutants insert: they are invalid, or begin or end a token.
 PIECES = """( ) (; ;) ;; " $ @ (@a (@"a" $"b" @"" \\ \\n \\u{ \\u{1_0} \\u{1__0} \\u{d800} \\u{110000} \\4 \\ff _ 1_ 0x 0x1p+ 1. 1e nan:0x +inf -nan , ; [ ] { }
 a é 漢""".split() + ["\n", "\r", "\r\n", "\t", " ", "\0", "\x7f", "\u202e", "\u2066", "\u20ac", "a" * 17, " " * 16]
-# A mutant of a long text is one of a part of it.
+# The length in characters of the part of a long text that is mutated.
 LONGEST_MUTANT = 4000
 
 
 def changed(rng, text):
-    """The text with one change."""
+    """Returns the text with one random change."""
     at = rng.randrange(len(text) + 1)
     to = min(len(text), at + rng.randrange(1, 9))
     return rng.choice(
@@ -53,7 +53,7 @@ def files(paths):
 
 
 def texts(options):
-    """The texts with a name each, as bytes."""
+    """Yields the texts as bytes, each after its name."""
     rng = random.Random(options.seed)
     for file in files(options.paths):
         data = file.read_bytes()
@@ -69,7 +69,7 @@ def answer(program, words, data):
 
 
 def differences(options, name, data):
-    """The number of runs, of faults among them, and a line for each difference."""
+    """Returns the number of runs, the number of lexical errors among them, and a line for each difference."""
     faults, lines = 0, []
     for words in SETTINGS:
         ours, theirs = answer(options.wat_tokens, words, data), answer(options.oracle, words, data)

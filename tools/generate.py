@@ -1,5 +1,5 @@
 #!/usr/bin/env python3
-"""Writes generated WebAssembly text to standard output, for measurements.
+"""Writes generated WebAssembly text to standard output, for benchmarks.
 
 usage: generate.py MEGABYTES [SEED]
 """

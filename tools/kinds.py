@@ -1,5 +1,5 @@
 #!/usr/bin/env python3
-"""Writes texts of one kind each, for measurements. Usage: kinds.py FOLDER [MEGABYTES]"""
+"""Writes texts of one kind each, for benchmarks. Usage: kinds.py FOLDER [MEGABYTES]"""
 import os
 import random
 import sys
@@ -32,7 +32,7 @@ def real_number():
 
 
 def data():
-    """A segment of a module's data: letters, and escapes of two digits."""
+    """Returns the contents of a data segment: letters and digits, and escapes of two hexadecimal digits."""
     bytes_ = [RNG.randrange(256) for _ in range(RNG.randint(16, 400))]
     return "".join(chr(byte) if chr(byte) in IDCHARS[:62] and RNG.random() < 0.9 else "\\%02x" % byte for byte in bytes_)
 
@@ -42,7 +42,7 @@ def prose():
 
 
 def many(piece, size):
-    """Pieces, in ever new order, until they have the size."""
+    """Returns random pieces of at least `size` bytes together. The pieces are shuffled for each repetition."""
     block = [piece() for _ in range(4000)]
     parts, length = [], 0
     while length < size:

@@ -1,11 +1,11 @@
-"""Where `wat2wasm` 1.0.32, wast 222 and the program under test are known to answer otherwise, for compare_modules.py."""
+"""The known differences between the results of `wat2wasm` 1.0.32, wast 222 and the program under test, for compare_modules.py."""
 import functools
 
 import module_tokens as tokens_of
 from module_sections import DATA_COUNT, contents, differences, meaning, type_count
 from module_texts import FORMS, laid
 
-# What `wat2wasm` takes and the program refuses: what the program says, and what such a text has.
+# Texts that `wat2wasm` accepts and the program rejects: the program's message, and a test of the tokens.
 REFUSED = {
     "of an `if` without `then` or `else`, which wat2wasm takes": ("unexpected token", tokens_of.has_bare_part),
     "of a table or elements of numbers, which wat2wasm takes": ("unknown keyword", tokens_of.has_number_table),
@@ -16,7 +16,7 @@ REFUSED = {
     "of a `table.copy` of one table, which wat2wasm takes": ("unexpected token", tokens_of.has_one_table),
     "of a type's number with the lists of another type, which wat2wasm takes": ("mismatching type", tokens_of.type_numbers),
 }
-# The same of what wast takes too: older texts, and later proposals.
+# Texts that wast accepts too, of older syntax or later proposals: the program's message, and a test of the tokens.
 REFUSED_ALONE = {
     "of limits with a type, which both judges take": ("unexpected token", tokens_of.has_index_type),
     "of a segment's memory or table without parentheses, which both judges take": ("unexpected token", tokens_of.has_bare_use),
@@ -28,11 +28,11 @@ NO_TYPE = "of the number of no type, for which the judges do not look"
 
 
 def is_taken_by_both(name):
-    """Whether both judges are known to take what a departure is of."""
+    """Returns `True` if both reference implementations are known to accept the texts of a known difference."""
     return name is not None and (name == NO_TYPE or name in REFUSED_ALONE or name.startswith(OF_A_FORM))
 
 
-# What a program refuses that leaves out a form: what it says, and what such a text has.
+# Texts that a program rejects if it does not implement a form: its message, and a test of the tokens.
 LEFT_OUT = {
     **{form: [("unknown keyword", functools.partial(tokens_of.has_word, {word for word, _ in rows}))] for form, rows in FORMS.items()},
     "reference-types": [("unknown keyword", tokens_of.has_reference), ("unknown identifier", tokens_of.has_reference)],
@@ -40,49 +40,49 @@ LEFT_OUT = {
     "bare": [("unexpected token", tokens_of.has_no_module), ("unknown keyword", tokens_of.has_no_module)],
 }
 
-# What the program takes and `wat2wasm` refuses.
+# Texts that the program accepts and `wat2wasm` rejects.
 CONDITIONS = "of an `if` with more conditions than one, which wat2wasm refuses"
 UNFOUND = "of the number of a type that a use brings, which wat2wasm does not find"
 STOPPED = "of a segment with a label's name or a type use, at which an assertion of wat2wasm fails"
 
-# Of what both make other bytes.
+# Texts for which both write different bytes.
 SHORT = "of a block of `(type x)`, which wat2wasm writes short"
 UNTYPED = "of a block of the number of a type that a use brings, which wat2wasm writes as one without a type"
 EMPTY = "of an element without instructions, which wat2wasm leaves out"
 OUTSIDE = "of a type use outside of functions, which wat2wasm does not look for"
 COUNT = "of a data count, which wat2wasm leaves out of no segments and writes for other expressions"
 LONG = "of a table's index from 64 on, which wat2wasm writes in two bytes"
-# Those that a module has, and not a mutant alone.
+# The known differences that occur in modules, and not only in mutants.
 OF_MODULES = {SHORT, STOPPED, COUNT, LONG}
 
 
 def refusal(without, tokens, message):
-    """The name of the departure that explains why the program alone refuses, or None."""
+    """Returns the name of the known difference that explains why only the program rejects a text, or `None`."""
     found = (name for name, (said, has) in {**REFUSED_ALONE, **REFUSED}.items() if message.startswith(said + "\n") and has(tokens))
     left_out = (f"{OF_A_FORM}{form}" for form in without for said, has in LEFT_OUT[form] if message.startswith(said + "\n") and has(tokens))
     return next(left_out, None) or next(found, None)
 
 
 def is_no_type(tokens, message, theirs):
-    """Whether a type use says a number that is none of a type of these bytes."""
+    """Returns `True` if a type use has an integer that is not the index of a type in the module of these bytes."""
     return message.startswith("unknown identifier\n") and any(number >= type_count(theirs) for number in tokens_of.type_numbers(tokens))
 
 
 def is_other_count(tokens, ours, theirs):
-    """Whether one data count is left out: by `wat2wasm` that of no segments, by the program one that no function needs."""
+    """Returns `True` if one data count is omitted: by `wat2wasm` that of 0 segments, by the program one that no function needs."""
     ours, theirs = (contents(data).get(DATA_COUNT) for data in (ours, theirs))
     return ours == b"\0" and theirs is None or ours is None and not tokens_of.has_data_index(tokens)
 
 
 def is_long(makers, rng, tokens):
-    """Whether bytes are as they have to be where each index of a table is below 64."""
+    """Returns `True` if the bytes agree, or differ in a known way, once each index of a table is below 64."""
     small = tokens_of.with_small_tables(tokens)
     ours, theirs = (maker(small, laid(rng, small))[0] for maker in makers)
     return small != tokens and None not in (ours, theirs) and (ours == theirs or bool(other_bytes(makers, rng, small, ours, theirs)))
 
 
 def other_bytes(makers, rng, tokens, ours, theirs):
-    """The names of the departures that together explain why bytes are not those of `wat2wasm`, or none."""
+    """Returns the names of the known differences that together explain why the bytes differ from those of `wat2wasm`, or an empty list."""
     names, short = [], tokens_of.shortened(tokens)
     if short != tokens and (answer := makers[0](short, laid(rng, short))[0]) is not None:
         names, tokens, ours = [SHORT], short, answer
@@ -102,7 +102,10 @@ def other_bytes(makers, rng, tokens, ours, theirs):
 
 
 def departures(makers, without, rng, tokens, ours, theirs):
-    """The names of the departures that explain these answers, or none. The makers answer of tokens and their text, as the program and as `wat2wasm`."""
+    """Returns the names of the known differences that explain these results, or an empty list.
+
+    `makers` are functions that return the results of the program and of `wat2wasm` for tokens and their text.
+    """
     if ours[0] is not None and theirs[0] is not None:
         return other_bytes(makers, rng, tokens, ours[0], theirs[0])
     if ours[0] is None:
@@ -116,13 +119,13 @@ def departures(makers, without, rng, tokens, ours, theirs):
     return [name] if name else []
 
 
-# How a text is written otherwise for a judge that does not take it as it is, by what it has.
+# Changes to a text that a reference implementation does not accept as it is, by the construct that is changed.
 FOR_WAT2WASM = {"a table's index left out": tokens_of.with_tables}
 FOR_WAST = {"an underscore in a memory argument": tokens_of.without_underscores, "a folded block in a segment, without `offset` or `item`": tokens_of.with_words}
 
 
 def written_for(judge, tokens):
-    """The tokens as a judge takes them, and by what they had to be changed."""
+    """Returns the tokens as a reference implementation accepts them, and the names of the changed constructs."""
     names = []
     for name, change in judge.items():
         changed = change(tokens)

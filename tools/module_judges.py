@@ -1,12 +1,14 @@
-"""The programs that make modules of texts, for compare_modules.py: the one under test, `wat2wasm`, and the encoder of the crate wast. An answer is the
-module's bytes or None, and what is said."""
+"""The programs that compile modules, for compare_modules.py: the one under test, `wat2wasm`, and the encoder of the crate wast.
+
+A result is a pair: the bytes of the module or `None`, and a message.
+"""
 import subprocess
 import sys
 import tempfile
 
 
 class Program:
-    """The program under test, a process for each text."""
+    """The program under test, run once for each text."""
 
     def __init__(self, command):
         self.command = command
@@ -20,7 +22,7 @@ class Program:
 
 
 class Wat2wasm:
-    """`wat2wasm --no-check`, a process for each text."""
+    """The program `wat2wasm --no-check`, run once for each text."""
 
     def __init__(self):
         self.room = tempfile.TemporaryDirectory()
@@ -34,7 +36,7 @@ class Wat2wasm:
 
 
 class Encoder:
-    """The encoder of wast, one process for all texts; a text at which it stops is refused."""
+    """The encoder of wast, one process for all texts. A text at which it stops counts as rejected."""
 
     def __init__(self, program):
         self.program, self.process = program, None

@@ -1,9 +1,9 @@
-"""The sections of binary modules, for compare_modules.py: their bytes, and what these say, apart from the ways to spell it."""
+"""The sections of binary modules, for compare_modules.py: their bytes, and their meaning regardless of the encoding."""
 
 NAMES = dict(enumerate(["custom", "types", "imports", "functions", "tables", "memories", "globals", "exports", "start", "elements", "code", "data", "data count", "order"]))
 TYPES, DATA_COUNT, ORDER = 1, 12, 13
 EMPTY, FUNCREF, END = 0x40, 0x70, 0x0B
-# How many numbers come after an instruction of none but unsigned ones, by its first byte, and by its number after 0xFC or 0xFD; after others none.
+# The number of integers after an instruction whose integers are unsigned, by opcode, and by the integer after 0xFC or 0xFD; otherwise 0.
 COUNTS = {
     **{0x0C: 1, 0x0D: 1, 0x10: 1, 0x11: 2, 0x3F: 1, 0x40: 1, 0xD0: 1, 0xD2: 1},
     **dict.fromkeys(range(0x20, 0x27), 1),
@@ -12,17 +12,17 @@ COUNTS = {
 COUNTS_AFTER_FC = {8: 2, 9: 1, 10: 2, 11: 1, 12: 2, 13: 1, 14: 2, 15: 1, 16: 1, 17: 1}
 COUNTS_AFTER_FD = dict.fromkeys([*range(12), *range(84, 94)], 2)
 AFTER_PREFIX = {0xFC: COUNTS_AFTER_FC, 0xFD: COUNTS_AFTER_FD}
-# How many bytes come after an instruction and its numbers, by its number after 0xFD: of v128.const and i8x16.shuffle, and the index of a lane.
+# The number of bytes after an instruction and its integers, by the integer after 0xFD: of v128.const and i8x16.shuffle, and the index of a lane.
 BYTES_AFTER_FD = {12: 16, 13: 16, **dict.fromkeys([*range(21, 35), *range(84, 92)], 1)}
 KNOWN = {*range(0x12), 0x1A, 0x1B, 0x1C, *range(0x20, 0x27), *range(0x28, 0xC5), 0xD0, 0xD1, 0xD2, 0xFC, 0xFD} - set(range(0x06, 0x0B))
 
 
 class Unknown(Exception):
-    """What is not read."""
+    """Bytes that are not parsed."""
 
 
 class Reader:
-    """Bytes from a place on."""
+    """A reader of bytes that begins at an offset."""
 
     def __init__(self, data, at=0):
         self.data, self.at = data, at
@@ -36,7 +36,7 @@ class Reader:
         return self.data[self.at - count : self.at]
 
     def number(self):
-        """An unsigned number."""
+        """Reads an unsigned LEB128 integer."""
         value = shift = 0
         while True:
             byte = self.byte()
@@ -49,7 +49,7 @@ class Reader:
         return self.take(self.number())
 
     def many(self, one):
-        """A vector."""
+        """Reads a vector."""
         return tuple(one() for _ in range(self.number()))
 
     def is_at_end(self):
@@ -57,7 +57,7 @@ class Reader:
 
 
 def sections(data):
-    """The sections, each by its number and its bytes, without those of names. What is no module is one section."""
+    """Returns the id and the bytes of each section, except sections of names. Bytes that are not a module are returned as one section with id 0."""
     reader, made = Reader(data, 8), []
     try:
         while not reader.is_at_end():
@@ -70,14 +70,14 @@ def sections(data):
 
 
 class Expressions(Reader):
-    """A section in which instructions are, under the types of a module."""
+    """A reader of a section with instructions, which knows the types of the module."""
 
     def __init__(self, data, types):
         super().__init__(data)
         self.types = types
 
     def block_type(self):
-        """A block's type: the bytes of its parameters and of its results."""
+        """Reads a block type as the bytes of its parameters and of its results."""
         at = self.at
         number = self.number()
         if self.at > at + 1 or number < EMPTY:
@@ -85,7 +85,7 @@ class Expressions(Reader):
         return b"\0", b"\0" if number == EMPTY else bytes([1, number])
 
     def rest(self, opcode):
-        """What comes after a first byte."""
+        """Reads the immediates after an opcode."""
         if opcode in (0x02, 0x03, 0x04):
             return self.block_type()
         if opcode in (0x41, 0x42):
@@ -102,13 +102,13 @@ class Expressions(Reader):
         return rest + (self.take(BYTES_AFTER_FD.get(number, 0)),) if opcode == 0xFD else rest
 
     def integer(self):
-        """The bytes of an integer with a sign."""
+        """Reads a signed LEB128 integer, and returns its bytes."""
         at = self.at
         self.number()
         return self.data[at : self.at]
 
     def instructions(self):
-        """Instructions up to the `end` that closes them all."""
+        """Reads instructions up to the `end` that closes them all."""
         made, depth = [], 1
         while depth:
             opcode = self.byte()
@@ -122,7 +122,7 @@ class Expressions(Reader):
         return self.take(2), self.instructions()
 
     def element_segment(self):
-        """The mode, the table and the offset of an element segment, its type, and its elements as instructions."""
+        """Reads the mode, the table and the offset of an element segment, its type, and its elements as instructions."""
         flags = self.number()
         mode = ("active", "passive", "active", "declarative")[flags & 3]
         table = self.number() if flags & 3 == 2 else 0
@@ -140,7 +140,7 @@ class Expressions(Reader):
         return flags == 1, memory, None if flags == 1 else self.instructions(), self.string()
 
     def body(self):
-        """The local variables and the instructions of a function."""
+        """Reads the local variables and the instructions of a function."""
         size = self.number()
         end = self.at + size
         variables = self.many(lambda: (self.number(), self.byte()))
@@ -151,7 +151,7 @@ class Expressions(Reader):
 
 
 def types_of(found):
-    """The bytes of the parameters and the results of each type, by their counts."""
+    """Returns the encoded parameters and results of each type, both with their counts."""
     reader = Reader(found.get(TYPES, b"\0"))
     made = []
     for _ in range(reader.number()):
@@ -167,7 +167,7 @@ def types_of(found):
 
 
 def said(number, content, types):
-    """What a section says: of blocks their types, of elements their instructions, however these are spelled. Where it is not read, its bytes."""
+    """Returns the meaning of a section: blocks by their types, elements by their instructions. Returns the bytes if they cannot be parsed."""
     reader = Expressions(content, types)
     one = {6: reader.a_global, 9: reader.element_segment, 10: reader.body, 11: reader.data_segment}.get(number)
     try:
@@ -178,18 +178,18 @@ def said(number, content, types):
 
 
 def contents(data):
-    """The bytes of each section, by its number; and in which order these are."""
+    """Returns the bytes of each section by id, and the order of the sections."""
     found = sections(data)
     return {**dict(found), ORDER: [number for number, _ in found if number != DATA_COUNT]}
 
 
 def type_count(data):
-    """How many types a module has."""
+    """Returns the number of types of a module."""
     return Reader(contents(data).get(TYPES, b"\0")).number()
 
 
 def meaning(data):
-    """The same, with what each section says in the place of its bytes."""
+    """Returns the meaning of each section by id, and the order of the sections."""
     found = contents(data)
     try:
         types = types_of(found)
@@ -199,12 +199,12 @@ def meaning(data):
 
 
 def differences(one, other):
-    """The numbers of the sections that are not equal."""
+    """Returns the ids of the sections that are not equal."""
     return {number for number in one.keys() | other.keys() if one.get(number) != other.get(number)}
 
 
 def agreement(one, other):
-    """How two answers agree, and which sections differ; that of names is set aside."""
+    """Returns how two results agree, and the ids of the sections that differ. Sections of names are ignored."""
     if one is None or other is None:
         return ("both refuse" if one is other else "refused by one"), set()
     spelled = differences(contents(one), contents(other))

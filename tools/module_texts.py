@@ -1,8 +1,8 @@
-"""Texts of modules at random, as lists of tokens, for compare_modules.py.
+"""Random modules as lists of tokens, for compare_modules.py.
 
-What `wat2wasm` and the standard's grammar do not agree on is not made: an `else` or an `item` with nothing after it, a `select` whose lists are empty,
-a type use outside of functions; and of hexadecimal numbers those below the least normal one, which `wat2wasm` 1.0.32 does not round to the nearest, nor
-all others. In functions alone are `memory.init` and `data.drop` made: only there does the standard ask for a data count.
+Texts on which `wat2wasm` and the standard's grammar disagree are not generated: an `else` or an `item` with nothing after it, a `select` with empty
+lists, and a type use outside of functions. Neither are hexadecimal floats below the least normal one, as `wat2wasm` 1.0.32 does not round these to
+the nearest. `memory.init` and `data.drop` are generated in functions only, as the standard requires a data count only for these.
 """
 import pathlib
 import random
@@ -17,7 +17,7 @@ ROW = re.compile(r'row!\(\s*"([^"]+)",\s*0x[0-9A-F]+,\s*Immediate::(\w+)', re.S)
 VECTOR_ROW = re.compile(r'prefixed!\(\s*"([^"]+)",\s*0xFD,\s*\d+,\s*Immediate::(\w+)', re.S)
 TABLE = pathlib.Path(__file__).resolve().parents[1] / "crates/wat_instructions/src/table.rt"
 
-# What a program may leave out, by name: the words of its instructions, each with its kind of immediate.
+# The forms that a program may lack, by name: the keywords of their instructions, each with its kind of immediate.
 FORMS = {
     "saturating": [(f"{to}.trunc_sat_{of}_{sign}", "No") for to in TYPES[:2] for of in TYPES[2:] for sign in "su"],
     "memory": [("memory.copy", "No"), ("memory.fill", "No"), ("memory.init", "Data"), ("data.drop", "Data")],
@@ -32,12 +32,12 @@ FORMS = {
     "bare": [],
 }
 OFTEN = 3
-# Up to which number the indices of tables go: those from 64 on `wat2wasm` 1.0.32 writes as integers with a sign.
+# The bounds of table indices: `wat2wasm` 1.0.32 writes those from 64 on as signed integers.
 TABLES = [64] * 60 + [200]
 
 
 def rows_of(forms):
-    """Words of plain instructions, each with its kind of immediate: those of the table, and those of forms, which come more often."""
+    """Returns the keywords of plain instructions, each with its kind of immediate. Those of the forms are repeated `OFTEN` times."""
     others = {row for rows in FORMS.values() for row in rows}
     words = {word for word, _ in others if word != "select"}
     rows = [row for row in ROW.findall(TABLE.read_text(encoding="utf-8")) if row[0] not in words]
@@ -45,12 +45,12 @@ def rows_of(forms):
 
 
 class Choices(random.Random):
-    """Random choices; which forms are made, and of which plain instructions."""
+    """Random choices, with the forms and the plain instructions that are generated."""
 
     forms, rows = frozenset(), []
 
     def value_type(self, most=4):
-        """One of the first number types, or a reference type, or the vector type."""
+        """Returns one of the first `most` number types, or a reference type or the vector type if the forms include them."""
         if "reference-types" in self.forms and self.random() < 0.25:
             return self.choice(REFERENCES)
         if "vectors" in self.forms and self.random() < 0.2:
@@ -58,7 +58,7 @@ class Choices(random.Random):
         return self.choice(TYPES[:most])
 
     def index(self, names):
-        """An index, by its number or a name that says it."""
+        """Returns a random index of one of these names: its integer, or the name if it has one and this is its first occurrence."""
         at = self.randrange(len(names))
         name = names[at]
         if name is not None and names.index(name) == at and self.random() < 0.6:
@@ -66,19 +66,19 @@ class Choices(random.Random):
         return self.choice([str(at), hex(at), f"0{at}"])
 
     def any_index(self, names, bound=200):
-        """The same, or any number below a bound."""
+        """Returns a random index of one of these names, or any integer below `bound`."""
         return self.index(names) if names and self.random() < 0.8 else str(self.randrange(bound))
 
 
 def choices(seed, forms):
-    """Choices that begin from a seed."""
+    """Returns random choices of the forms from a seed."""
     rng = Choices(seed)
     rng.forms, rng.rows = frozenset(forms), rows_of(forms)
     return rng
 
 
 def integer(rng, bits):
-    """An integer of so many bits, with or without a sign."""
+    """Returns an integer literal of at most `bits` bits, with or without a sign."""
     if rng.random() < 0.3:
         size = rng.choice([0, 1, 63, 64, 127, 128, 2 ** (bits - 1) - 1])
     else:
@@ -96,7 +96,7 @@ def integer(rng, bits):
 
 
 def floating(rng, digits, greatest):
-    """A number of a format with so many digits, whose greatest numbers have that exponent."""
+    """Returns a literal of a floating-point format with significands of `digits` bits, whose largest numbers have the exponent `greatest`."""
     sign = rng.choice(["", "", "-", "+"])
     kind = rng.randrange(8)
     if kind == 0:
@@ -109,7 +109,7 @@ def floating(rng, digits, greatest):
         exponent = rng.choice(["", f"e{rng.randrange(-20, 14)}", f"E-{rng.randrange(greatest // 3)}", f"e+{rng.randrange(greatest // 4 - 24)}"])
         point = rng.choice(["", ".", f".{rng.randrange(10 ** 9):0{rng.randrange(1, 20)}}"])
         return sign + (f"{size[0]}_{size[1:]}" if len(size) > 5 else size) + point + exponent
-    # Ties, and what is a little beside one.
+    # Ties, and numbers close to one.
     twice = 2 ** digits + rng.choice([0, 1, rng.randrange(2 ** digits)])
     more = rng.choice(["", ".", ".8", ".000000000000000000001", ".fffffffffffffffff"])
     exponent = rng.choice([0, -digits, 1 - greatest - digits, rng.randrange(1 - greatest - digits, greatest - digits)])
@@ -117,7 +117,7 @@ def floating(rng, digits, greatest):
 
 
 def memory_argument(rng):
-    """A memory argument, of which each part may be left out."""
+    """Returns a memory argument, of which each part is optional."""
     size = rng.choice([0, 1, 127, 128, 2 ** 32 - 1, rng.randrange(10, 2 ** 32)])
     offset = rng.choice([str(size), hex(size), f"0_{size}", f"0x0_{size:X}"])
     align = 2 ** rng.choice([0, 1, 2, 3, rng.randrange(32)])
@@ -125,13 +125,13 @@ def memory_argument(rng):
 
 
 def lane_index(rng):
-    """An index of a lane."""
+    """Returns the index of a lane."""
     at = rng.choice([0, 1, 15, 16, 127, 128, 255, rng.randrange(256)])
     return rng.choice([str(at), hex(at), f"0{at}"])
 
 
 def vector(rng):
-    """The shape and the lanes of a vector."""
+    """Returns the shape and the lanes of a vector."""
     bits, shape = rng.choice([(8, "i8x16"), (16, "i16x8"), (32, "i32x4"), (64, "i64x2"), (32, "f32x4"), (64, "f64x2")])
     if shape[0] == "i":
         return [shape] + [integer(rng, bits) for _ in range(128 // bits)]
@@ -139,7 +139,7 @@ def vector(rng):
 
 
 def selected(rng):
-    """The types of a `select`, in groups."""
+    """Returns the types of a `select`, in groups."""
     groups = [[rng.value_type()]] + rng.choice([[], [], [], [[]], [[], [rng.value_type()]]])
     if rng.random() < 0.1:
         groups[0].append(rng.value_type())
@@ -148,21 +148,21 @@ def selected(rng):
 
 
 class Body:
-    """Instructions under labels, as lists of tokens."""
+    """A generator of instructions under labels, as lists of tokens."""
 
     def __init__(self, rng, names, variables, types=None):
-        """Without types no instruction has a type use: `wat2wasm` looks for these in functions alone. Nor has one the index of a data segment."""
+        """Creates a generator. Without `types` no instruction has a type use, which `wat2wasm` finds in functions only, or a data segment's index."""
         self.rng, self.names, self.variables, self.types = rng, names, variables, types
         self.labels = [None]
 
     def plain(self):
-        """A plain instruction with its immediate."""
+        """Returns a plain instruction with its immediate."""
         word, kind = self.rng.choice(self.rng.rows)
         made = self.immediate(kind)
         return ["nop"] if made is None else [word] + made
 
     def immediate(self, kind):
-        """The tokens of an immediate of a kind, or None where nothing is there that it could say."""
+        """Returns the tokens of an immediate of a kind, or `None` if there is nothing to which it could refer."""
         rng, names = self.rng, self.names
         if kind in ("Local", "Func"):
             known = self.variables if kind == "Local" else names["func"]
@@ -188,13 +188,13 @@ class Body:
         return others[kind]() if kind in others else []
 
     def tables(self, kind):
-        """The indices of tables, which may be left out, and that of an element segment."""
+        """Returns the indices of tables, which are optional, and for `TableElem` that of an element segment."""
         rng, count = self.rng, 2 if kind == "Tables" else 1
         said = [rng.any_index(self.names["table"], rng.choice(TABLES)) for _ in range(count)] if rng.random() < 0.6 else []
         return said + ([rng.any_index(self.names["elem"])] if kind == "TableElem" else [])
 
     def unnamed_use(self):
-        """A type use whose parameters have no names."""
+        """Returns a type use whose parameters have no names."""
         rng = self.rng
         if not self.types or rng.random() < 0.5:
             params, results = a_type(rng)
@@ -217,7 +217,7 @@ class Body:
         return made
 
     def head(self, label):
-        """The label and the type of a block: a type use, or one result at most among groups that list nothing."""
+        """Returns the label and the type of a block: a type use, or at most one result among empty groups."""
         rng = self.rng
         if self.types is not None and rng.random() < 0.5:
             return ([label] if label else []) + self.unnamed_use()
@@ -229,7 +229,7 @@ class Body:
         return [label] if label and self.rng.random() < 0.3 else []
 
     def block(self, depth):
-        """A block up to its `end`."""
+        """Returns a block up to its `end`."""
         word, label = self.rng.choice(["block", "loop", "if"]), self.label()
         made = [word] + self.head(label) + self.inside(label, lambda: self.many(depth - 1))
         if word == "if" and self.rng.random() < 0.5:
@@ -237,7 +237,7 @@ class Body:
         return made + ["end"] + self.tail(label)
 
     def folded(self, depth):
-        """A folded instruction."""
+        """Returns a folded instruction."""
         rng = self.rng
         kind = rng.randrange(4)
         if depth <= 0 or kind < 2:
@@ -260,7 +260,7 @@ class Body:
 
 
 def variables(rng, word, prefix):
-    """Groups of variables, and their names."""
+    """Returns groups of variables, and the variables' names."""
     tokens, names = [], []
     for at in range(rng.randrange(4)):
         if word != "result" and rng.random() < 0.5:
@@ -279,7 +279,7 @@ EXPORTED = ['"e{at}"', '"\\41\\n\\t\\""', '"\u00e9\\c3\\a9"', '""', '"\\u{{1f600
 
 
 def some_names(rng):
-    """The names of up to four items of each kind; and of segments, where instructions may say these."""
+    """Returns the names of up to four items of each kind, and of up to three segments of each kind to which instructions may refer."""
     names = {kind: [rng.choice([None, f"${kind[0]}{at}", f"$a.b-{at}!"]) for at in range(rng.choice([0, 0, 1, 2, 3, 4]))] for kind in KINDS + ("type",)}
     for form, kind in SEGMENTS.items():
         if form in rng.forms:
@@ -288,23 +288,23 @@ def some_names(rng):
 
 
 def exported(rng):
-    """Inline exports."""
+    """Returns inline exports."""
     return [t for at in range(rng.choice([0, 0, 0, 1, 2])) for t in ["(", "export", rng.choice(EXPORTED).format(at=at), ")"]]
 
 
 def sizes(rng):
-    """The limits of a memory or a table."""
+    """Returns the limits of a memory or a table."""
     some = [str(rng.choice([0, 1, 2, 127, 128, 65536, 65537, 2 ** 32 - 1])) for _ in range(rng.choice([1, 2]))]
     return [rng.choice([size, hex(int(size)), f"0_{size}"]) for size in some]
 
 
 def a_type(rng):
-    """The types of parameters and of results."""
+    """Returns the types of parameters and of results."""
     return tuple(tuple(rng.value_type(rng.choice([1, 2, 4])) for _ in range(rng.randrange(3))) for _ in range(2))
 
 
 def listed(rng, word, types, prefix):
-    """Groups that list these types, and their names, of which there are none without a prefix."""
+    """Returns groups that list these types, and the names of the listed parameters. Without a prefix none has a name."""
     tokens, names, types = [], [], list(types)
     while types or rng.random() < 0.2:
         if types and prefix and word == "param" and rng.random() < 0.5:
@@ -319,7 +319,7 @@ def listed(rng, word, types, prefix):
 
 
 def type_use(rng, types, names):
-    """A type use, and the names of its parameters."""
+    """Returns a type use, and the names of its parameters."""
     if not types or rng.random() < 0.5:
         params, results = a_type(rng)
         index = []
@@ -334,14 +334,14 @@ def type_use(rng, types, names):
 
 
 def function(rng, names, types):
-    """What comes after the name and the exports of a function."""
+    """Returns the tokens of a function after its name and its exports."""
     use, first = type_use(rng, types, names)
     local, last = variables(rng, "local", "v")
     return use + local + Body(rng, names, first + last, types).many(3)
 
 
 def kind_of(rng, kind):
-    """The type of a table, a memory or a global."""
+    """Returns the type of a table, a memory or a global."""
     if kind == "global":
         of = rng.value_type()
         return rng.choice([[of], ["(", "mut", of, ")"]])
@@ -352,37 +352,37 @@ STRINGS = ['""', '"a"', '"\\00\\ff\\n"', '"\u00e9"', '"' + "0123456789" * 7 + '"
 
 
 def strings(rng):
-    """Strings."""
+    """Returns up to three strings."""
     return [rng.choice(STRINGS) for _ in range(rng.choice([0, 1, 1, 2, 3]))]
 
 
 def offset(rng, names, word):
-    """An expression after a word, or one folded instruction."""
+    """Returns an expression in a group of the keyword, or one folded instruction."""
     body = Body(rng, names, [])
     return rng.choice([lambda: ["(", word] + body.many(1) + [")"], lambda: body.folded(1), lambda: ["(", "i32.const", integer(rng, 32), ")"]])()
 
 
 def used(rng, names, kind):
-    """The use of a memory or a table, which may be left out."""
+    """Returns the optional use of a memory or a table."""
     if not names[kind] or rng.random() < 0.5:
         return []
     return ["(", kind, rng.index(names[kind]), ")"]
 
 
 def how_many(rng, names, kind):
-    """How many segments there are of a kind."""
+    """Returns the number of segments of a kind."""
     return len(names[kind]) if kind in names else rng.choice([0, 0, 1, 2, 3])
 
 
 def own_name(rng, names, kind, at):
-    """The name of a segment, or nothing."""
+    """Returns the name of a segment as a list, which is empty if it has none."""
     if kind in names:
         return [names[kind][at]] if names[kind][at] else []
     return rng.choice([[], [f"${kind[0]}{at}"]])
 
 
 def data_segments(rng, names):
-    """Data segments."""
+    """Returns data segments."""
     made = []
     for at in range(how_many(rng, names, "data")):
         active = rng.choice([[], used(rng, names, "memory") + offset(rng, names, "offset")])
@@ -391,21 +391,21 @@ def data_segments(rng, names):
 
 
 def functions(rng, names):
-    """Indices of functions."""
+    """Returns up to three indices of functions."""
     if not names["func"]:
         return []
     return [rng.index(names["func"]) for _ in range(rng.choice([0, 1, 2, 3]))]
 
 
 def reference(rng, names, mixed):
-    """An element that is one reference: a function's, or none where they are mixed."""
+    """Returns an element that is one reference: to a function, or null if `mixed` allows it or without functions."""
     null = mixed and rng.random() < 0.5 or not names["func"]
     one = ["ref.null", rng.choice(["func", "extern"])] if null else ["ref.func", rng.index(names["func"])]
     return rng.choice([["("] + one + [")"], ["(", "item"] + one + [")"], ["(", "item", "("] + one + [")", ")"]])
 
 
 def elements(rng, names):
-    """Elements by their instructions. `wat2wasm` drops an `item` with nothing in it: there is none."""
+    """Returns elements as instructions. None is an empty `item`, as `wat2wasm` drops these."""
     made, mixed = [], "references" in rng.forms and rng.choice([True, True, False])
     for _ in range(rng.choice([0, 1, 2, 3])):
         if "references" in rng.forms and (not mixed or rng.random() < 0.8):
@@ -417,12 +417,12 @@ def elements(rng, names):
 
 
 def element_list(rng, names):
-    """A list of elements."""
+    """Returns a list of elements."""
     return rng.choice([lambda: ["func"] + functions(rng, names), lambda: [rng.choice(REFERENCES)] + elements(rng, names)])()
 
 
 def element_segments(rng, names):
-    """Element segments."""
+    """Returns element segments."""
     made = []
     for at in range(how_many(rng, names, "elem")):
         kind = rng.randrange(4)
@@ -437,7 +437,7 @@ def element_segments(rng, names):
 
 
 def content(rng, names, types, kind):
-    """The same of an item of a kind."""
+    """Returns the tokens of an item after its name and its exports."""
     if kind == "memory" and rng.random() < 0.3:
         return ["(", "data"] + strings(rng) + [")"]
     if kind == "table" and rng.random() < 0.3:
@@ -448,7 +448,7 @@ def content(rng, names, types, kind):
 
 
 def an_import(rng, names, types, kind, name):
-    """An import, inline or not."""
+    """Returns an import, inline or as a field of its own."""
     both = [rng.choice(EXPORTED).format(at=at) for at in range(2)]
     named = [name] if name else []
     what = type_use(rng, types, names)[0] if kind == "func" else kind_of(rng, kind)
@@ -458,7 +458,7 @@ def an_import(rng, names, types, kind, name):
 
 
 def other_fields(rng, names):
-    """Exports, a start function or none, and segments."""
+    """Returns exports, at most one start function, and segments."""
     made = []
     for at in range(rng.choice([0, 0, 1, 2, 3])):
         kind = rng.choice(KINDS)
@@ -470,7 +470,7 @@ def other_fields(rng, names):
 
 
 def merged(rng, lists):
-    """The items of lists, each list in its order."""
+    """Returns the items of the lists in a random order that keeps the order of each list."""
     lists, made = [list(items) for items in lists if items], []
     while lists:
         items = rng.choice(lists)
@@ -480,12 +480,12 @@ def merged(rng, lists):
 
 
 def type_field(rng, name, of):
-    """A field that defines a type."""
+    """Returns a field that defines a type."""
     return ["(", "type"] + ([name] if name else []) + ["(", "func"] + listed(rng, "param", of[0], "p")[0] + listed(rng, "result", of[1], "r")[0] + [")", ")"]
 
 
 def module(rng, names):
-    """The tokens of a module of items with these names."""
+    """Returns the tokens of a module whose items have these names."""
     types = [a_type(rng) for _ in names["type"]]
     lists, imports = [], []
     for kind in KINDS:
@@ -501,7 +501,7 @@ def module(rng, names):
 
 
 def laid(rng, tokens):
-    """The text of tokens."""
+    """Returns the text of tokens, with random whitespace and comments between them."""
     text = ""
     for at, token in enumerate(tokens):
         if at and not (rng.random() < 0.5 and (token in "()" or tokens[at - 1] in "()")):
@@ -511,7 +511,10 @@ def laid(rng, tokens):
 
 
 def with_type(rng, tokens):
-    """The tokens with the index of a type, which a type use may bring, in a function or a call. `wat2wasm` does not find it in a block."""
+    """Returns the tokens with a type index added to a function or a call. It may be that of a type that an inline type use adds.
+
+    `wat2wasm` does not find such a type in a block.
+    """
     heads = [at for at, token in enumerate(tokens) if token in {"func", "call_indirect"}]
     if not heads:
         return tokens
@@ -521,7 +524,7 @@ def with_type(rng, tokens):
 
 
 def mutated(rng, tokens):
-    """The tokens with one change."""
+    """Returns the tokens with one random change."""
     at, other = rng.randrange(len(tokens)), rng.randrange(len(tokens))
     kind = rng.randrange(5)
     if kind == 4:
@@ -538,7 +541,7 @@ def mutated(rng, tokens):
 
 
 def made_texts(rng, modules, mutants):
-    """So many modules, and mutants of them: each by whether it is a mutant, its tokens and its text."""
+    """Returns modules, and mutants of them: for each whether it is a mutant, its tokens and its text."""
     texts = []
     while len(texts) < modules:
         texts.append((False, module(rng, some_names(rng))))
@@ -551,7 +554,7 @@ def made_texts(rng, modules, mutants):
 
 
 def big_module(rng, count, named):
-    """The text of a module of so many functions."""
+    """Returns the text of a module of `count` functions."""
     segments = [kind for form, kind in SEGMENTS.items() if form in rng.forms]
     names = {**{kind: [] for kind in (*KINDS, "type", *segments)}, "func": [f"$f{at}" if named else None for at in range(count)]}
     return " ".join(module(rng, names)).replace(" ( func", "\n( func")

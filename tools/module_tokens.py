@@ -1,4 +1,4 @@
-"""What the tokens of a module's text have in them, for compare_modules.py."""
+"""Properties of the tokens of a module's text, for compare_modules.py."""
 import re
 
 TYPES = {"i32", "i64", "f32", "f64", "v128"}
@@ -7,13 +7,13 @@ GROUPS = [["param"], ["result"], ["local"], ["global"]]
 INDEX = re.compile(r"\$.*|0x[0-9a-fA-F_]+|[0-9_]+")
 SEGMENTS = (["data"], ["elem"])
 BLOCKS = {"block", "loop", "if"}
-# The words whose index of a table `wat2wasm` 1.0.32 asks for.
+# The keywords before which `wat2wasm` 1.0.32 requires the index of a table.
 OF_A_TABLE = {"table.get", "table.set", "table.size", "table.grow", "table.fill"}
 OF_TABLES = OF_A_TABLE | {"table.copy", "table.init"}
 
 
 def after_group(tokens, at):
-    """The place after the group that begins with the `(` there, or the end."""
+    """Returns the index after the group whose `(` is at `at`, or the number of tokens if it is not closed."""
     depth = 0
     while at < len(tokens):
         depth += (tokens[at] == "(") - (tokens[at] == ")")
@@ -24,24 +24,24 @@ def after_group(tokens, at):
 
 
 def group_at(tokens, at, word):
-    """The items of the group of the word that begins there, or None."""
+    """Returns the tokens after the keyword in the group at `at`, or `None` if no group of this keyword begins there."""
     if tokens[at : at + 2] != ["(", word]:
         return None
     return tokens[at + 2 : after_group(tokens, at) - 1]
 
 
 def groups_of(tokens, words):
-    """The tokens of each group that begins with one of the words."""
+    """Returns the tokens of each group that begins with one of these keywords."""
     return [tokens[at : after_group(tokens, at)] for at in range(len(tokens)) if tokens[at] == "(" and tokens[at + 1 : at + 2] in words]
 
 
 def unnamed(field):
-    """The tokens of a field after its word and its name."""
+    """Returns the tokens of a field after its keyword and its name."""
     return field[3:] if field[2:3] and field[2].startswith("$") else field[2:]
 
 
 def outer(field):
-    """The tokens of a field that are in no group of it."""
+    """Returns the tokens of a field that are not in a nested group."""
     made, at = [], 1
     while at < len(field) - 1:
         if field[at] == "(":
@@ -53,12 +53,12 @@ def outer(field):
 
 
 def is_index(tokens, at):
-    """Whether an index is there."""
+    """Returns `True` if the token at `at` is an index."""
     return at < len(tokens) and bool(INDEX.fullmatch(tokens[at]))
 
 
 def lists_at(tokens, at):
-    """The parameters and the results that groups there list, and the place after them."""
+    """Returns the parameters and the results that the groups at `at` list, and the index after them."""
     made = []
     for word in ("param", "result"):
         items = []
@@ -70,7 +70,7 @@ def lists_at(tokens, at):
 
 
 def defined_types(tokens):
-    """The types that fields define: their names, parameters and results."""
+    """Returns the types that fields define: their names, parameters and results."""
     made = []
     for at in range(len(tokens)):
         if tokens[at : at + 2] == ["(", "type"]:
@@ -82,14 +82,14 @@ def defined_types(tokens):
 
 
 def number_of(token):
-    """The number that an index says, or -1."""
+    """Returns the integer of an index, or -1 if it is a name."""
     if not re.fullmatch(r"0x[0-9a-fA-F_]+|[0-9][0-9_]*", token):
         return -1
     return int(token.replace("_", ""), 16 if token.startswith("0x") else 10)
 
 
 def type_of(types, index):
-    """The type of an index, or None."""
+    """Returns the type of an index, or `None`."""
     if index.startswith("$"):
         return next((of for of in types if of[0] == index), None)
     number = number_of(index)
@@ -97,7 +97,7 @@ def type_of(types, index):
 
 
 def block_uses(tokens):
-    """Where the type use of each block begins that says the index of a type."""
+    """Yields the position of each block's type use that has the index of a type."""
     for at, token in enumerate(tokens):
         if token in BLOCKS:
             at += 2 if tokens[at + 1 : at + 2] and tokens[at + 1].startswith("$") else 1
@@ -106,7 +106,7 @@ def block_uses(tokens):
 
 
 def shortened(tokens):
-    """The tokens with the lists of its type in the place of each `(type x)` of a block, where the type has a short form."""
+    """Returns the tokens with each `(type x)` of a block replaced by its short form, if the type has one."""
     types, made, last = defined_types(tokens), [], 0
     for at in block_uses(tokens):
         of = type_of(types, tokens[at + 2])
@@ -117,7 +117,7 @@ def shortened(tokens):
 
 
 def untyped(tokens):
-    """The tokens without the number of a type in a block, where no field defines this type and nothing is listed."""
+    """Returns the tokens without each block's type index that no field defines, if the block lists neither parameters nor results."""
     types, made, last = defined_types(tokens), [], 0
     for at in block_uses(tokens):
         end = after_group(tokens, at)
@@ -128,7 +128,7 @@ def untyped(tokens):
 
 
 def with_tables(tokens):
-    """The tokens with the index 0 where `wat2wasm` asks for that of a table and there is none."""
+    """Returns the tokens with the index 0 of a table added, if `wat2wasm` requires an index and it is missing."""
     made = []
     for at, token in enumerate(tokens):
         made.append(token)
@@ -138,7 +138,7 @@ def with_tables(tokens):
 
 
 def with_small_tables(tokens):
-    """The tokens with small indices of tables in the place of those from 64 on."""
+    """Returns the tokens with each index of a table from 64 on replaced by its remainder modulo 64."""
     made = list(tokens)
     for at, token in enumerate(tokens):
         if token in OF_TABLES:
@@ -147,12 +147,12 @@ def with_small_tables(tokens):
 
 
 def without_underscores(tokens):
-    """The tokens with no underscore in a memory argument, where wast takes none."""
+    """Returns the tokens without underscores in memory arguments, where wast does not accept them."""
     return [token.replace("_", "") if token.startswith(("offset=", "align=")) else token for token in tokens]
 
 
 def with_words(tokens):
-    """The tokens with `offset` or `item` around each offset and each element of a folded block; wast does not read these without."""
+    """Returns the tokens with `offset` or `item` around each offset and each element that has a block, as wast requires."""
     made, at = [], 0
     while at < len(tokens):
         if tokens[at : at + 2] in (["(", "data"], ["(", "elem"]):
@@ -167,7 +167,7 @@ def with_words(tokens):
 
 
 def with_words_in(field, has_offset):
-    """The same of a segment, in which elements come next, or its offset."""
+    """Returns the tokens of a segment with `offset` or `item` added. If `has_offset` is set, elements come next, otherwise the offset."""
     made, at = field[:2], 2
     while at < len(field):
         end = after_group(field, at) if field[at] == "(" else at + 1
@@ -181,7 +181,7 @@ def with_words_in(field, has_offset):
 
 
 def has_empty_else(tokens):
-    """Whether an `else` has nothing after it."""
+    """Returns `True` if an `else` has nothing after it."""
     for at, token in enumerate(tokens):
         if token != "else":
             continue
@@ -198,7 +198,7 @@ def has_empty_else(tokens):
 
 
 def has_empty_select(tokens):
-    """Whether the lists of a `select` are there and empty."""
+    """Returns `True` if a `select` has type groups, and all of them are empty."""
     for at, token in enumerate(tokens):
         _, types, after = lists_at(tokens, at + 1)
         if token == "select" and after > at + 1 and not types:
@@ -207,22 +207,22 @@ def has_empty_select(tokens):
 
 
 def has_empty_item(tokens):
-    """Whether an element has no instructions."""
+    """Returns `True` if an `item` has no instructions."""
     return any(tokens[at : at + 3] == ["(", "item", ")"] for at in range(len(tokens)))
 
 
 def has_use_outside(tokens):
-    """Whether an instruction of a global, a segment or a table has a type use."""
+    """Returns `True` if a global, a segment or a table has an instruction that may have a type use: a block or `call_indirect`."""
     return any({"call_indirect", *BLOCKS} & set(field) for field in groups_of(tokens, (["global"], ["data"], ["elem"], ["table"])))
 
 
 def has_data_index(tokens):
-    """Whether an instruction of a function says a data segment."""
+    """Returns `True` if an instruction of a function has the index of a data segment."""
     return any(has_word({"memory.init", "data.drop"}, field) for field in groups_of(tokens, (["func"],)))
 
 
 def has_bare_part(tokens):
-    """Whether a part of a folded `if` has no `then` or `else` of its own."""
+    """Returns `True` if a folded `if` has no `then`, or a group after a `then` is not an `else`."""
     for at in range(len(tokens) - 1):
         if tokens[at : at + 2] == ["(", "then"]:
             end = after_group(tokens, at)
@@ -241,48 +241,48 @@ def has_bare_part(tokens):
 
 
 def has_typed_select(tokens):
-    """Whether a `select` has a type."""
+    """Returns `True` if a `select` has a type."""
     return any(tokens[at : at + 3] == ["select", "(", "result"] for at in range(len(tokens)))
 
 
 def has_type_in(tokens, kind):
-    """Whether a memory or a table has a number type."""
+    """Returns `True` if a group of this kind has a number type or the vector type."""
     return any(TYPES & set(group) for group in groups_of(tokens, ([kind],)))
 
 
 def has_number_table(tokens):
-    """Whether a table or an element segment is of a number type."""
+    """Returns `True` if a table or an element segment has a number type or the vector type."""
     return has_type_in(tokens, "table") or any(TYPES & set(outer(field)) for field in groups_of(tokens, (["elem"],)))
 
 
 def has_name_in_element(tokens):
-    """Whether an instruction of an element segment has a name."""
+    """Returns `True` if an instruction of an element segment has a name."""
     return any(sum(token.startswith("$") for token in field) > sum(token.startswith("$") for token in outer(field)) for field in groups_of(tokens, (["elem"],)))
 
 
 def has_index_type(tokens):
-    """Whether the limits of a memory or a table have a type."""
+    """Returns `True` if a memory or a table has an index type."""
     return has_type_in(tokens, "memory") or has_type_in(tokens, "table")
 
 
 def has_reference(tokens):
-    """Whether a variable, a result or a global is of a reference type."""
+    """Returns `True` if a parameter, a result, a local or a global has a reference type."""
     return any(REFERENCES & set(group) for group in groups_of(tokens, GROUPS))
 
 
 def type_numbers(tokens):
-    """The numbers of types that type uses say."""
+    """Returns the type indices of all type uses, with -1 for names."""
     uses = (tokens[at + 2] for at in range(len(tokens) - 3) if tokens[at : at + 2] == ["(", "type"] and tokens[at + 3] == ")")
     return [number_of(use) for use in uses]
 
 
 def has_bare_use(tokens):
-    """Whether a segment says the index of its memory or table without parentheses."""
+    """Returns `True` if a segment has the index of its memory or table without parentheses."""
     return any(is_index(unnamed(field), 0) for field in groups_of(tokens, SEGMENTS))
 
 
 def has_memory_index(tokens):
-    """Whether an instruction says the index of its memory, as proposals after 2.0 allow."""
+    """Returns `True` if an instruction has the index of a memory, as proposals after 2.0 allow."""
     words = {"memory.size", "memory.grow", "memory.copy", "memory.fill"}
     for at, word in enumerate(tokens):
         if (".load" in word or ".store" in word or word in words) and is_index(tokens, at + 1):
@@ -293,33 +293,33 @@ def has_memory_index(tokens):
 
 
 def has_two_segments_of_a_name(tokens):
-    """Whether two data segments have one name."""
+    """Returns `True` if two data segments have the same name."""
     names = [tokens[at + 2] for at in range(len(tokens) - 2) if tokens[at : at + 2] == ["(", "data"] and tokens[at + 2].startswith("$")]
     return len(set(names)) < len(names)
 
 
 def has_said_table(tokens):
-    """Whether an element segment says its table, and leaves out `func` or its offset."""
+    """Returns `True` if an element segment begins with the use of a table."""
     return any(tokens[at : at + 2] == ["(", "elem"] and tokens[at + 2 : at + 5].count("table") for at in range(len(tokens)))
 
 
 def has_no_list(tokens):
-    """Whether an element segment has nothing in it."""
+    """Returns `True` if an element segment is empty."""
     return any(unnamed(field) in ([")"], ["declare", ")"]) for field in groups_of(tokens, (["elem"],)))
 
 
 def has_one_table(tokens):
-    """Whether a `table.copy` says one table."""
+    """Returns `True` if a `table.copy` has one index."""
     return any(token == "table.copy" and is_index(tokens, at + 1) and not is_index(tokens, at + 2) for at, token in enumerate(tokens))
 
 
 def has_no_module(tokens):
-    """Whether no `module` is around the fields."""
+    """Returns `True` if no `module` is around the fields."""
     return tokens[:2] != ["(", "module"]
 
 
 def has_more_conditions(tokens):
-    """Whether a folded `if` has more conditions than one."""
+    """Returns `True` if a folded `if` has more than one condition."""
     for at in range(len(tokens)):
         if tokens[at : at + 2] == ["(", "if"]:
             count, here = 0, at + 2
@@ -335,5 +335,5 @@ def has_more_conditions(tokens):
 
 
 def has_word(words, tokens):
-    """Whether one of these words is there."""
+    """Returns `True` if one of these words is among the tokens."""
     return not words.isdisjoint(tokens)
