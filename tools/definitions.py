@@ -1,21 +1,21 @@
 #!/usr/bin/env python3
-"""Counts the trusted definitions: those that a contract names, and all those of specs/ that they name in turn.
+"""Counts the trusted definitions: those that a contract names, and the definitions of specs/ that they name in turn.
 
 usage: tools/definitions.py NAME..      prints their files with line counts and names, and the sum
        tools/definitions.py --write     writes the counts of docs/specification.md
        tools/definitions.py --check     checks the page and the READMEs
        tools/definitions.py --self-test shows that seeded faults are reported
 
-A NAME is a definition, such as Rattle.wat_lex.specs.tokens.Tiling.MaximalTiling; or a source, such as crates/wat_lex/src/lexer.rt, for all that the
-contracts of its public functions and its impls cite; or some functions of a source, such as crates/wat_lex/src/lexer.rt:scan,iter. After a minus
-sign, a definition, or each definition of a module, is not followed. Lines are counted without comments, imports and empty lines. Types of the code,
-which specs/ import as `declared`, and definitions of Rattle's library are not followed either.
+A NAME is one of three things: a definition, such as Rattle.wat_lex.specs.tokens.Tiling.MaximalTiling; a source, such as crates/wat_lex/src/lexer.rt,
+for all that the contracts of its public functions and its impls cite; or some functions of a source, such as crates/wat_lex/src/lexer.rt:scan,iter.
+A definition after a minus sign, or each definition of a module after one, is not followed. Lines are counted without comments, imports and empty
+lines. Types of the code, which specs/ import as `declared`, and definitions of Rattle's library are not followed either.
 
 A table of the page is between `<!-- definitions NAME.. -->` and `<!-- end -->`: a row for each file, in reading order, with its line count in the
-second column, and a last row with the sum. A table has only what the tables before it lack.
+second column, and a last row with the sum. A table has only the definitions that the tables before it lack.
 
 --check exits with status 1 if a count is stale; if a table lacks a file or has one that adds nothing; if a README lacks a file of specs/; or if one
-of these promises is in no table of the page: each public function of a crates/*/src/laws.rt, each function of a public module whose contract cites
+of these promises is in no table of the page: each public function of a `crates/*/src/laws.rt`, each function of a public module whose contract cites
 definitions, each function in the table of claims of docs/verification.md, and each function that include/wat.h declares, which the page must also
 name.
 """
@@ -51,21 +51,21 @@ class Definition:
 class Module:
     definitions: dict = dataclasses.field(default_factory=dict)
     constructors: dict = dataclasses.field(default_factory=dict)
-    # names that a `use` brings, each with its module and its name there; those that others may take from here; and modules by another name
+    # imported names, each with its module and its name there; those that are re-exported; and modules by their local names
     names: dict = dataclasses.field(default_factory=dict)
     passed: dict = dataclasses.field(default_factory=dict)
     modules: dict = dataclasses.field(default_factory=dict)
 
 
 def file_of(module):
-    """The file of a module of specs/, none where it is a type of the code, or of Rattle's library."""
+    """Returns the file of a module of specs/, or `None` if it is a type of the code or a module of Rattle's library."""
     parts = module.split(".")
     file = CRATES / parts[1] / "specs" / ("/".join(parts[3:]) + ".antt") if parts[0] == "Rattle" and parts[2:3] == ["specs"] else None
     return file if file and file.is_file() else None
 
 
 def note_use(found, module):
-    """Notes what a `use` brings."""
+    """Records the names that a `use` imports."""
     if found["names"] is None:
         module.modules[found["alias"] or found["module"].split(".")[-1]] = found["module"]
         return
@@ -77,7 +77,7 @@ def note_use(found, module):
 
 
 def begun(line, path, module, comments):
-    """The definition that a line begins or goes on with."""
+    """Returns the definition that a line begins or continues."""
     words = line.split()
     marks = [it for it in words if it in MARKS]
     words = [it for it in words if it not in MARKS]
@@ -90,7 +90,7 @@ def begun(line, path, module, comments):
 
 
 def without_blocks(text):
-    """The lines of a file, those of an unnamed module as if they were outside it; each with whether it begins something."""
+    """Yields the lines of a file, with those of a nested `module` unindented as if they were outside of it."""
     deep = 0
     for line in text.splitlines():
         if line.strip() and len(line) - len(line.lstrip()) < 2 * deep:
@@ -102,7 +102,7 @@ def without_blocks(text):
 
 @functools.cache
 def read(path):
-    """A module of specs/ by its path, none where it has no file."""
+    """Parses a module of specs/ by its path. Returns `None` if it has no file."""
     file = file_of(path)
     if not file:
         return None
@@ -129,7 +129,7 @@ def read(path):
 
 
 def find(path, name):
-    """What a name of a module is: a definition of specs/, or else its path."""
+    """Returns the definition that a name of a module resolves to, or its path if it is outside of specs/. Exits with a message if there is none."""
     module = read(path)
     if not module:
         return f"{path}.{name}"
@@ -142,7 +142,7 @@ def find(path, name):
 
 
 def looked_up(words, module, path):
-    """What paths of names are: definitions of specs/, or else the paths of what is outside."""
+    """Yields what dotted names resolve to: definitions of specs/, or paths outside of them. Unknown names are skipped."""
     for word in words:
         first, *others = word.split(".")
         if others and first in module.modules:
@@ -157,7 +157,7 @@ def looked_up(words, module, path):
 
 
 def bound(definition, module):
-    """The names that a definition binds: arguments, fields, and what is in patterns."""
+    """Returns the names that a definition binds: its arguments and fields, and those in patterns."""
     text = "\n".join(definition.lines)
     groups = re.findall(r"λ ([^.]*)\.\s", text) + re.findall(r"[({]([^(){}:]*?) : ", text)
     groups += re.findall(r"let (\S+) =", text) + re.findall(r"[|\[] ([^|↦]*?) ↦", text)
@@ -171,7 +171,7 @@ def bound(definition, module):
 
 @functools.cache
 def named(definition):
-    """What a definition names."""
+    """Returns the definitions, and the paths outside of specs/, that a definition names."""
     module = read(definition.module)
     text = re.sub(r'"(?:\\.|[^"\\])*"', " ", "\n".join(definition.lines))
     text = re.sub(r"(?m)^( +(?:pub )?)\S+ :|(?<=[{;] )\S+ =(?= )|(?<=^  )\S+ =(?= )", " ", text)
@@ -181,7 +181,7 @@ def named(definition):
 
 
 def ghosts_of(tokens):
-    """What the ghost items of an impl or a trait are, each with its name and the tokens that say it."""
+    """Yields the name and the tokens of each ghost item of an impl or a trait."""
     depth, at = 0, 0
     while at < len(tokens):
         text = tokens[at].text
@@ -193,7 +193,7 @@ def ghosts_of(tokens):
 
 
 def cited(items, wanted, inside=None):
-    """The tokens of the contracts of public functions, or of those that are wanted, and of ghost items of traits and impls."""
+    """Yields the tokens of the contracts of public functions, or of those in `wanted`, and of the ghost items of traits and impls."""
     for item in items:
         if item.kind == "fn" and (item.name in wanted if wanted else item.public or inside):
             yield item.value
@@ -205,7 +205,7 @@ def cited(items, wanted, inside=None):
 
 
 def paths_of(tokens):
-    """The paths of names in clauses. The point that ends the arguments of a λ is part of none."""
+    """Returns the dotted names in clauses. The point that ends the arguments of a λ is not part of a name."""
     paths, joined, binds = [], False, False
     for token in tokens:
         if token.kind == "name" and joined:
@@ -219,7 +219,7 @@ def paths_of(tokens):
 
 @functools.cache
 def read_source(path):
-    """The items of a source, and what its ghost imports name."""
+    """Returns the items of a source, and the names that its ghost imports declare."""
     text = re.sub(r"#\[cfg\(test\)\]\s*mod \w+;", "", (ROOT / path).read_text(encoding="utf-8")).split("#[cfg(test)]")[0]
     module = Module()
     for use in re.findall(r"ghost (use [^;]*);", text):
@@ -228,14 +228,14 @@ def read_source(path):
 
 
 def cited_by(path, wanted):
-    """What the contracts of a source cite: of the functions that are wanted, or of all public ones."""
+    """Returns the definitions that the contracts of a source cite: those of the functions in `wanted`, or of all public ones."""
     items, module = read_source(path)
     return [it for tokens in cited(items, wanted) for it in looked_up(paths_of(tokens), module, "")]
 
 
 @functools.cache
 def of_source(name):
-    """What the contracts of a source, or of some of its functions, cite."""
+    """Returns the definitions that the contracts of a source, or of some of its functions, cite. Exits with a message if there are none."""
     path, _, wanted = name.partition(":")
     found = cited_by(path, set(filter(None, wanted.split(","))))
     if not found:
@@ -248,7 +248,7 @@ def of_name(name):
 
 
 def excluded(name):
-    """The definitions of a module, or the definition, that is not followed."""
+    """Returns the definitions that are not followed: those of a module, or a single definition."""
     module = read(name)
     return list(module.definitions.values()) if module else [find(*name.rsplit(".", 1))]
 
@@ -259,7 +259,7 @@ def all_of(names):
 
 @functools.cache
 def reached(names):
-    """All definitions that are below some names, in the order in which they are met, and the paths of what is outside specs/."""
+    """Returns all definitions reachable from some names, in the order in which they are met, and the paths outside of specs/."""
     ends = [end for it in names if it.startswith("-") for end in excluded(it[1:])]
     left = [found for it in names if not it.startswith("-") for found in of_name(it)]
     met = dict.fromkeys(ends)
@@ -299,7 +299,7 @@ def show(names):
 
 @functools.cache
 def added(tables):
-    """What the last of some tables adds to those before it: its definitions by file, and the last row of the table."""
+    """Returns what the last table adds to those before it: its definitions by file, its definitions as a list, and the table's last row."""
     if not tables:
         return {}, [], ""
     before = [it for n in range(1, len(tables)) for it in added(tables[:n])[1]]
@@ -312,7 +312,7 @@ def added(tables):
 
 
 def written(page):
-    """The page with its counts written again, and what is wrong with its files."""
+    """Returns the page with its counts updated, and the faults of its tables."""
     tables, faults = [], []
 
     def table(match):
@@ -332,7 +332,7 @@ def written(page):
 
 
 def unnamed():
-    """The files of specs/ with definitions that the README of their crate does not name, nor the folder that they are in."""
+    """Yields a fault for each file of specs/ with definitions if its crate's README names neither the file nor its folder."""
     for file in sorted(CRATES.glob("*/specs/**/*.antt")):
         crate = CRATES / file.relative_to(CRATES).parts[0]
         module = ".".join(("Rattle", crate.name, "specs", *file.relative_to(crate / "specs").with_suffix("").parts))
@@ -344,7 +344,7 @@ def unnamed():
 
 @functools.cache
 def functions_in(path):
-    """The public functions of a source."""
+    """Returns the names of the public functions of a source."""
     text = (ROOT / path).read_text(encoding="utf-8").split("#[cfg(test)]\nmod tests {")[0]
     items = items_of(tokens_of(text))
     inner = [it for item in items if item.kind == "impl" and not item.trait for it in items_of(item.body)]
@@ -353,7 +353,7 @@ def functions_in(path):
 
 @functools.cache
 def public_sources(crate):
-    """The sources of a crate's public modules, and of the private modules from which they export a name."""
+    """Returns the sources of a crate's public modules, and of the private modules from which they export a name."""
     left, found = [(CRATES / crate / "src/lib.rt", True)], []
     while left:
         file, is_public = left.pop()
@@ -369,14 +369,14 @@ def public_sources(crate):
 
 
 def theorems():
-    """The public functions of each laws.rt."""
+    """Yields the public functions of each `laws.rt`."""
     for file in sorted(CRATES.glob("*/src/laws.rt")):
         path = file.relative_to(ROOT).as_posix()
         yield from ((path, name) for name in functions_in(path))
 
 
 def public_functions():
-    """The public functions of each library whose contracts cite definitions."""
+    """Yields the public functions of each library whose contracts cite definitions."""
     for path in (path for file in sorted(CRATES.glob("*/src/lib.rt")) for path in public_sources(file.parent.parent.name)):
         yield from ((path, name) for name in functions_in(path) if cites(path, name))
 
@@ -388,12 +388,12 @@ def cites(path, name):
 
 @functools.cache
 def c_sources():
-    """The source of each function that the C library exports."""
+    """Returns the source of each function that the C library exports, by name."""
     return {name: file for file in sorted(C_SOURCES.glob("*.rt")) for name in re.findall(r'pub extern "C" fn (\w+)', file.read_text(encoding="utf-8"))}
 
 
 def exported_functions(header):
-    """The functions that the header declares, each with its source; those that it defines are not exported."""
+    """Yields the functions that the header declares, each after its source. Functions that the header defines are not exported."""
     sources = c_sources()
     for name in re.findall(r"^(?!static)[a-z].*?\b(wat_\w+)\(", header, re.M):
         yield sources[name].relative_to(ROOT).as_posix() if name in sources else f"{C_SOURCES.relative_to(ROOT)}/", name
@@ -401,13 +401,13 @@ def exported_functions(header):
 
 @functools.cache
 def sources_with(crate, name):
-    """The sources of a crate that have a function of this name."""
+    """Returns the sources of a crate that have a function of this name."""
     sources = sorted(file.relative_to(ROOT).as_posix() for file in (CRATES / crate / "src").rglob("*.rt"))
     return [path for path in sources if re.search(rf"\bfn {name}\b", (ROOT / path).read_text(encoding="utf-8"))]
 
 
 def claimed_functions(claims):
-    """The functions in the table of claims, each with the sources of its crate that have it."""
+    """Yields the functions in the table of claims, each with its crate and the sources that have it."""
     table = claims.partition("## Claims")[2].partition("\n## ")[0]
     for crate, functions in re.findall(r"^\| [^|]+ \| `(\w+)` \| ([^|]+) \|", table, re.M):
         for name in re.findall(r"`(?:\w+::)*(\w+)`", functions):
@@ -415,7 +415,7 @@ def claimed_functions(claims):
 
 
 def tabled(page):
-    """The sources of the page's tables, each with the functions that a table is about, or with all of them."""
+    """Returns the sources of the page's tables, each with the functions that a table covers, or with `*` for all of them."""
     found = {}
     for match in TABLE.finditer(page):
         for name in (it for it in match["names"].split() if ".rt" in it):
@@ -429,7 +429,7 @@ def is_tabled(found, path, name):
 
 
 def unpromised(page, claims, header):
-    """The promises that are in no table of the page."""
+    """Yields a fault for each promise that is in no table of the page."""
     found, text = tabled(page), re.sub(r"<!--.*?-->", "", page)
     where = f"is in no table of {PAGE.relative_to(ROOT)}"
     yield from (f"theorem {name} of {path} {where}" for path, name in theorems() if not is_tabled(found, path, name))

@@ -1,17 +1,17 @@
 #!/usr/bin/env python3
-"""Lists, checks and tries the wrong bodies of edits/CRATE.txt. docs/verification.md says what they are, the head of each table how a record is written.
+"""Lists, checks and tries the mutants of edits/CRATE.txt. docs/verification.md describes mutation testing, and the head of each table its records.
 
-  list        prints crate, name, functions, clause and input of each record, with tabs between them
-  check       checks that each record is complete, that its names are those of the sources, and that it can be applied; and, by
-              edits/constructors.txt, that each rule of the grammar and each kind of immediate has one that turns it
-  try         has the prover refuse each: first by a check of the functions of the record alone, and of those that they call; where
-              it takes these, by a check of the whole crate, since a function that only a caller's contract pins is refused there
-  self-test   shows that `check` finds faults that are put into a record, and into that table
+  list        prints crate, name, functions, clause and input of each record, separated by tabs
+  check       checks that each record is complete, that its names are those of the sources, and that it can be applied; and, with
+              edits/constructors.txt, that each rule of the grammar and each kind of immediate has a mutant that inverts it
+  try         has the prover check each mutant, which must be killed: first only the functions of the record and those that they call; if
+              they are proved, the whole crate, since a function that only a caller's contract pins is rejected there
+  self-test   shows that `check` reports faults seeded into a record and into that table
 
-A WORD is a crate, a record's name, CRATE/NAME, or the end of a function's path, as TableRef::look.
+A WORD is a crate, a record's name, CRATE/NAME, or the end of a function's path, such as `TableRef::look`.
 
-`try` takes the libraries below a crate from crates/NAME/out, where `rt ci` without names leaves them. The first edit of a crate takes it
-half a minute to one and a half, each further one half of that, as it keeps what they share.
+`try` uses the libraries that a crate depends on in crates/NAME/out, where `rt ci` without names leaves them. The first mutant of a crate takes half a
+minute to one and a half. Each later one takes half of that, as it reuses what they share.
 """
 import argparse
 import collections
@@ -33,7 +33,7 @@ ROOT = pathlib.Path(__file__).resolve().parent.parent
 KIT = pathlib.Path(os.path.realpath(shutil.which("rt") or "rt")).parent.parent
 PARTS = ("src", "specs", "proofs")
 TURNED = ROOT / "edits/constructors.txt"
-# The definitions whose data types have the rules of the grammar, and the enums of immediates, each with its file.
+# The files of the definitions whose data types are the rules of the grammar, and of the enums of immediates, by name.
 RULES = {
     "Grammar": "crates/wat_instructions/specs/Grammar.antt",
     "Fields": "crates/wat_fields/specs/Fields.antt",
@@ -56,12 +56,12 @@ ERROR = re.compile(r"\S+:\d+:\d+: error")
 
 
 class Fault(Exception):
-    """What is wrong with a record, or with what is asked for."""
+    """A fault of a record or of the command line."""
 
 
 @dataclasses.dataclass(frozen=True)
 class Record:
-    """One wrong body: the values of its keys, and its pairs of old and new text."""
+    """A mutant: the values of its keys, and its pairs of old and new text."""
 
     crate: str
     name: str
@@ -74,7 +74,7 @@ class Record:
     must_fail: bool
 
     def entries(self):
-        """What is edited: for each, whether it is no function and of what kind, and its path."""
+        """Returns the kind and the path of each edited item. The kind of a function is `None`."""
         return [ENTRY.fullmatch(it).group("kind", "path") for it in self.fn.split(", ")]
 
     def source(self):
@@ -84,15 +84,15 @@ class Record:
         return ROOT / "crates" / self.crate / "must-fail" / f"{self.name}.edit"
 
     def edit(self):
-        """The record as the kit reads it."""
+        """Returns the record in the format of the toolchain."""
         return f"file: {self.file}\n" + "".join(f"old: {old}\nnew: {new}\n" for old, new in self.pairs)
 
 
-# Reading
+# Parsing
 
 
 def record_of(crate, lines):
-    """The record in these lines."""
+    """Parses a record. Raises `Fault` if its keys are not complete and in order, or if a value is empty."""
     pairs = [(key, value.removeprefix(" ")) for key, _, value in (line.partition(":") for line in lines)]
     keys, values = " ".join(key for key, _ in pairs), dict(pairs)
     if not ORDER.fullmatch(keys):
@@ -107,7 +107,7 @@ def record_of(crate, lines):
 
 
 def records_of(crate, text):
-    """The records of a table: stretches of lines between empty ones; a line with a # is a comment."""
+    """Parses the records of a table, which are separated by empty lines. A line that begins with `#` is a comment."""
     lines = [line for line in text.splitlines() if not line.startswith("#")]
     return [record_of(crate, list(part)) for some, part in itertools.groupby(lines, bool) if some]
 
@@ -121,7 +121,7 @@ def all_records():
 
 
 def fits(record, word):
-    """Whether a word that names no crate means this record."""
+    """Returns `True` if a word that is not a crate selects this record."""
     named = word in (record.name, f"{record.crate}/{record.name}")
     return named or any(path == word or path.endswith(f"::{word}") for _, path in record.entries())
 
@@ -142,7 +142,7 @@ def chosen_by(words):
 
 
 def applied(record):
-    """The text of the record's file with its pairs in place."""
+    """Returns the text of the record's file with its pairs applied. Raises `Fault` if an old text does not occur exactly once, or is the new one."""
     text = record.source().read_text(encoding="utf-8")
     for old, new in record.pairs:
         found = text.count(old)
@@ -155,13 +155,13 @@ def applied(record):
 
 
 def item_at(text, at):
-    """The name of the nearest item that begins in the line of a place, or above it."""
+    """Returns the name of the nearest item that begins in the line of an offset or above it, or `None`."""
     lines = text[:at].splitlines() + [text[at:].partition("\n")[0]]
     return next((found[1] for found in map(ITEM.match, reversed(lines)) if found), None)
 
 
 def check_functions(record):
-    """That the record's functions are declared in its file, and one of them is what its first pair, or a further one, changes."""
+    """Checks that the record's file declares its functions, and that one of its pairs changes one of them. Raises `Fault` otherwise."""
     text = record.source().read_text(encoding="utf-8")
     names = [path.rpartition("::")[2] for kind, path in record.entries() if kind != "definition"]
     missing = [it for it in names if not re.search(rf"\b(fn|const|struct|enum|macro_rules!) {it}\b", text)]
@@ -173,7 +173,7 @@ def check_functions(record):
 
 
 def clauses():
-    """For each function, type and trait the clauses in the files that declare one of this name; one without a name is `the clause`."""
+    """Returns for each function, type and trait the clauses in the files that declare one of this name. An unnamed clause is `the clause`."""
     found = collections.defaultdict(set)
     for path in ROOT.glob("crates/*/src/**/*.rt"):
         text = path.read_text(encoding="utf-8")
@@ -184,7 +184,7 @@ def clauses():
 
 
 def check_clauses(record, stated):
-    """That each clause it names is in a file that declares the function."""
+    """Checks that each clause of the record is in a file that declares its function. Raises `Fault` otherwise."""
     for part in record.clause.split("; "):
         found = CLAUSE.fullmatch(part)
         if not found:
@@ -207,7 +207,7 @@ def check_record(record, stated):
 
 
 def faults_of(records):
-    """What is wrong with records that can be read."""
+    """Returns the faults of parsed records."""
     stated = clauses()
     names = collections.Counter(f"{it.crate}/{it.name}" for it in records)
     faults = [f"{name}: two records have this name" for name, count in names.items() if count > 1]
@@ -221,7 +221,7 @@ def faults_of(records):
 
 
 def rules_of(text):
-    """The constructors `by_..` of each data type of these definitions, in their order, as TYPE.RULE."""
+    """Returns the constructors `by_..` of the data types in these definitions, in order, as TYPE.RULE."""
     of, rules = "", []
     for data, rule in RULE.findall(text):
         of = data or of
@@ -230,7 +230,7 @@ def rules_of(text):
 
 
 def kinds_of(enum, text):
-    """The variants of an enum in their order, none where it is not there."""
+    """Returns the variants of an enum in order, or an empty list if the text has no such enum."""
     found = re.search(rf"\benum {enum} \{{\n(.*?)\n\}}", text, re.DOTALL)
     return VARIANT.findall(found[1]) if found else []
 
@@ -240,13 +240,13 @@ def read(path):
 
 
 def constructors(text_of):
-    """What has to have a record that turns it: the rules of the grammar, and the kinds of immediates, where files have these texts."""
+    """Returns what must have a mutant that inverts it: the rules of the grammar and the kinds of immediates. `text_of` returns the text of a file."""
     rules = [f"{name}.{rule}" for name, path in RULES.items() for rule in rules_of(text_of(path))]
     return rules + [f"{name}.{kind}" for name, path in KINDS.items() for kind in kinds_of(name, text_of(path))]
 
 
 def turned_faults(text, wanted, names):
-    """What is wrong with the table of what records turn, where these constructors are there, and records of these names."""
+    """Returns the faults of edits/constructors.txt, given its text, the constructors that it must list, and the names of all records."""
     lines = [line for line in text.splitlines() if line and not line.startswith("#")]
     rows = [line.partition("\t")[::2] for line in lines]
     faults = [f"{line}: it is there twice" for line, count in collections.Counter(lines).items() if count > 1]
@@ -276,14 +276,14 @@ def check(_asked):
 
 
 def only(record):
-    """The functions and types to check, else the modules of what else is edited; nothing where the whole crate has to be checked."""
+    """Returns the functions and types to check, otherwise the modules of the edited constants and macros; an empty list for the whole crate."""
     entries = record.entries()
     modules = {path.rpartition("::")[0] for kind, path in entries if kind in ("constant", "macro")}
     return [path for kind, path in entries if kind in (None, "type")] or sorted(modules - {""})
 
 
 def libraries(crate):
-    """The words by which a check of the crate finds the libraries below it, and whether it is a static library."""
+    """Returns the arguments with which a check of the crate finds its libraries, and its crate type. Raises `Fault` if a library is missing."""
     lines = {}
     for line in (ROOT / "crates.txt").read_text(encoding="utf-8").splitlines():
         name, colon, below = line.partition(":")
@@ -300,7 +300,10 @@ def libraries(crate):
 
 
 def prove(record, paths, kept):
-    """What a check says of a copy of the crate with the record's edit, over what earlier ones kept: of these functions, or of all."""
+    """Checks the functions of these paths, or all if there are none, in a copy of the crate with the mutant, reusing the results in `kept`.
+
+    Returns the exit status and the output.
+    """
     with tempfile.TemporaryDirectory(prefix="edits-") as room:
         for part in PARTS:
             if (record.source().parents[len(pathlib.Path(record.file).parts) - 1] / part).is_dir():
@@ -317,7 +320,7 @@ def prove(record, paths, kept):
 
 
 def tried(record, kept):
-    """What became of an edit, and what was said of it."""
+    """Returns the outcome of a mutant, and the message of the prover."""
     for paths in [only(record), []] if only(record) else [[]]:
         status, said = prove(record, paths, kept)
         if paths and LOST.search(said):
@@ -333,7 +336,7 @@ def tried(record, kept):
 
 
 def lane(records):
-    """Tries records of one crate one after another, over what the ones before kept; answers how many were not refused."""
+    """Tries the mutants of one crate in turn, each reusing the results of those before it. Returns the number of mutants that were not killed."""
     bad = 0
     with tempfile.TemporaryDirectory(prefix="edits-kept-") as kept:
         for record in records:
@@ -345,7 +348,7 @@ def lane(records):
 
 
 def in_lanes(records, lanes):
-    """Tries them in so many lanes, each crate's in as many as give every lane its share."""
+    """Tries mutants in parallel lanes, among which those of large crates are split evenly. Returns 1 if a mutant was not killed, otherwise 0."""
     crates = collections.defaultdict(list)
     for record in records:
         crates[record.crate].append(record)
@@ -358,7 +361,7 @@ def in_lanes(records, lanes):
 
 
 def by_kit(records):
-    """Tries them by `rt must-fail`, which says more of each and takes longer. They are in crates/NAME/must-fail for that time alone."""
+    """Tries mutants with `rt must-fail`, which reports more and takes longer. Their files are in crates/NAME/must-fail only during that time."""
     signal.signal(signal.SIGTERM, lambda *_: sys.exit(143))
     files = [it.must_fail_file() for it in records if not it.must_fail]
     made = sorted({it.parent for it in files if not it.parent.is_dir()})
@@ -376,7 +379,7 @@ def by_kit(records):
 
 
 def sample(number, seed):
-    """So many records of one crate, which the seed chooses, a crate with more records more often; each has its turn as seeds change."""
+    """Returns at most `number` mutants of one crate. The seed chooses them; a crate with more mutants is chosen more often."""
     hashes = {it: hashlib.sha256(f"{seed} {it.crate}/{it.name}".encode()).hexdigest() for it in all_records()}
     records = sorted(hashes, key=hashes.get)
     return [it for it in records if it.crate == records[0].crate][:number]
@@ -387,7 +390,7 @@ def git(*words):
 
 
 def changed(base):
-    """The records that are new or changed since a commit, or whose file is."""
+    """Returns the mutants that are new or changed since a commit, or whose file is. Raises `Fault` if `base` is not a commit."""
     if not git("rev-parse", "--verify", f"{base}^{{commit}}"):
         raise Fault(f"{base} is no commit")
     files = git("diff", "--name-only", "-M100%", "--diff-filter=AMT", base, "--") + git("ls-files", "--others", "--exclude-standard")
@@ -415,7 +418,7 @@ def list_them(asked):
     return 0
 
 
-# Of this tool
+# Self-test
 
 WRONG = {
     "a key is missing": (r"breaks: .*", "# breaks", "its keys are not in order"),
@@ -428,7 +431,7 @@ WRONG = {
     "a clause is not there": (r"clause: .*", "clause: no_such of {fn}", "no source has this clause"),
     "the file is not there": (r"file: .*", "file: src/no_such.rt", "is no source"),
 }
-# Of the first row of the table of what records turn, or of the sources beside it: the file, what is put in the place of what, and what is said.
+# Faults of the first row of edits/constructors.txt, or of the sources: the file, a pattern, its replacement, and the message that reports the fault.
 WRONG_TURNED = {
     "a row is left out": (TURNED, r"(?m)^Grammar\.Instructions\.by_none\t.*\n", "", "no record turns it"),
     "a row has no record": (TURNED, r"(?m)^(\w.*\t).*", r"\1", "no record is said"),
@@ -441,7 +444,7 @@ WRONG_TURNED = {
 
 
 def missed_in_record():
-    """Which faults of WRONG are not found in a record of a plain function, the first that there is."""
+    """Returns the faults of `WRONG` that are not reported when seeded into the first record of a plain function."""
     record = next(it for it in all_records() if it.entries()[0][0] is None)
     text = next(part for part in tables()[record.crate].split("\n\n") if part.startswith(f"name: {record.name}\n"))
     name = record.entries()[0][1].rpartition("::")[2]
@@ -458,7 +461,7 @@ def missed_in_record():
 
 
 def missed_in_table():
-    """Which faults of WRONG_TURNED are not found."""
+    """Returns the faults of `WRONG_TURNED` that are not reported."""
     names = {f"{it.crate}/{it.name}" for it in all_records()}
     missed = []
     for what, (file, old, new, wanted) in WRONG_TURNED.items():
@@ -471,7 +474,7 @@ def missed_in_table():
 
 
 def self_test(_asked):
-    """Whether each fault is found that is put into a record, or into the table of what records turn."""
+    """Checks that each fault seeded into a record, edits/constructors.txt or the sources is reported. Returns 1 if one is not, otherwise 0."""
     missed, planted = missed_in_record() + missed_in_table(), len(WRONG) + len(WRONG_TURNED)
     print("\n".join([*missed, f"edits.py: {planted - len(missed)} of {planted} faults were found"]))
     return 1 if missed else 0

@@ -1,7 +1,7 @@
 #!/usr/bin/env python3
-"""The layout of crates/wat_format/specs/Layout.antt once more, over a lexer of its own, for comparison with the crate.
+"""Formats a source text as crates/wat_format/specs/Layout.antt specifies: a second implementation, with its own lexer, for comparison with the crate.
 
-tools/layout.py < TEXT writes the text laid out, and ends with status 1 where the text has a lexical fault.
+`tools/layout.py < TEXT` writes the formatted text, and exits with status 1 if the text has a lexical error.
 """
 import re
 import sys
@@ -19,11 +19,11 @@ BLOCK_WORDS.update({"end": "ends", "delegate": "ends", "else": "parts", "catch":
 
 
 class Fault(Exception):
-    """The text has a lexical fault."""
+    """A lexical error of the text."""
 
 
 def string_end(text, at):
-    """The place after a string whose quote is at a place."""
+    """Returns the index after the string whose opening quote is at `at`. Raises `Fault` if the string is invalid or not terminated."""
     at += 1
     while at < len(text) and text[at] != '"':
         element = ELEMENT.match(text, at)
@@ -41,7 +41,7 @@ def string_end(text, at):
 
 
 def block_comment_end(text, at):
-    """The place after a block comment that begins at a place."""
+    """Returns the index after the block comment that begins at `at`. Raises `Fault` if it is not terminated."""
     depth = 0
     while True:
         if text.startswith("(;", at):
@@ -57,7 +57,7 @@ def block_comment_end(text, at):
 
 
 def run_end(text, at):
-    """The place after idchars and strings."""
+    """Returns the index after a run of idchars and strings."""
     while at < len(text):
         word = IDCHARS.match(text, at)
         if word is not None:
@@ -70,7 +70,7 @@ def run_end(text, at):
 
 
 def raw_tokens(text):
-    """The raw tokens of a text, each as what it is and its text."""
+    """Returns the raw tokens of a text, each as its kind and its text. Raises `Fault` at a lexical error."""
     at, tokens = 0, []
     while at < len(text):
         start, first = at, text[at]
@@ -99,7 +99,7 @@ def raw_tokens(text):
 
 
 def gap_of(white):
-    """What white space between two tokens is: nothing, so many blanks, a line end, or an empty line."""
+    """Classifies whitespace between two tokens: its length in characters if it has no line end, `end` for one line end, `empty` for more."""
     ends = len(re.findall(r"\r\n|\r|\n", white))
     if ends > 1:
         return "empty"
@@ -107,7 +107,7 @@ def gap_of(white):
 
 
 def settled(before, kind, gap):
-    """The gap that is written between two tokens."""
+    """Returns the gap that is written between two tokens, given the kinds of both and the gap of the input."""
     is_break = gap in ("end", "empty")
     kept = 0 if gap == 0 else 1
     if before == "comment":
@@ -124,7 +124,7 @@ def settled(before, kind, gap):
 
 
 def layout(text):
-    """The text laid out."""
+    """Returns the formatted text. Raises `Fault` at a lexical error."""
     out, before, white = [], None, ""
     line, floor, blocks, around = 0, 0, 0, []
     for kind, word in raw_tokens(text):
@@ -158,7 +158,7 @@ def layout(text):
 
 
 def main():
-    """Lays out standard input."""
+    """Formats standard input."""
     text = sys.stdin.buffer.read().decode()
     try:
         sys.stdout.buffer.write(layout(text).encode())

@@ -1,14 +1,14 @@
 #!/usr/bin/env python3
-"""Writes the files of crates/wat_sums, and the laws of the words of readings, into docs/A-TYPE-OF-ONES-OWN.md, and lines of the examples
-from C and Rust into README.md and the README of wat-c.
+"""Writes the files of crates/wat_sums and the lemmas about readings into docs/A-TYPE-OF-ONES-OWN.md, and lines of the examples for C and Rust into
+README.md and the README of wat-c.
 
 usage: tools/make_quick_start.py [--check | --self-test]
 
-A file, or some lines of it, goes between `<!-- file PATH [FIRST-LAST] -->` and `<!-- end -->`, and all files of a folder that are not empty,
-each after its name, between `<!-- files FOLDER -->` and `<!-- end -->`. Between `<!-- laws -->` and `<!-- end -->` is a table of words, each with
-what it reads; its last column is the law that the specs have of the word. With --check nothing is written, and the status is 1 where a
-page differs from the files. It is also 1 where the table lacks a word that has a law, and where a file of the crate is neither shown whole nor linked.
---self-test shows that each file of the crate is missed where its part or link is taken out of the page, or its part shows only some of its lines.
+A file, or some lines of it, is written between `<!-- file PATH [FIRST-LAST] -->` and `<!-- end -->`, and all files of a folder that are not empty,
+each after its name, between `<!-- files FOLDER -->` and `<!-- end -->`. Between `<!-- laws -->` and `<!-- end -->` is a table of readings, each with
+the input that it parses; its last column is the lemma about the reading in the specs. With --check nothing is written, and the exit status is 1 if a
+page differs from the files. It is also 1 if the table lacks a reading that has a lemma, or if a file of the crate is neither included as a whole nor
+linked. --self-test checks that each file of the crate is reported if its part or its link is removed from the page, or if its part is cut.
 """
 import pathlib
 import re
@@ -26,7 +26,7 @@ LANGUAGES = {".rt": "rust", ".rs": "rust", ".c": "c", ".antt": "", ".edit": ""}
 
 
 def fenced(path, first=None, last=None):
-    """The file as a block of Markdown, or its lines from one to another."""
+    """Returns the file, or the lines from `first` to `last`, as a code block of Markdown."""
     lines = (ROOT / path).read_text().rstrip().split("\n")
     part = lines[int(first) - 1 : int(last)] if first else lines
     text = textwrap.dedent("\n".join(part))
@@ -34,19 +34,19 @@ def fenced(path, first=None, last=None):
 
 
 def files_of(path):
-    """All files of a folder that are not empty, by their names below the root, but its README and what was built."""
+    """Returns all files of a folder that are not empty, by their paths from the root, except its README and the build output."""
     files = sorted(file.relative_to(ROOT) for file in (ROOT / path).rglob("*") if file.is_file() and file.stat().st_size)
     return [file for file in files if "out" not in file.parts and file.name != "README.md" and (ROOT / file).read_text().strip()]
 
 
 def folder(path):
-    """All files of a folder, each after its name."""
+    """Returns all files of a folder as code blocks, each after its name."""
     named = ((file.relative_to(path).as_posix(), file) for file in files_of(path))
     return "\n".join(f"`{pathlib.Path(path).name}/{name}`:\n\n{fenced(file)}" for name, file in named)
 
 
 def shown_whole(text):
-    """The files that a page shows whole."""
+    """Returns the files that a page includes as a whole."""
     shown = set()
     for match in PART.finditer(text):
         if match["folder"]:
@@ -57,13 +57,13 @@ def shown_whole(text):
 
 
 def missed(text):
-    """The files of the crate that its page neither shows whole nor links."""
+    """Returns the files of the crate that its page neither includes as a whole nor links."""
     linked = {str(file) for file in files_of(CRATE) if f"](../{file})" in text}
     return sorted({str(file) for file in files_of(CRATE)} - shown_whole(text) - linked)
 
 
 def self_test():
-    """Takes each part of the crate out of its page, and shows only the first line of each file."""
+    """Checks that a file is reported as missing if its part or its link is removed from the page, or if its part has only its first line."""
     page = (ROOT / ITS_PAGE).read_text()
     parts = [match for match in PART.finditer(page) if str(match["path"] or match["folder"]).startswith(CRATE + "/") and not match["first"]]
     links = [str(file) for file in files_of(CRATE) if f"](../{file})" in page]
@@ -80,12 +80,12 @@ def self_test():
 
 
 def laws():
-    """The law of each word that has one."""
+    """Returns the name of the lemma about each reading that has one, by the name of the reading."""
     return {law["word"]: law["name"] for path in sorted(LAWS.glob("*.antt")) for law in LAW.finditer(path.read_text())}
 
 
 def row(line, found):
-    """A row of the table with the law of its word."""
+    """Returns a row of the table with the lemma about its reading."""
     cells = ROW.match(line)
     if not cells:
         sys.exit(f"make_quick_start.py: no row of the table: {line}")
@@ -94,7 +94,7 @@ def row(line, found):
 
 
 def table(body):
-    """The table of words, with the law that the specs have of each."""
+    """Returns the table of readings with their lemmas. Exits with a message if the table lacks a reading that has a lemma."""
     head, lines = body.splitlines(keepends=True)[:2], body.splitlines()[2:]
     found = laws()
     missing = found.keys() - {ROW.match(line)["word"] for line in lines if ROW.match(line)}
@@ -104,7 +104,7 @@ def table(body):
 
 
 def part(match):
-    """A marked part of the page, with what is in it now."""
+    """Returns a marked part of the page with its current contents."""
     start = match[0].split("\n", 1)[0]
     if match["path"]:
         body = fenced(match["path"], match["first"], match["last"])

@@ -1,6 +1,6 @@
-"""The tokens of a Rattle source, and the public items that they declare: for the scripts that check sources.
+"""The tokens of a Rattle source and the items that it declares, for the scripts that check sources.
 
-Comments are left out. A string, a character or a name is one token, and a contract is the tokens between its braces.
+Comments are skipped. A string, a character or a name is one token. A contract is kept as the tokens of its clauses.
 """
 import dataclasses
 import functools
@@ -34,7 +34,7 @@ class Token:
 
 
 def past_comment(text, at):
-    """Where a block comment ends that begins here; such comments nest."""
+    """Returns the index after the block comment that begins at `at`. Block comments nest."""
     depth = 0
     for mark in re.compile(r"/\*|\*/").finditer(text, at):
         depth += 1 if mark[0] == "/*" else -1
@@ -45,7 +45,7 @@ def past_comment(text, at):
 
 @functools.cache
 def tokens_of(text):
-    """The tokens of a source."""
+    """Returns the tokens of a source, without whitespace and comments."""
     tokens, at, line = [], 0, 1
     while at < len(text):
         match = PATTERN.match(text, at)
@@ -59,7 +59,7 @@ def tokens_of(text):
 
 
 def past_group(tokens, at):
-    """The place after the bracket that closes the one at this place."""
+    """Returns the index after the bracket that closes the one at `at`."""
     depth = 0
     for i in range(at, len(tokens)):
         if tokens[i].kind == "sign":
@@ -70,7 +70,7 @@ def past_group(tokens, at):
 
 
 def past_angles(tokens, at):
-    """The place after the `>` that closes the `<` at this place."""
+    """Returns the index after the `>` that closes the `<` at `at`."""
     depth = 0
     i = at
     while i < len(tokens):
@@ -86,7 +86,7 @@ def past_angles(tokens, at):
 
 
 def split_at(tokens, sign):
-    """The stretches between the commas, or another sign, that stand in no bracket."""
+    """Returns the runs of tokens between the signs, such as commas, that are outside of brackets."""
     parts, part, i = [], [], 0
     while i < len(tokens):
         text = tokens[i].text
@@ -100,7 +100,7 @@ def split_at(tokens, sign):
 
 
 def written(tokens):
-    """Tokens as one line, with a blank where two words would join."""
+    """Returns the tokens as one line, with a blank between two words that would join."""
     line = ""
     for token in tokens:
         joins = line and (line[-1].isalnum() or line[-1] == "_") and (token.text[0].isalnum() or token.text[0] in "_'")
@@ -110,7 +110,7 @@ def written(tokens):
 
 @dataclasses.dataclass
 class Item:
-    """What a source declares: its kind, its name, whether others see it, and the tokens that say what it is."""
+    """An item that a source declares: its kind, its name, whether it is public, and its tokens."""
 
     kind: str
     name: str
@@ -118,13 +118,14 @@ class Item:
     line: int
     derives: set = dataclasses.field(default_factory=set)
     generics: list = dataclasses.field(default_factory=list)
-    # of a function: its parameters and its answer; of a type: its fields or variants; of an alias or a constant: what it is
+    # of a function: its parameters, return type, contract (`value`) and body; of a type: its fields or variants (`body`); of an alias: its `value`;
+    # of a constant: its type (`answer`) and its `value`; of a `use`: its path (`head`)
     head: list = dataclasses.field(default_factory=list)
     answer: list = dataclasses.field(default_factory=list)
     value: list = dataclasses.field(default_factory=list)
     bounds: list = dataclasses.field(default_factory=list)
     body: list = dataclasses.field(default_factory=list)
-    # of an `impl`: the trait, none where it has none
+    # of an `impl`: its trait, empty if it has none
     trait: list = dataclasses.field(default_factory=list)
     attributes: list = dataclasses.field(default_factory=list)
     is_test: bool = False
@@ -135,13 +136,13 @@ CONTRACT = {"requires", "ensures"}
 
 
 def derives_of(attribute):
-    """The traits of a `derive`, which `attribute` is or is not."""
+    """Returns the traits of an attribute that is a `derive`, otherwise the empty set."""
     names = [it.text for it in attribute]
     return set(it.text for it in attribute[4:] if it.kind == "name") if names[2:4] == ["derive", "("] else set()
 
 
 def past_head(tokens, at, ends):
-    """The place of the first of some words or signs that is in no bracket."""
+    """Returns the index of the first token in `ends` outside of brackets, or the number of tokens if there is none."""
     while at < len(tokens) and tokens[at].text not in ends:
         text = tokens[at].text
         at = past_group(tokens, at) if text in OPEN else past_angles(tokens, at) if text == "<" else at + 1
@@ -149,7 +150,7 @@ def past_head(tokens, at, ends):
 
 
 def past_contract(tokens, at):
-    """The place after the bounds of a `where` and the clauses of a contract, which begin here."""
+    """Returns the index after the `where` bounds and the clauses of a contract that begin at `at`."""
     while at < len(tokens) and tokens[at].text in CONTRACT | {"where"}:
         if tokens[at].text == "where":
             at = past_head(tokens, at + 1, CONTRACT | {"{", ";"})
@@ -160,7 +161,7 @@ def past_contract(tokens, at):
 
 
 def generics_at(tokens, at):
-    """The generics that stand at a place, and the place after them."""
+    """Returns the generics that begin at `at`, without their angle brackets, and the index after them."""
     if at < len(tokens) and tokens[at].text == "<":
         end = past_angles(tokens, at)
         return tokens[at + 1 : end - 1], end
@@ -195,7 +196,7 @@ def read_type(tokens, at, item):
 
 
 def read_block(tokens, at, item):
-    """A trait or an `impl`, whose head goes up to its block."""
+    """Parses a trait or an `impl` into `item`, and returns the index after its block."""
     item.generics, at = generics_at(tokens, at) if item.kind == "impl" else ([], at)
     if item.kind == "trait":
         item.name = tokens[at].text
@@ -216,7 +217,7 @@ def read_block(tokens, at, item):
 
 
 def read_stated(tokens, at, item):
-    """A constant, a static or an alias, up to its semicolon."""
+    """Parses a constant, a static or an alias into `item`, and returns the index after its semicolon."""
     item.name = tokens[at].text
     item.generics, at = generics_at(tokens, at + 1)
     end = past_head(tokens, at, {"=", ";"})
@@ -227,7 +228,7 @@ def read_stated(tokens, at, item):
 
 
 def read_item(tokens, at, item):
-    """Reads the item whose keyword is before this place, and answers the place after it."""
+    """Parses the item whose keyword is before `at` into `item`, and returns the index after it."""
     if item.kind == "fn":
         return read_fn(tokens, at, item)
     if item.kind in ("struct", "enum", "union"):
@@ -254,7 +255,7 @@ def read_item(tokens, at, item):
 
 
 def items_of(tokens):
-    """The items that stand in no other one's block."""
+    """Returns the items that are not nested in a block of another item."""
     items, at = [], 0
     attributes, public = [], False
     while at < len(tokens):
@@ -283,7 +284,7 @@ def items_of(tokens):
             items.append(item)
             attributes, public = [], False
         else:
-            # a part of a macro's call, or a block of foreign items
+            # part of a macro call, or a block of foreign items
             end = past_group(tokens, at) if text in OPEN else at + 1
             items.append(Item("other", "", public, tokens[at].line, body=tokens[at:end]))
             at = end
@@ -292,7 +293,7 @@ def items_of(tokens):
 
 
 def uses_of(tokens):
-    """The names that a `use` brings, each with its path as a list of words; a star means all names."""
+    """Returns the names that a `use` declares, each with its path as a list of words. A `*` stands for all names."""
     def walk(tokens, front):
         for part in split_at(tokens, ","):
             words = [it.text for it in part]

@@ -15,7 +15,7 @@ import sys
 
 ROOT = pathlib.Path(__file__).resolve().parent.parent
 README = "docs/RELEASE.md"
-# Files whose path in the release is another one than in the repository, as a pattern; none for a file that the release does not have.
+# Patterns of the paths in the release of files that have a different path in the repository, empty for a file that the release does not have.
 MOVED = {README: "README.md", "README.md": "", "include/wat.h": "c/*/include/wat.h", "tools/c/identifiers.c": "c/identifiers.c"}
 GUIDES = ["COMMAND-LINE", "FORMAT", "FROM-C-AND-RUST", "PAGE", "DIFFERENCES", "ERASURE", "MEMORY"]
 IMAGES = ["page-light.png", "page-dark.png"]
@@ -38,7 +38,7 @@ def anchors(text):
 
 
 def in_release(dist, path):
-    """Returns where the release has a file of the repository, or `None` if it does not have it."""
+    """Returns the path in the release of a file of the repository, or `None` if the release does not have it."""
     if not path.is_relative_to(ROOT) or path.is_dir():
         return None
     name = path.relative_to(ROOT).as_posix()
@@ -61,13 +61,13 @@ def relink(dist, source, target, text):
 
 
 def weight(path):
-    """Returns the bytes of a file, or of all files of a folder."""
+    """Returns the size in bytes of a file, or of all files of a folder."""
     files = path.rglob("*") if path.is_dir() else [path]
     return sum(file.stat().st_size for file in files if file.is_file() and not file.is_symlink())
 
 
 def sizes(dist):
-    """Returns a table of the sizes of what a user takes from the release."""
+    """Returns a table of the sizes of the files and folders that a user downloads."""
     patterns = ["crates/*.crate", "rust/vendor", "bin/*/*", "c/*/lib/libwat.a", "c/*/lib/libwat.so.*", "npm/*", "page/*"]
     files = [file for pattern in patterns for file in sorted(dist.glob(pattern))]
     rows = "".join(f"| `{file.relative_to(dist)}` | {weight(file):,} |\n" for file in files)

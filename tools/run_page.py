@@ -1,12 +1,12 @@
 #!/usr/bin/env python3
-"""Runs the commands of a page in the current folder, in their order, and compares what they print.
+"""Runs the commands of a page in the current folder, in order, and compares what they print.
 
 usage: tools/run_page.py [--section HEADING] [--without FILE] PAGE
 
 Each code block `sh` is a script for bash. Its standard output must be the block `text` after it, if there is one, and its status must be 0. A block
 after the line `<!-- as FILE -->` is written to that file. A block after the line `<!-- needs NAME.. -->` is skipped unless each name is a command
-on the path or a file. `--section` runs the blocks of one section, `--without` does not write FILE. Each block starts in the current folder. The status
-is 1 if a command fails or prints something else, or if no command ran.
+on the path or a file. `--section` runs the blocks of one section, `--without` does not write FILE. Each block starts in the current folder. The exit
+status is 1 if a command fails or prints something else, or if no command ran.
 """
 import argparse
 import os
@@ -41,7 +41,7 @@ def save(name, body):
 
 
 def output(script):
-    """Runs a script. Returns its status and what it printed, or ends all its processes and returns `None` if it takes too long."""
+    """Runs a script and returns its status, standard output and standard error. After `LIMIT` seconds, kills its processes and returns `None`."""
     command = ["bash", "-euo", "pipefail", "-c", script]
     begun = subprocess.Popen(command, stdin=subprocess.DEVNULL, stdout=subprocess.PIPE, stderr=subprocess.PIPE, text=True, process_group=0)
     try:
@@ -69,7 +69,7 @@ def run(script, wanted):
 
 
 def results(text, without):
-    """Yields the result of each command: whether it was right, or `None` if it was skipped."""
+    """Yields the result of each command: `True` if it was as wanted, `False` if it was not, `None` if it was skipped."""
     blocks = list(BLOCK.finditer(text))
     for block, after in zip(blocks, blocks[1:] + [None]):
         lacking = missing(block["names"].split()) if block["note"] == "needs" else []

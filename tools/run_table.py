@@ -1,5 +1,6 @@
 #!/usr/bin/env python3
-"""Runs tests/runs.txt over a program: status, standard output and standard error are as it says, and the files stay.
+"""Runs the golden tests of tests/runs.txt on a program: the exit status, standard output and standard error must be as recorded, and the input files
+must not change.
 
 usage: tools/run_table.py PROGRAM
        tools/run_table.py --try     by `rt try --cases`, unproved, over crates/wat_tokens: standard output alone
@@ -26,7 +27,7 @@ def bytes_of(text):
 
 
 class Record:
-    """Runs that come to the same: their words, standard input, and what they come to."""
+    """Runs with the same result: their arguments, their standard input, and the result."""
 
     def __init__(self, paragraph):
         lines = [line.partition(" ")[::2] for line in paragraph.splitlines()]
@@ -38,7 +39,7 @@ class Record:
 
 
 def table():
-    """The files that each run finds, and the records."""
+    """Returns the input files of the runs, and the records."""
     text = (ROOT / "tests/runs.txt").read_text(encoding="utf-8")
     records = [Record(it) for it in text.split("\n\n")]
     files = {name: data for it in records for name, data in it.files.items()}
@@ -51,7 +52,7 @@ def write(folder, files):
 
 
 def faults(program, folder):
-    """The words of each run, and what is wrong with it."""
+    """Yields the arguments of each run and its fault or `None`, and last the fault of changed files or `None`."""
     files, records = table()
     write(folder, files)
     for record in records:

@@ -1,13 +1,13 @@
 #!/usr/bin/env python3
-"""Runs the test cases of tests/answers.txt and tests/requests.txt with the Rattle toolchain alone, unproved: `rt try` compiles the program in
+"""Runs the test cases of `tests/answers.txt` and `tests/requests.txt` with the Rattle toolchain alone, unproved: `rt try` compiles the program in
 tests/by_rattle, in a temporary repository, and runs it.
 
-A call of a parser runs over both kinds of its buffer. The call of requests.txt with the most allocations of its kind, or each with --every, runs once
-more to count its allocations, and once for each of them, which then fails: the call must return the result of the table or the allocation failure.
-In a further run the last allocation before the call fails, so that the count is that of the call alone. Test cases that cannot run here are
+A call of a parser runs over both kinds of its buffer. The call of `requests.txt` with the most allocations of its kind, or each with --every, runs
+once more to count its allocations, and once for each of them, which then fails: the call must return the result of the table or the allocation
+failure. In a further run the last allocation before the call fails, so that the count is that of the call alone. Test cases that cannot run here are
 reported, and the check fails. A run with an allocation that fails takes 0.6 seconds, hence the sample.
 
-Not checked, unlike with cargo: the bytes of requests.txt, the bytes that are held after a call, and the failure of all allocations from one on.
+Not checked, unlike with cargo: the bytes of `requests.txt`, the bytes that are held after a call, and the failure of all allocations from one on.
 
 usage: tools/try_tables.py [--every] [--rows PATTERN]    only the test cases whose line has this regular expression
        tools/try_tables.py --self-test                   a few test cases, with seeded faults that must be reported
@@ -31,9 +31,9 @@ SOURCES = ("table", "text")
 DEPENDENCIES = "wat_types wat_imports wat_lexer_parser wat_lex wat_words"
 # The allocation that fails in each run, counted from 1: above those of each test case.
 FAILED = 500
-# Files that the test cases of answers.txt are split into, and the seconds that each may take.
+# The number of files that the test cases of `answers.txt` are split into, and the seconds that each may take.
 PARTS, SECONDS = 24, 600
-# The allocations of a call that in Rattle makes another number of them than in the generated Rust, which the table has: it keeps names in a
+# The numbers of allocations of calls whose number in Rattle differs from that of the generated Rust, which the table has. The call keeps names in a
 # B-tree of std.
 OTHER_COUNTS = {"with-standard-annotations": 6}
 # A call that does not allocate, for the number of allocations before a call and its preparation.
@@ -44,7 +44,7 @@ LATER, LATE = "later|0|0|later|||||", "unknown"
 
 @dataclasses.dataclass(frozen=True)
 class Answer:
-    """A test case of answers.txt: the call with its text, and the result."""
+    """A test case of `answers.txt`: the call with its text, and the result."""
 
     line: str
     wanted: str
@@ -52,7 +52,7 @@ class Answer:
 
 @dataclasses.dataclass(frozen=True)
 class Request:
-    """A test case of requests.txt."""
+    """A test case of `requests.txt`."""
 
     line: str
 
@@ -73,19 +73,19 @@ class Request:
 
 
 def read_answers():
-    """Returns the test cases of answers.txt."""
+    """Returns the test cases of `answers.txt`."""
     lines = (ROOT / "tests/answers.txt").read_text(encoding="utf-8").split("\n")[:-1]
     return [Answer(line, answer.removeprefix("    ")) for line, answer in zip(lines[::2], lines[1::2], strict=True)]
 
 
 def read_requests():
-    """Returns the test cases of requests.txt."""
+    """Returns the test cases of `requests.txt`."""
     lines = (ROOT / "tests/requests.txt").read_text(encoding="utf-8").split("\n")[1:-1]
     return [Request(line) for line in lines]
 
 
 def make_repository(folder):
-    """Makes a repository of links to the crates, and of the program, and returns the folder of the program's crate."""
+    """Creates a repository of links to the crates, and of the program, and returns the folder of the program's crate."""
     for crate in (ROOT / "crates").iterdir():
         for part in ("src", "specs", "proofs"):
             if (crate / part).is_dir():
@@ -134,7 +134,7 @@ def run_cases(crate, cases, found=lambda name, line: {}):
 
 
 def check_answers(crate, rows):
-    """Returns what is wrong with each test case of answers.txt that fails."""
+    """Returns the faults of the test cases of `answers.txt` that fail, by test case."""
     parts = {f"answers-{number:02}": rows[number::PARTS] for number in range(min(PARTS, len(rows)))}
     printed = run_cases(crate, {name: "\n".join(["answers", *(row.line for row in part), ""]) for name, part in parts.items()})
     faults = {}
@@ -147,7 +147,7 @@ def check_answers(crate, rows):
 
 
 def case_of(source, skipped, line):
-    """Returns the standard input for a test case of requests.txt, before which so many allocations are made."""
+    """Returns the standard input for a test case of `requests.txt`, before which `skipped` allocations are made."""
     return f"requests {source} {skipped}\n{line}\n"
 
 
@@ -156,7 +156,7 @@ class Runs:
     input depends on its count of allocations."""
 
     def __init__(self, rows):
-        """Makes the runs of these test cases over both buffers."""
+        """Creates the runs of these test cases over both buffers."""
         self.calls = {f"{number:04}-{source}": (row, source) for number, row in enumerate(rows) for source in SOURCES}
         self.most, self.before, self.failing, self.faults = 0, {}, {}, {}
 
@@ -188,7 +188,7 @@ class Runs:
         return cases
 
     def fault_of(self, name, printed):
-        """Returns what is wrong with the runs of a call with a failure, or None."""
+        """Returns the fault of a call's runs with a failure, or `None`."""
         row, _ = self.calls[name]
         if name not in self.before:
             return "no result"
@@ -205,7 +205,7 @@ class Runs:
 
 
 def check_requests(crate, rows, chosen):
-    """Returns what is wrong with each test case of requests.txt that fails. The allocations of the chosen ones fail in turn."""
+    """Returns the faults of the test cases of `requests.txt` that fail, by test case. The allocations of the chosen ones fail in turn."""
     runs = Runs(chosen)
     together = {"0-all": "\n".join(["requests all", *(row.line for row in rows), ""])}
     printed = run_cases(crate, runs.first_cases() | together, runs.found)
@@ -230,7 +230,7 @@ def sample(rows):
 
 
 def check(answers, requests, chosen):
-    """Runs test cases of both tables side by side, and returns what is wrong with those that fail."""
+    """Runs test cases of both tables in parallel, and returns the faults of those that fail, by test case."""
     with tempfile.TemporaryDirectory(prefix="try-tables-") as folder:
         crate = make_repository(pathlib.Path(folder))
         with concurrent.futures.ThreadPoolExecutor() as pool:

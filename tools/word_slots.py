@@ -1,11 +1,11 @@
 #!/usr/bin/env python3
-"""Writes the slots of the words of instructions into crates/wat_instructions/src/slots.rt: a perfect hash of the words in table.rt.
+"""Writes the slots of the instruction keywords into crates/wat_instructions/src/slots.rt: a perfect hash of the keywords in table.rt.
 
 usage: tools/word_slots.py [--check]
 
-The hash of a word is a sum of its bytes, each times a power of 5, below 2^32. The words whose hashes have the same remainder by the number of MOVES
-are moved together, by the least number with which each of them has an empty slot; the largest of these groups come first. With --check nothing is
-written, and the status is 1 where the file differs. The prover checks what is written: the place of each row is in the slot of its word.
+The hash of a keyword is the sum of its bytes, each multiplied by a power of 5, modulo 2^32. Keywords whose hashes have the same remainder modulo
+MOVES form a group. A group is moved by the least number with which each of its keywords has an empty slot; the largest groups are placed first. With
+--check nothing is written, and the exit status is 1 if the file differs. The prover checks the result: each row's index is in its keyword's slot.
 """
 import pathlib
 import re
@@ -25,12 +25,12 @@ def hash_of(word):
 
 
 def slots_of(hashes, move):
-    """The slots of words, by their hashes."""
+    """Returns the slots of keywords, given their hashes and the move of their group."""
     return [(number // MOVES + move) % SLOTS for number in hashes]
 
 
 def tables(words):
-    """By how much each group of words is moved, and the place of a word in each slot."""
+    """Returns the move of each group of keywords, and the keyword's index in each slot. An empty slot has the number of keywords."""
     groups = {}
     for place, word in enumerate(words):
         groups.setdefault(hash_of(word) % MOVES, {})[place] = hash_of(word)
@@ -43,7 +43,7 @@ def tables(words):
 
 
 def least_move(slots, group, empty):
-    """The least number of 8 bits with which each word of a group has an empty slot of its own."""
+    """Returns the least 8-bit move with which each keyword of a group has its own empty slot."""
     for move in range(256):
         wanted = slots_of(group.values(), move)
         if len(set(wanted)) == len(wanted) and all(slots[slot] == empty for slot in wanted):
@@ -52,7 +52,7 @@ def least_move(slots, group, empty):
 
 
 def constant(text, name, numbers):
-    """The text with these numbers as a constant, in the layout of `rt fmt`."""
+    """Returns the text with these numbers as the value of a constant, formatted as by `rt fmt`."""
     lines = textwrap.fill(", ".join(map(str, numbers)) + ",", 99, initial_indent="    ", subsequent_indent="    ")
     return re.sub(rf"(const {name}: \[\w+; \d+\] = )\[[^\]]*\];", rf"\g<1>[\n{lines}\n];", text)
 
