@@ -1,5 +1,5 @@
 #!/usr/bin/env python3
-"""Writes the page of a folder as one file, which a browser also opens from a disk: style, scripts and module are in it.
+"""Writes the page of a folder as a single file, which a browser can also open from disk. The style sheet, the scripts and the module are embedded.
 
 usage: single.py FOLDER > wat.html
 """
@@ -11,7 +11,7 @@ import re
 import sys
 
 folder = pathlib.Path(sys.argv[1])
-# Each after those that it imports.
+# The scripts, each after those that it imports.
 PACKAGE = [f"wat-lex/{name}.js" for name in ("lexer", "sums", "lines", "rows", "reader", "tokens", "whole")]
 SCRIPTS = [*PACKAGE, *(f"{name}.js" for name in ("sight", "columns", "ahead", "edits", "names", "counts", "types", "examples", "link", "page"))]
 WORKER = ["wat-lex/lexer.js", "worker.js"]
@@ -28,7 +28,7 @@ def replaced(text, old, new):
 
 
 def joined(names):
-    """The scripts of these names as one, in which each sees what the others export."""
+    """Returns the scripts of these names as one, without `import` and `export`, so that each can use the declarations of the others."""
     script = "".join(read(name) for name in names)
     script = re.sub(r"^import .*\n", "", script, flags=re.M)
     return re.sub(r"^export ", "", script, flags=re.M)
@@ -51,7 +51,7 @@ style = f"\n{read('style.css')}"
 
 
 def source(text):
-    """The word by which the page's policy lets this text pass."""
+    """Returns the source expression by which the page's content security policy allows this text."""
     return f"'sha256-{base64.b64encode(hashlib.sha256(text.encode()).digest()).decode()}'"
 
 

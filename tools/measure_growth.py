@@ -1,7 +1,7 @@
 #!/usr/bin/env python3
-"""Measures how time and memory of the commands of `wat_tokens` grow with their text: a text is repeated up to 10 MB, 100 MB and 1 GB, and each command
-reads it as standard input, its output to /dev/null. A time is the user and system time of a process, the least of ROUNDS; a memory is the most that was
-resident. Prints rows for docs/speed/programs.tsv: milliseconds and nanoseconds a byte; bytes a byte.
+"""Benchmarks how the time and memory of `wat_tokens` commands grow with their input. A text is repeated up to 10 MB, 100 MB and 1 GB. Each command
+reads it as standard input, and its output goes to /dev/null. A time is the user and system time of a process, the least of ROUNDS; a memory is the
+largest resident size. Prints rows for docs/speed/programs.tsv: milliseconds and nanoseconds per byte, or bytes per byte.
 
 usage: measure_growth.py WAT_TOKENS FOLDER TEXT [ROUNDS]     FOLDER gets the texts, one after the other; TEXT ends with a line feed
 """
@@ -16,7 +16,7 @@ COMMANDS = ["list", "sig", "blank", "fmt"]
 
 
 def run(program, command, path):
-    """Seconds of a processor that a process takes, and the bytes that were resident at most."""
+    """Returns the processor time of a process in seconds, and its largest resident size in bytes."""
     with path.open("rb") as text:
         process = subprocess.Popen([program, command], stdin=text, stdout=subprocess.DEVNULL)
         _, status, usage = os.wait4(process.pid, 0)
@@ -27,7 +27,7 @@ def run(program, command, path):
 
 
 def write(path, part, size):
-    """So many copies of the text that they have this size at least."""
+    """Writes copies of a text to a file until it has at least `size` bytes, and returns the size of the file."""
     with path.open("wb") as out:
         for _ in range(-(-size // len(part))):
             out.write(part)

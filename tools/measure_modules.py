@@ -1,8 +1,8 @@
 #!/usr/bin/env python3
-"""Measures compilers of modules: MODULE, which is rust/wat-modules/examples/module.rs, beside `wat2wasm --no-check` of Debian's wabt and, where ENCODER is
-given, beside wast's own encoder, the program that tools/wast_encoder.sh builds. Each text is of one kind, as texts of programs have much of: functions,
-calls, constants, data, names. Processes take turns; a time is the user and system time of one, output to /dev/null, and the median of all; a memory is the
-most that was resident, in 10^6 bytes. That all make the same module is compared first. Prints docs/speed/modules.tsv.
+"""Benchmarks compilers of modules: MODULE, which is rust/wat-modules/examples/module.rs, against `wat2wasm --no-check` of Debian's wabt and, if
+ENCODER is given, against wast's own encoder, the program that tools/wast_encoder.sh builds. Each text is of one kind that is frequent in programs:
+functions, calls, constants, data, names. Processes run in turn, with output to /dev/null. A time is the median of the user and system times; a
+memory is the largest resident size, in 10^6 bytes. All programs must write the same module, which is checked first. Prints docs/speed/modules.tsv.
 
 usage: measure_modules.py MODULE FOLDER [ENCODER] [--rounds N]     FOLDER gets the texts
 """
@@ -23,7 +23,7 @@ from module_sections import agreement
 from module_texts import FORMS, big_module, choices
 
 VALUES = ["i32", "i64", "f32", "f64"]
-# Forms that one of the others does not read, or reads as something else.
+# Forms that one of the other programs rejects or reads differently.
 LEFT_OUT = {"saturating", "memory", "tables", "references", "reference-types", "typed-select", "vectors"}
 
 
@@ -44,24 +44,24 @@ def escaped(rng, count):
 
 
 def types(i):
-    """Eight types of values, other ones for each number below 65,536."""
+    """Returns eight value types, which are different for each `i` below 65,536."""
     return " ".join(VALUES[i >> 2 * k & 3] for k in range(8))
 
 
 def elements(rng):
-    """A table that brings functions by their names."""
+    """Returns a module with a table whose inline element segment has 400,000 function names."""
     names = " ".join(f"$f{rng.randrange(2_000)}" for _ in range(400_000))
     return module(each(2_000, lambda i: f"(func $f{i})") + f"(table funcref (elem {names}))")
 
 
 def functions(count):
-    """Functions at random, with names; the others read no underscore in a memory argument."""
+    """Returns a module of random functions with names. Its memory arguments have no underscores, as the other programs do not accept them."""
     text = big_module(choices(7, FORMS.keys() - LEFT_OUT), count, True)
     return re.sub(r"(?:offset|align)=\S+", lambda found: found[0].replace("_", ""), text)
 
 
 def kinds(rng):
-    """Texts by their names."""
+    """Returns the texts by name."""
     return {
         "blocks": function(100_000, lambda i: "block i32.const 1 if nop else nop end end"),
         "branches": function(4_000, lambda i: f"block block br_table {'0 1 ' * 50}end end"),
@@ -86,7 +86,7 @@ def kinds(rng):
 
 
 def texts(folder):
-    """The files of all texts, which are written."""
+    """Writes all texts to the folder, and returns their files."""
     folder.mkdir(parents=True, exist_ok=True)
     for name, text in kinds(random.Random(7)).items():
         (folder / f"{name}.wat").write_text(text, encoding="utf-8")
@@ -95,7 +95,7 @@ def texts(folder):
 
 
 def run(words, text, out=subprocess.DEVNULL):
-    """Seconds of a processor that a process takes whose input is the text."""
+    """Runs a process with the text as its standard input, and returns its processor time in seconds."""
     with open(text, "rb") as source:
         process = subprocess.Popen(words, stdin=source, stdout=out)
         _, status, usage = os.wait4(process.pid, 0)
@@ -106,7 +106,7 @@ def run(words, text, out=subprocess.DEVNULL):
 
 
 def peak(words, text):
-    """The 10^6 bytes of a process that are resident at most."""
+    """Returns the largest resident size of a process, in 10^6 bytes."""
     with open(text, "rb") as source:
         words = ["/usr/bin/time", "--quiet", "-f", "%M", *words]
         said = subprocess.run(words, check=True, stdin=source, stdout=subprocess.DEVNULL, stderr=subprocess.PIPE, text=True)
@@ -114,7 +114,7 @@ def peak(words, text):
 
 
 def made(words, text, folder):
-    """The bytes that a process makes of a text."""
+    """Returns the bytes that a process writes for a text."""
     out = folder / "made"
     with open(out, "wb") as stream:
         run([out if word == "/dev/null" else word for word in words], text, subprocess.DEVNULL if "/dev/null" in words else stream)
@@ -122,13 +122,13 @@ def made(words, text, folder):
 
 
 def is_same(text, jobs, folder):
-    """Whether all make the same module, a section of names aside."""
+    """Returns `True` if all programs write the same module, except for a section of names."""
     ours, *others = (made(words, text, folder) for words in jobs.values())
     return all(agreement(ours, other)[0] in ("the same bytes", "the same, spelled otherwise") for other in others)
 
 
 def rows(text, jobs, rounds):
-    """Prints the rows of a text: MODULE beside each of the others."""
+    """Prints the rows of a text: MODULE against each of the other programs."""
     runs = {name: [] for name in jobs}
     for number in range(rounds):
         for turn in range(len(jobs)):
@@ -143,7 +143,7 @@ def rows(text, jobs, rounds):
 
 
 def print_head(rounds):
-    """Prints where, when and of what is measured."""
+    """Prints the date, the commit, the machine and the versions of the programs."""
     known = pathlib.Path("/proc/cpuinfo").read_text(encoding="utf-8").splitlines()
     model = next(line.split(": ")[1].strip() for line in known if line.startswith("model name"))
     commit = output("git", "rev-parse", "--short", "HEAD").strip()

@@ -1,10 +1,10 @@
 #!/usr/bin/env python3
-"""Measures whole programs: `wat_tokens` beside those of Debian's wabt that do most nearly the same work. Processes take turns; a time is the user and
-system time of one, its output to /dev/null, and the median of all; a memory is the most that was resident, bytes a byte of text. Prints rows for
+"""Benchmarks whole programs: `wat_tokens` against the programs of Debian's wabt that do the most similar work. Processes run in turn, with output to
+/dev/null. A time is the median of the user and system times; a memory is the largest resident size, in bytes per byte of text. Prints rows for
 docs/speed/programs.tsv.
 
-`wat-desugar` reads a text into trees and prints them, where `fmt` lays out tokens, `list` names them, `sig` leaves out trivia and `blank` blanks
-comments. `wat2wasm` makes the bytes that `types` makes, which is compared.
+`wat-desugar` reads a text into trees and prints them, whereas `fmt` formats tokens, `list` names them, `sig` skips trivia and `blank` replaces
+comments with blanks. `wat2wasm` must write the same bytes as `types`, which is checked.
 
 usage: measure_programs.py WAT_TOKENS FOLDER [ROUNDS]     FOLDER gets the texts: the C library of WASI, linked whole by `wasm-ld` and printed by
                                                          `wasm2wat`, and types of functions
@@ -26,12 +26,12 @@ def output(*words):
 
 
 def found(name):
-    """A program, by its name or with the number of a version after it."""
+    """Returns the path of a program, whose name may be followed by a version number."""
     return next(path for folder in os.environ["PATH"].split(":") for path in sorted(pathlib.Path(folder).glob(f"{name}*")))
 
 
 def linked(folder):
-    """The texts of the library: flat and folded."""
+    """Writes the texts of the linked C library: flat and folded."""
     wasm = folder / "libc.wasm"
     subprocess.run([found("wasm-ld"), "--no-entry", "--whole-archive", "--export-all", "--allow-undefined", "-o", wasm, LIBRARY], check=True)
     for name, words in (("libc_flat", []), ("libc_folded", ["--fold-exprs"])):
@@ -39,7 +39,7 @@ def linked(folder):
 
 
 def types(count, distinct):
-    """A module of function types, each other than the others or all alike."""
+    """Returns a module of function types that are all distinct or all equal."""
     rng = random.Random(5)
     seen, lines = set(), []
     while len(lines) < count:
@@ -51,7 +51,7 @@ def types(count, distinct):
 
 
 def run(words):
-    """Seconds of a processor that a process takes."""
+    """Runs a process and returns its processor time in seconds."""
     null = subprocess.DEVNULL
     process = subprocess.Popen(words, stdin=null, stdout=null, stderr=null)
     _, status, usage = os.wait4(process.pid, 0)
@@ -62,13 +62,13 @@ def run(words):
 
 
 def peak(words):
-    """Bytes of a process that are resident at most; a fork of this one would count this one's."""
+    """Returns the largest resident size of a process in bytes. `/usr/bin/time` starts it, as a fork of this process would count its own memory."""
     said = subprocess.run(["/usr/bin/time", "--quiet", "-f", "%M", *words], check=True, stdout=subprocess.DEVNULL, stderr=subprocess.PIPE, text=True)
     return int(said.stderr) * 1024
 
 
 def rows(text, jobs, rounds):
-    """The rows of a text: of each command of ours beside the other program."""
+    """Prints the rows of a text: each command of `wat_tokens` against the other program."""
     runs = {name: [] for name in jobs}
     for number in range(rounds):
         for turn in range(len(jobs)):

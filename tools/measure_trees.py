@@ -1,7 +1,8 @@
 #!/usr/bin/env python3
-"""Measures `parse` of the syntax trees of wast 222.0.0, its buffer made and its tree dropped, over its own lowest layer and over rust/wat-parser, by the
-drivers that tools/under_wast.sh leaves: rounds in turn, of each the least of five passes. Prints rows for docs/speed/trees.tsv: of the rounds the least
-times, the ratio of the middle ones, and first passes of processes; the objects of a library are read as `Wast`, each at its least of nine.
+"""Benchmarks `parse` of the syntax trees of wast 222.0.0, including the creation of its buffer and the drop of its tree, on its own lowest layer and
+on rust/wat-parser. The drivers are those that tools/under_wast.sh leaves. Rounds run in turn, and each has the least time of five passes. Prints rows
+for docs/speed/trees.tsv: the least times of the rounds, the ratio of the medians, and the first passes of processes. The objects of a library are
+read as `Wast`, each with its least time of nine.
 
 usage: measure_trees.py WORK CPU ROUNDS TEXT.. [-- OBJECT..]     WORK and its drivers; texts; short texts, summed up
 """
@@ -16,13 +17,13 @@ PASSES, FIRSTS = 5, 11
 
 
 def answer(driver, cpu, *words):
-    """The least time that a driver prints, in milliseconds."""
+    """Returns the least time that a driver prints, in milliseconds."""
     said = subprocess.run(["taskset", "-c", cpu, driver, *words], check=True, capture_output=True, text=True).stdout
     return float(said.split("\t")[1])
 
 
 def turns(drivers, rounds, cpu, words):
-    """The times of both drivers, which take turns."""
+    """Returns the times of both drivers, which run in turn."""
     times = {name: [] for name in drivers}
     for number in range(rounds):
         for name in list(drivers)[:: -1 if number % 2 else 1]:

@@ -1,11 +1,11 @@
 #!/usr/bin/env python3
-"""Checks what tools/erase/erase.py makes, by other means: it walks over the tokens of a source and of what was made of it side by side, and
-explains each difference by a rule of docs/ERASURE.md. What no rule explains is a fault. It has a scanner and a list of its own, and takes from
-the tool only what is checked and the names of the files.
+"""Checks the output of tools/erase/erase.py by independent means: it walks over the tokens of a source and of the file that is generated from it in
+parallel, and explains each difference by a rule of docs/ERASURE.md. A difference that no rule explains is a fault. It has its own scanner and its own
+list, and takes from the tool only the output to check and the names of the files.
 
-usage: tools/erase/check.py               what the tool makes today of each source
-       tools/erase/check.py --committed   the committed files too: they are what the tool makes today, and each is explained
-       tools/erase/check.py --self-test   bugs that are planted into what the tool makes, and into the tool, are each seen
+usage: tools/erase/check.py               checks the tool's current output for each source
+       tools/erase/check.py --committed   also checks the committed files: each is the tool's current output, and is explained
+       tools/erase/check.py --self-test   checks that faults seeded into the tool's output, and into the tool, are reported
 """
 import collections
 import pathlib
@@ -17,15 +17,15 @@ import erase
 
 Token = collections.namedtuple("Token", "kind text line")
 CLOSERS = {"(": ")", "[": "]", "{": "}"}
-# Before each of these a comma is a matter of layout.
+# A comma before one of these is a matter of formatting.
 CLOSING = (")", "]", "}", ">")
-# After these a parenthesis begins no call.
+# A parenthesis after one of these does not begin a call.
 NO_CALLS = ("as", "break", "else", "if", "in", "let", "match", "mut", "ref", "return", "while")
 SAME_IN_CORE = ("cmp", "fmt", "hash", "marker", "mem", "result", "str", "{")
-# Only the program's sources use these, which `core` has not.
+# Modules that only the sources of the program use, and that `core` does not have.
 STREAMS = ("env", "fs", "io", "path", "process", "rt")
 
-# What is written otherwise, wherever it is found: the tokens of the source, and those that have to be in their place.
+# The closed list of rewritten tokens: those of the source, and those that must replace them.
 WRITTEN = [
     *((f"std::{name}", f"SHIM::{name}") for name in ("alloc", "borrow", "collections", "simd")),
     *((f"std::{name}", f"STD::{name}") for name in SAME_IN_CORE + STREAMS),
@@ -45,14 +45,14 @@ WRITTEN = [
     ("eprintln!(rt;", "try_eprintln!(rt;"),
     ("fn main(rt:", "pub fn main(rt:"),
     ("let text = unsafe { str::from_utf8_unchecked(text) };", "// SAFETY: rule 2 of wat.h.\nlet text = unsafe { str::from_utf8_unchecked(text) };"),
-    # What is taken away.
+    # Tokens that are erased.
     ("#[cfg(test)] mod tests;", ""),
     ("use std::marker::Model;", ""),
     ("+ Drop", ""),
     (": Drop,", ","),
     (": Drop>", ">"),
 ]
-# Where each crate is found by the others, and by itself.
+# The path of each crate for the other crates, and for itself.
 PLACES = {
     "wat_lex": ("wat_lex::proved", "crate::proved"),
     "wat_words": ("wat_parser::words", "crate::words"),
@@ -76,12 +76,12 @@ PLACES = {
     "wat_modules": ("wat_modules::proved", "crate::proved"),
     "wat_imports": ("", "crate::imports"),
 }
-# Crates that are compiled together see each other as they see themselves.
+# Crates that are compiled together use the same paths for each other as for themselves.
 FORMATTER = {"wat_format", "wat_lines"}
 PROGRAM = {"wat_lists", "wat_options", "wat_commands", "wat_tokens"}
 MODULES = {"wat_instructions", "wat_pieces", "wat_fields", "wat_fields_read", "wat_sections", "wat_modules", "wat_types"}
 TOGETHER = [{"wat_words", "wat_floats", "wat_lexer_parser"}, {"wat_rows", "wat_parser_c"}, FORMATTER, PROGRAM, MODULES]
-# Of a function that C calls, with a space between tokens: what C passes of a slice, and the statements that its body begins with.
+# For a function that C calls, with a space between tokens: the parameters for C of a slice, and the statements at the beginning of its body.
 PASSED = re.compile(r"(\w+) : \* (const|mut) (\w+) , \1_len : usize")
 MADE = re.compile(
     r"// SAFETY: `(?P<slice>\w+)` points to `(?P=slice)_len` values, by rules? 1(?P<buffer> and 5)? of wat\.h\. let (?P=slice) = unsafe "
@@ -117,7 +117,7 @@ def shim_place(crate):
 
 
 def std_place(crate):
-    """Where the rest of Rattle's `std` is. The shims of the formatter and of programs have all of it."""
+    """Returns the path of the rest of Rattle's `std`. The shims of the formatter and of the program have all of it."""
     return "crate::shim" if crate in FORMATTER | PROGRAM else "core"
 
 
@@ -126,7 +126,7 @@ class Fault(Exception):
 
 
 def scan(text):
-    """The tokens of a text. Each sign is one of its own."""
+    """Returns the tokens of a text. Each punctuation character is one token."""
     tokens, at, line = [], 0, 1
     while at < len(text):
         end = end_of_token(text, at)
@@ -172,12 +172,12 @@ def end_of_quoted(text, at, quote):
 
 
 def contract_lines(text):
-    """A contract by its lines, in which spaces don't count."""
+    """Returns the lines of a contract, with each run of whitespace as one space."""
     return [" ".join(line.split()) for line in text.split("\n")]
 
 
 class Walk:
-    """A walk over a source and over what was made of it."""
+    """A walk over a source and the file that is generated from it, in parallel."""
 
     def __init__(self, source, made, crate, name):
         self.source, self.made = scan(source), scan(made)
@@ -192,10 +192,10 @@ class Walk:
         self.contracts = {}
         self.at = self.there = 0
         self.function = None
-        # The place after what the body of a function that C calls begins with, by the place of the body.
+        # The index after the statements at the beginning of the body of a function that C calls, by the index of the body.
         self.bodies = {}
         self.unwrapped, self.wrapped = set(), set()
-        # Of each group that is open in the source: whether a comma at its end is a matter of layout.
+        # For each group that is open in the source: whether a comma at its end is a matter of formatting.
         self.groups = []
 
     def fault(self, what):
@@ -221,7 +221,7 @@ class Walk:
         if self.contracts:
             self.fault("documentation of a contract that is no function's")
 
-    # What was made has more, at three places.
+    # The three additions of the generated file.
 
     def take_mark(self):
         if self.made[:1] != [Token("comment", f"// @generated by tools/erase from {self.name}; do not edit.", 1)]:
@@ -235,7 +235,7 @@ class Walk:
         self.there += len(wanted)
 
     def take_contracts(self):
-        """Takes each contract out of the documentation, by the place of its function."""
+        """Removes each contract from the doc comments, and records it by the index of its function."""
         kept, contract = [], None
         for place, token in enumerate(self.made):
             if contract is not None and token.kind != "doc":
@@ -282,7 +282,7 @@ class Walk:
         self.there = self.bodies.pop(self.there + 1, self.there + 1)
 
     def note(self, at):
-        """Keeps account of groups. In parentheses that are no call's, one comma makes a tuple."""
+        """Tracks open groups. In parentheses that are not those of a call, one comma makes a tuple."""
         text = self.text(at)
         if text in CLOSERS:
             before, last = self.source[max(at - 2, 0)].text, self.source[max(at - 1, 0)]
@@ -300,7 +300,7 @@ class Walk:
         return self.source[at].text if at < len(self.source) else ""
 
     def after_group(self, at, tokens=None):
-        """The place after a group, in the source where no tokens are named."""
+        """Returns the index after a group, in the source if no tokens are given."""
         tokens = self.source if tokens is None else tokens
         open_groups = []
         while True:
@@ -316,14 +316,14 @@ class Walk:
                 return at
 
     def is_taken_away(self):
-        """Whether what the source has here is for the prover alone; then it is passed over."""
+        """Skips an item that is erased. Returns `True` if there is one."""
         if self.at >= len(self.source):
             return False
         rules = (self.documented, self.ghost, self.contract, self.model, self.tactic, self.derive)
         return any(rule() for rule in rules)
 
     def documented(self):
-        """The documentation of a ghost item or a model, in the lines directly before it."""
+        """Skips the doc comments of a ghost item or a model, which are in the lines directly before it. Returns `True` if there are any."""
         at = self.at
         while at < len(self.source) and self.source[at].text.startswith("///"):
             at += 1
@@ -351,7 +351,10 @@ class Walk:
         return self.after_group(at) if self.text(at) == "{" else None
 
     def contract(self):
-        """A contract, which has to be the documentation of its function; that of a closure, in a function's body, is not shown."""
+        """Skips a contract, which must be in the doc comments of its function, except for that of a closure in a function's body.
+
+        Returns `True` if there is a contract.
+        """
         begin, end, at = self.at, None, self.at
         while (after := self.clause_end(at)) is not None:
             at = end = after
@@ -385,7 +388,7 @@ class Walk:
         return True
 
     def attribute(self, name):
-        """The places of the bracket and of the end of an attribute of this name, where one is here."""
+        """Returns the indices of the bracket and of the end of an attribute of this name, or `None` if there is none."""
         bracket = self.at + 1 + (self.text(self.at + 1) == "!")
         if self.text(self.at) == "#" and self.text(bracket) == "[" and self.text(bracket + 1) == name:
             return bracket, self.after_group(bracket)
@@ -398,7 +401,10 @@ class Walk:
         return bool(found)
 
     def derive(self):
-        """A derive has the same names in the same order but `Drop`, and is there where any is left."""
+        """Skips a derive, which must have the same names in the same order except `Drop`, or be erased if none is left.
+
+        Returns `True` if there is one.
+        """
         found = self.attribute("derive")
         if not found:
             return False
@@ -411,7 +417,7 @@ class Walk:
         return True
 
     def is_written_otherwise(self):
-        """Whether what the source has here is of the closed list; then its other form has to be there."""
+        """Skips an entry of the closed list, whose replacement must be in the generated file. Returns `True` if there is one."""
         rooted = self.at == 0 or self.source[self.at - 1].text != ":"
         for before, after in self.written.get(self.text(self.at), ()):
             if not self.begins(self.source, self.at, before) or before[0].kind == "word" and not rooted:
@@ -426,7 +432,10 @@ class Walk:
         return False
 
     def is_called_by_c(self):
-        """Whether a function is here that C calls. With what its body begins with, what C passes has to read as its parameters."""
+        """Skips the signature of a function that C calls. Its parameters for C and the beginning of its body must correspond to its parameters.
+
+        Returns `True` if there is one.
+        """
         if [token.text for token in self.source[self.at : self.at + 3]] != ["extern", '"C"', "fn"]:
             return False
         end, wanted = self.parameters(self.source, self.at + 4)
@@ -446,12 +455,12 @@ class Walk:
         return True
 
     def parameters(self, tokens, at):
-        """The place after a function's parameters, and their tokens."""
+        """Returns the index after a function's parameters, and their tokens as one string."""
         end = self.after_group(at, tokens)
         return end, " ".join(token.text for token in tokens[at + 1 : end - 1]).removesuffix(" ,")
 
     def read_body(self):
-        """The parameters that are made where the body begins of the function whose parameters end here, in the order of the statements."""
+        """Returns the parameters that are constructed at the beginning of the body after the current position, in the order of the statements."""
         texts = [*(token.text for token in self.made), "{", ";"]
         body = at = texts.index("{", self.there) + 1
         read = []
@@ -464,7 +473,10 @@ class Walk:
         return read
 
     def is_laid_out(self):
-        """Whether the layout makes a difference here: by a comma before a closing bracket, or by an arm's braces around one expression."""
+        """Skips a difference of formatting: a comma before a closing bracket, or an arm's braces around one expression.
+
+        Returns `True` if there is one.
+        """
         here, there = self.source[self.at].text, self.made[self.there].text if self.there < len(self.made) else ""
         is_layout = not self.groups or self.groups[-1]
         if self.there in self.wrapped and here == ",":
@@ -490,7 +502,7 @@ class Walk:
         return True
 
     def is_arm(self, tokens, at):
-        """Whether an arm's braces are here, around one expression: with no statement in them, but for the `;` that ends a `return`."""
+        """Returns `True` if an arm's braces around one expression are at `at`. They contain no statement, except for the `;` that ends a `return`."""
         if [token.text for token in tokens[at - 2 : at]] != ["=", ">"]:
             return False
         end = self.after_group(at, tokens) - 1
@@ -569,13 +581,13 @@ def faults_of(source, made, crate, name):
 
 
 def made_today():
-    """Of each source its text, its crate, its name, the file that is committed and what the tool makes."""
+    """Yields for each source its text, its crate, its name, the committed file and the tool's current output."""
     for source, crate, target in erase.sources():
         yield source.read_text(encoding="utf-8"), crate, str(source.relative_to(erase.PROJECT)), target, erase.made(source, crate)
 
 
 def committed_faults():
-    """The committed files are what the tool makes today, by their bytes where rustfmt is here, and there are no others."""
+    """Yields the faults of the committed files: each must be the tool's current output, byte for byte if rustfmt is installed."""
     wanted, has_rustfmt = set(), shutil.which("rustfmt") is not None
     for source, crate, name, target, made in made_today():
         wanted.add(target)
@@ -595,12 +607,12 @@ def committed_faults():
 
 
 def made_faults():
-    """What the tool makes today, without a layout."""
+    """Yields the faults of the tool's current output, unformatted."""
     for source, crate, name, _, made in made_today():
         yield from faults_of(source, made, crate, name)
 
 
-# Bugs of an eraser, planted into what it makes: a file, what is there, and what is there instead.
+# Seeded faults of the output: a file, the old text and the new text.
 PLANTED = [
     ("a statement is dropped", "wat_lex/src/lexer.rt", "*pos = start + token.len as usize;", ""),
     ("an attribute is dropped", "wat_lex/src/lexer.rt", "#[cold]", ""),
@@ -667,7 +679,7 @@ PLANTED = [
     ("a function of no pointer is unsafe", "wat_parser_c/src/version.rt", "pub extern", "pub unsafe extern"),
     ("a function has no C convention", "wat_parser_c/src/version.rt", 'extern "C" ', ""),
 ]
-# Integers that a `usize` of 32 bits does not hold, planted into sources: a file, what is there, and what is there instead.
+# Seeded faults of the sources, with integers that a `usize` of 32 bits does not hold: a file, the old text and the new text.
 NARROW = [
     ("a module's length is compared as a usize", "wat_modules/src/lib.rt", "(bytes.len() as u64) <", "bytes.len() <"),
     ("a table's length is compared as a usize", "wat_fields_read/src/elements.rt", "elements.len() as u64 >=", "elements.len() >="),
@@ -679,12 +691,12 @@ NARROW = [
     ("a u64 is a usize", "wat_instructions/src/reading.rt", "fn signed_32(sign: Sign, size: u64)", "fn signed_32(sign: Sign, size: usize)"),
     ("a sum is no u64", "wat_lex/src/lexer/scan/strings.rt", "* 16 + hex_digit(digit) as u64;", "* 16 + hex_digit(digit) as usize;"),
 ]
-# What the sources do not have.
+# A source with constructs that the sources do not have.
 OTHERS = "/// It is [one](wat_lexer_parser::token).\npub unsafe fn of(x: u8)\n    ensures { ⊤ }\n{\n    let one = (1,);\n    let two = (2);\n}\n"
 
 
 def planted_faults(name, file, before, after):
-    """The faults of what is made of a source into which a bug is planted."""
+    """Returns the faults of the output with a seeded fault, or `None` if it cannot be seeded or the output has other faults."""
     source, crate = OTHERS, "wat_lex"
     path = f"crates/{file}"
     if file is not None:
@@ -697,7 +709,7 @@ def planted_faults(name, file, before, after):
 
 
 def faults_of_file(name, before="", after=""):
-    """The faults of what is made of a source, with a text of it replaced."""
+    """Returns the faults of the output for a source with a replaced text, or `None` if the text does not occur."""
     source, crate = (erase.PROJECT / name).read_text(encoding="utf-8"), name.split("/")[1]
     planted = source.replace(before, after, 1)
     if before and planted == source:
@@ -707,7 +719,7 @@ def faults_of_file(name, before="", after=""):
 
 
 def narrow_bugs():
-    """Integers that are planted into sources, and bugs of the list `WIDE`: an exception is not there, or one that nothing needs."""
+    """Yields the results of faults seeded into sources, and of faults seeded into `WIDE`: a missing exception, and one that is not needed."""
     for bug, file, before, after in NARROW:
         faults = faults_of_file(f"crates/{file}", before, after)
         yield bug, faults and all("may be a usize" in fault for fault in faults)
@@ -722,7 +734,7 @@ def narrow_bugs():
 
 
 def bugs_of_eraser():
-    """Bugs that are planted into the tool itself: a rule of it does nothing, or an entry of the closed list is not there."""
+    """Yields the results of faults seeded into the tool itself: a rule that does nothing, or a missing entry of the closed list."""
     for rule in ("ghost", "contract", "attribute", "model", "drop_docs", "exported", "body"):
         kept = getattr(erase.Eraser, rule)
         setattr(erase.Eraser, rule, lambda self, at=None: None)

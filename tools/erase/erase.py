@@ -1,8 +1,8 @@
 #!/usr/bin/env python3
-"""Makes Rust of the proved sources: takes away what is for the prover alone, and writes a closed list of tokens otherwise. docs/ERASURE.md says
-what goes, what is written otherwise, and what is trusted.
+"""Generates Rust from the proved sources: it erases ghost code, and rewrites a closed list of tokens. docs/ERASURE.md says what is erased, what is
+rewritten, and what is trusted.
 
-It writes the modules of the packages below rust/ that MODULES names, in the layout of rustfmt: of each crate the file `generated/CRATE.rs` and those
+It writes the modules of the packages below rust/ that MODULES names, formatted by rustfmt: for each crate the file `generated/CRATE.rs` and the files
 below `generated/CRATE`.
 
 usage: tools/erase/erase.py
@@ -13,7 +13,7 @@ import subprocess
 
 PROJECT = pathlib.Path(__file__).resolve().parents[2]
 RUST = PROJECT / "rust"
-# Of each crate: the folder whose `generated` holds its module, and the module's name at the root of what is compiled there.
+# For each crate: the folder whose `generated` holds its module, and the module's path from the root of the compiled target.
 MODULES = {
     "wat_lex": ("wat-lex/src", "proved"),
     "wat_words": ("wat-parser/src", "words"),
@@ -37,19 +37,19 @@ MODULES = {
     "wat_types": ("wat-modules/src", "types"),
     "wat_imports": ("wat-tokens/tests/requests", "imports"),
 }
-# What is compiled with a shim of its own.
+# The targets that are compiled with their own shim.
 WITH_SHIM = [("wat-lex", "src"), ("wat-format", "src"), ("wat-tokens", "src")]
-# What is written otherwise: the closed list. The first entry that fits counts. SHIM is the path of the shim, STD that of what it leaves to Rust,
-# SELF that of the source's crate.
+# The closed list of rewritten tokens. The first entry that matches is used. SHIM is the path of the shim, STD that of the parts of `std` that the
+# shim leaves to Rust, and SELF that of the source's crate.
 WRITTEN = {
-    # The package has tests of its own.
+    # The package has its own tests.
     "#[cfg(test)] mod tests;": "",
     # Rust has no models, and drops each value.
     "use std::marker::Model;": "",
     "+ Drop": "",
     ": Drop,": ",",
     ": Drop>": ">",
-    # What takes memory from an allocator, and may be refused, is the shim's.
+    # Everything that allocates from an allocator, and can fail, is in the shim.
     "std::alloc": "SHIM::alloc",
     "std::borrow": "SHIM::borrow",
     "std::collections": "SHIM::collections",
@@ -62,24 +62,24 @@ WRITTEN = {
     "format!(in": "try_format!(",
     "vec![in": "try_vec![",
     ".join(alloc,": ".join_in(alloc,",
-    # A clone of any type can't be refused in Rust.
+    # In Rust a clone of any type cannot return an allocation failure.
     ".kind.clone()?": ".kind.clone()",
-    # A formatter has its writer as a parameter in Rattle, and none in Rust.
+    # A formatter has its writer as a type parameter in Rattle, but not in Rust.
     "<W: fmt::Write>": "",
     "fmt::Formatter<W>": "fmt::Formatter<'_>",
-    # What reaches outside of the process takes a handle of it, which a program is given.
+    # Effects outside of the process need a handle, which a program receives as an argument.
     "println!(rt;": "try_println!(rt;",
     "eprintln!(rt;": "try_eprintln!(rt;",
     "fn main(rt:": "pub fn main(rt:",
-    # Who calls from C owes what Rattle's compiler has as proved.
+    # A caller from C must ensure the precondition that Rattle's compiler has proved.
     "let text = unsafe { str::from_utf8_unchecked(text) };": "// SAFETY: rule 2 of wat.h.\nlet text = unsafe { str::from_utf8_unchecked(text) };",
     # The syntax trees of `wast` write a `Span` by its field.
     "pub(crate) offset: usize": "#[doc(hidden)]\npub offset: usize",
-    # The roots of all other paths; those of the other crates are `path_of`.
+    # The roots of all other paths. Those of the other crates are given by `path_of`.
     "std::": "STD::",
     "crate::": "SELF::",
 }
-# The parameters of a function that C calls: a form of the source, what C passes, and the statement that makes the first of it.
+# The parameters of a function that C calls: a pattern of the source, the parameters for C, and the statement that constructs the first from these.
 PASSED = [
     (
         r"(\w+): &\[(\w+)\]",
@@ -97,20 +97,20 @@ PRELUDE = "use SHIM::prelude::*;\n"
 
 
 def target_of(crate):
-    """What is compiled at once: the package's library, or one of its tests."""
+    """Returns the target in which a crate is compiled: its package's library, or one of the package's tests."""
     package, kind, *inside = MODULES[crate][0].split("/")
     return package, inside[0] if kind == "tests" else kind
 
 
 def path_of(crate, seen_from):
-    """The path of a crate's module, seen from another's."""
+    """Returns the path of a crate's module, seen from another crate."""
     package, kind = target_of(crate)
     root = "crate" if target_of(seen_from) == (package, kind) else package.replace("-", "_")
     return f"{root}::{MODULES[crate][1]}"
 
 
 def module_of(crate):
-    """The module that is generated from a crate: its file without an ending, and the folder of the files below it."""
+    """Returns the path of the module that is generated from a crate: its file without an extension, and the folder of the files below it."""
     return RUST / MODULES[crate][0] / "generated" / crate
 
 
@@ -119,7 +119,7 @@ def shim_of(crate):
 
 
 def std_of(crate):
-    """What has the rest of `std`. The shims of wat-format and wat-tokens have all of it: readers, files and streams are no part of Rust's `core`."""
+    """Returns the path of the rest of `std`: the shim in wat-format and wat-tokens, as readers, files and streams are not part of Rust's `core`."""
     return shim_of(crate) if target_of(crate)[0] in ("wat-format", "wat-tokens") else "core"
 
 
@@ -141,7 +141,7 @@ CLOSING = {"(": ")", "[": "]", "{": "}"}
 
 
 class Refused(Exception):
-    """The source has something that the tool does not know."""
+    """A construct in a source that the tool does not know."""
 
 
 def tokens_of(text):
@@ -149,22 +149,22 @@ def tokens_of(text):
 
 
 def solid_of(text):
-    """The tokens of a text but for space."""
+    """Returns the tokens of a text except whitespace."""
     return [token for kind, token in tokens_of(text) if kind != "space"]
 
 
 class Source:
-    """The tokens of a source. What finds the end of something answers the place after it, or None where it is not there."""
+    """The tokens of a source. A method that finds the end of a construct returns the index after it, or `None` if the construct is not there."""
 
     def __init__(self, text):
-        # At the end there are tokens of nothing, so that a look ahead needs no bounds.
+        # Two empty tokens at the end, so that lookahead needs no bounds checks.
         self.tokens = tokens_of(text) + [("end", "")] * 2
 
     def is_token(self, at, text):
         return self.tokens[at][1] == text
 
     def solid(self, at):
-        """The first place from here on that has neither space nor comment."""
+        """Returns the first index from `at` on that is neither whitespace nor a comment."""
         while self.tokens[at][0] in ("space", "comment", "doc"):
             at += 1
         return at
@@ -173,7 +173,7 @@ class Source:
         return self.solid(at + 1)
 
     def are(self, at, texts):
-        """The end of these tokens."""
+        """Returns the end of these tokens, or `None` if they are not at `at`."""
         for text in texts:
             at = self.solid(at)
             if not self.is_token(at, text):
@@ -182,7 +182,7 @@ class Source:
         return at
 
     def group(self, at):
-        """The end of the group that an opening bracket begins."""
+        """Returns the end of the group that begins with an opening bracket at `at`. Raises `Refused` if the brackets do not match."""
         wanted = []
         for place in range(at, len(self.tokens)):
             text = self.tokens[place][1]
@@ -195,7 +195,7 @@ class Source:
         raise Refused(f"brackets that do not fit: {self.tokens[at:at + 20]}")
 
     def ghost(self, at):
-        """The end of a ghost item: its `;` or `,`."""
+        """Returns the end of a ghost item, after its `;` or `,`. Raises `Refused` if it has a quote or no end."""
         while not (self.is_token(at, ";") or self.is_token(at, ",")):
             kind, text = self.tokens[at]
             if kind in ("string", "char", "end"):
@@ -204,7 +204,7 @@ class Source:
         return at + 1
 
     def clause(self, at):
-        """The end of a clause of a contract."""
+        """Returns the end of a clause of a contract, or `None` if there is none."""
         if not (self.is_token(at, "requires") or self.is_token(at, "ensures")):
             return None
         at = self.next(at)
@@ -212,14 +212,14 @@ class Source:
         return self.group(at) if self.is_token(at, "{") else None
 
     def contract(self, at):
-        """The end of all the clauses of a contract, with the comments between them."""
+        """Returns the end of all the clauses of a contract, with the comments between them, or `None` if there is none."""
         end = None
         while (after := self.clause(at)) is not None:
             end, at = after, self.solid(after)
         return end
 
     def model(self, at):
-        """The end of an `impl Model for`."""
+        """Returns the end of an `impl Model for`, or `None` if there is none."""
         at = self.next(at)
         if self.is_token(at, "<"):
             while not self.is_token(at, ">"):
@@ -233,7 +233,7 @@ class Source:
 
 
 def contract_docs(text):
-    """A contract as documentation, as far to the left as it goes."""
+    """Returns a contract as doc comments, without its common indentation."""
     first, *others = text.split("\n")
     margin = min((len(line) - len(line.lstrip()) for line in others if line.strip()), default=0)
     lines = [f"/// {line}".rstrip() for line in [first] + [line[margin:] for line in others]]
@@ -241,7 +241,7 @@ def contract_docs(text):
 
 
 class Eraser:
-    """Writes what is left of a source."""
+    """The generation of Rust from one source."""
 
     def __init__(self, text, crate):
         self.source = Source(text)
@@ -250,7 +250,7 @@ class Eraser:
         others = {f"{other}::": f"{path_of(other, crate)}::" for other in MODULES}
         self.written = [(solid_of(before), self.rooted(after)) for before, after in (WRITTEN | others).items()]
         self.links = {f"]({before}": f"]({self.rooted(after)}" for before, after in ({"crate::": "SELF::"} | others).items()}
-        # What the body begins with of a function that C calls.
+        # The statements at the beginning of the body of a function that C calls.
         self.beginning = ""
         self.rules = {"ghost": self.ghost, "requires": self.contract, "ensures": self.contract, "#": self.attribute, "impl": self.model}
         self.rules |= {"extern": self.exported, "{": self.body}
@@ -267,7 +267,7 @@ class Eraser:
         return text[:head] + self.rooted(PRELUDE) + text[head:]
 
     def step(self, at):
-        """Writes what the token here becomes, and answers where the next one is."""
+        """Writes the replacement of the token at `at`, and returns the index of the next one."""
         kind, text = self.source.tokens[at]
         if kind in ("word", "sign"):
             after = self.rules[text](at) if text in self.rules else None
@@ -282,7 +282,7 @@ class Eraser:
         return at + 1
 
     def otherwise(self, at):
-        """Writes an entry of the closed list. A word is none within a path."""
+        """Writes an entry of the closed list, and returns the index after it, or `None` if none matches. A word within a path does not match."""
         kind, text = self.source.tokens[at]
         if kind == "word" and self.out and self.out[-1][1] in ("::", "."):
             return None
@@ -303,7 +303,7 @@ class Eraser:
         return end
 
     def drop_docs(self):
-        """Takes back the documentation of an item that goes, which is in the lines directly before it."""
+        """Removes the doc comments of an erased item, which are in the lines directly before it."""
         while self.out and (self.out[-1][0] == "space" and self.out[-1][1].count("\n") < 2 or self.out[-1][1].startswith("///")):
             self.out.pop()
         self.out.append(("space", "\n"))
@@ -325,7 +325,7 @@ class Eraser:
 
     def contract(self, at):
         end = self.source.contract(at)
-        # A closure's contract, which is in a function's body, has no documentation to be in.
+        # The contract of a closure is in a function's body, so it has no doc comment to be in.
         if end is not None and ("sign", "{") not in self.out[self.last("fn", len(self.out)) :]:
             place = self.start_of_function()
             documented = any(kind == "doc" for kind, _ in self.out[max(place - 2, 0) : place])
@@ -333,7 +333,10 @@ class Eraser:
         return end
 
     def exported(self, at):
-        """Writes the signature of a function that C calls, with what C passes. That a pointer is one is the caller's to see to: it is `unsafe`."""
+        """Writes the signature of a function that C calls, with its parameters for C. Returns the index after it, or `None` if there is none.
+
+        The function is `unsafe` if it has a pointer, whose validity the caller must ensure.
+        """
         name = self.source.are(at, ["extern", '"C"', "fn"])
         if name is None:
             return None
@@ -348,7 +351,7 @@ class Eraser:
         return "".join(text for _, text in self.source.tokens[at:end])
 
     def passed(self, parameter):
-        """What C passes for a parameter of the source."""
+        """Returns the parameters for C of a parameter of the source, and adds the statement that constructs it to `beginning`."""
         for form, passed, statement in PASSED:
             if found := re.fullmatch(form, parameter.rstrip(",")):
                 self.beginning += found.expand(statement)
@@ -356,7 +359,7 @@ class Eraser:
         return parameter.rstrip(",")
 
     def body(self, at):
-        """Begins the body of a function that C calls."""
+        """Writes the beginning of the body of a function that C calls, and returns the index after its brace, or `None` for any other block."""
         if not self.beginning:
             return None
         self.out += [("sign", "{"), ("space", "\n"), *tokens_of(self.beginning)]
@@ -364,13 +367,13 @@ class Eraser:
         return at + 1
 
     def last(self, text, at):
-        """The last place before this one where the token was written."""
+        """Returns the last index before `at` at which the token was written."""
         while self.out[at - 1][1] != text:
             at -= 1
         return at - 1
 
     def start_of_function(self):
-        """Where the function whose signature was just written begins: at its attributes and comments, after its documentation."""
+        """Returns the index at which the function begins whose signature was just written: at its attributes and comments, after its doc comments."""
         at = begins = self.last("fn", len(self.out))
         while at > 0:
             at -= 1
@@ -385,7 +388,7 @@ class Eraser:
 
 
 def sources():
-    """Each source, its crate and the file that it becomes. Tests become none."""
+    """Yields each source, its crate and the file that is generated from it. Nothing is generated from tests."""
     for crate in MODULES:
         folder, module = PROJECT / "crates" / crate / "src", module_of(crate)
         for source in sorted(path for path in folder.rglob("*.rt") if path.name != "tests.rt"):
@@ -394,13 +397,13 @@ def sources():
 
 
 def made(source, crate):
-    """What the tool makes of a source, without a layout."""
+    """Returns the Rust that is generated from a source, unformatted."""
     mark = f"// @generated by tools/erase from {source.relative_to(PROJECT)}; do not edit.\n"
     return mark + Eraser(source.read_text(encoding="utf-8"), crate).erased()
 
 
 def laid_out(text):
-    """The text in the layout of rustfmt, by the settings of the packages."""
+    """Returns the text formatted by rustfmt, with the settings of the packages."""
     return subprocess.run(["rustfmt", "--edition", "2024"], input=text, cwd=RUST, check=True, capture_output=True, encoding="utf-8").stdout
 
 

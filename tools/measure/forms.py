@@ -1,23 +1,23 @@
 #!/usr/bin/env python3
-"""Writes whole texts of the forms that programs, people and tests give them, for measurements. All is made here, at random by one seed.
+"""Writes texts in the forms that programs, people and tests give them, for benchmarks. All of them are generated at random from a fixed seed.
 
 usage: forms.py FOLDER [MEGABYTES]
 
 flat         functions as `wasm2wat` prints them, an instruction a line
-crlf         the same, its lines ended by CR LF
-minified     the same on one line, with no blank that is not needed
+crlf         the text of flat with CR LF as line ends
+minified     similar functions on one line, with no unnecessary blank
 folded       functions of deep folded expressions, one a line
-mangled      calls and locals with mangled names of C++
-quoted       the same names, written out in quotes
-data         segments of data, half of them escapes
+mangled      calls of functions with mangled names of C++
+quoted       calls of functions with quoted names of C++
+data         segments of random bytes: printable characters, and escapes for the others
 data_one     one string of escapes
 asserts      scripts of short asserts, among them hexadecimal floats
 binary       scripts of modules in binary, in strings
-comments     functions with comments above them, two thirds of the text
-unicode      functions, comments and strings in Chinese, Japanese and Russian
+comments     functions with comments above them, 80% of the text
+unicode      functions, with comments and strings in Chinese, Japanese and Russian
 files/N.wat  300 modules under 4 kB, each a text of its own
-refused_N    240 kB of integers, the 20th or the 20,000th of which is a word
-fault_20     the same with a fault in the place of the 20th
+refused_N    240 kB of integers, of which the 20th or the 20,000th is replaced by a keyword
+fault_20     240 kB of integers, of which the 20th is replaced by a lexical error
 """
 import pathlib
 import random
@@ -109,7 +109,7 @@ def said():
 
 
 def many(piece, size):
-    """Pieces until they have the size."""
+    """Returns random pieces of at least `size` bytes together."""
     parts, length = [], 0
     while length < size:
         parts.append(piece())

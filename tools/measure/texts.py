@@ -1,13 +1,13 @@
 #!/usr/bin/env python3
-"""Writes texts for measurements that tools/kinds.py and tools/generate.py have not.
+"""Writes texts for benchmarks that tools/kinds.py and tools/generate.py do not write.
 
 usage: texts.py FOLDER GENERATED
 
-annotated     GENERATED with a group of an annotation after each tenth line
-dense         10 MB of short lines with such groups, nested and quoted ones among them
-u32_..        a million integers of 32 bits: decimal, hexadecimal, and in all spellings
+annotated     GENERATED with an annotation after each tenth line
+dense         10 MB of short lines with annotations, nested and quoted ones among them
+u32_..        a million 32-bit integers: decimal, hexadecimal, and in all notations
 groups        300,000 groups
-line_..       a line of so many bytes, with a fault at its end
+line_..       a line of 1 kB, 100 kB or 1 MB, with a lexical error at its end
 """
 import pathlib
 import random
