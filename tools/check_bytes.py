@@ -177,7 +177,7 @@ def layouts(room):
 
 
 def files(room):
-    """Checks commands on five different files, of which two are already formatted."""
+    """Checks commands on 5 different files, of which 2 are already formatted."""
     texts = {f"{i}.wat": "".join(lines(3_900 + i)).encode().replace(b" (param", b"\n\n   (param") for i in range(5)}
     for i in (1, 3):
         texts[f"{i}.wat"] = room.run(["fmt"], texts[f"{i}.wat"])[1]

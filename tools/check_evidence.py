@@ -291,7 +291,7 @@ def spread(text):
 
 
 def without_commas(words):
-    """Returns the words without trailing commas before a closing bracket, and their original indices."""
+    """Returns the tokens without trailing commas before a closing bracket, and their original indices."""
     kept = [i for i, it in enumerate(words) if not (it == "," and words[i + 1 : i + 2] and words[i + 1] in ")]}")]
     return [words[i] for i in kept], kept
 
@@ -301,7 +301,7 @@ class Search:
 
     def __init__(self):
         self.found, self.met = [], collections.Counter()
-        # values of constants, keyed by file and name, and by name alone
+        # values of constants, keyed by file and name, and also by name only
         self.constants = collections.defaultdict(list)
 
     def places(self, code, lists):

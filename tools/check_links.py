@@ -1,6 +1,6 @@
 #!/usr/bin/env python3
 """Checks the documents: each link must lead to a file, and to a heading if it has an anchor, and a link of a package for a registry must stay in the
-package; README must lead to each document in at most two links; a table cell may have at most twelve words; README may have at most 110 lines; and
+package; README must lead to each document in at most 2 links; a table cell may have at most 12 words; README may have at most 110 lines; and
 none of a few worn words may occur.
 
 usage: tools/check_links.py

@@ -8,16 +8,16 @@ rust/wat-modules/examples/module.rs. If it does not implement some forms, which 
 mutants that have one may be rejected.
 
 A module passes if its bytes are those of `wat2wasm`, or if tools/module_departures.py explains the difference. `wat2wasm` 1.0.32 writes
-- a block with `(type x)` in the short form if the type has one, which 6.5.2 does not allow: PROGRAM is then given the type's short form;
+- a block with `(type x)` in the short form if the type has one, which 6.5.2 does not allow: PROGRAM is then given the text with the short form;
 - an index of a table from 64 on, after instructions of tables, in two bytes: both are then given lower indices;
 - no data count in a module without data segments, even if an instruction needs it (5.5.16).
-It also rejects `table.get`, `set`, `size`, `grow` and `fill` without an index: it is then given the text with 0.
+It also rejects `table.get`, `set`, `size`, `grow` and `fill` without an index: it is then given the text with the index 0.
 
 ENCODER is the program that tools/wast_encoder.sh builds. Its results are reported for texts on which PROGRAM and `wat2wasm` differ. If both reference
 implementations agree with each other and not with PROGRAM, that is a fault, except for mutants with missing forms, later proposals or older syntax,
 as module_departures.py lists them. A known difference is also a fault if all three produce bytes, and wast's are not equivalent to PROGRAM's. The
-three are compared section by section, except for wast's name section, as `wat2wasm` writes none. Two modules are
-`the same, spelled otherwise` if their sections differ only in
+three are compared section by section, except for wast's section of names, as `wat2wasm` writes none. Modules are `the same, spelled otherwise` if
+their sections differ only in
 - the flags of an element segment: wast keeps an explicit table 0, and elements as instructions; `wat2wasm` writes the short form;
 - the type of a block, by its index or short; and an index in more bytes than necessary.
 Wast does not accept an underscore in a memory argument, or a folded block in a segment without `offset` or `item`. It is given changed texts instead.

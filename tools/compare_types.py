@@ -1,7 +1,7 @@
 #!/usr/bin/env python3
 """Compares `wat_tokens types` with the reference implementation `wat2wasm` (Debian's package wabt) on generated modules of function types.
 
-Both must write the same bytes for each of fifty modules of up to forty types. With --times, both then compile one module of 100,000 types, in turn,
+Both must write the same bytes for each of 50 modules of up to 40 types. With --times, both then compile one module of 100,000 types, in turn,
 and the best times are printed; each run of `wat2wasm` takes a minute.
 
 usage: compare_types.py PROGRAM [--times]
@@ -19,7 +19,7 @@ MODULES, MOST_TYPES, MANY_TYPES, PASSES = 50, 40, 100_000, 3
 
 
 def listed(rng, word):
-    """Returns a group with the keyword and up to four value types."""
+    """Returns a group with the keyword and up to 4 value types."""
     return f"({word}{''.join(rng.choice(GAPS) + rng.choice(VALS) for _ in range(rng.randrange(5)))})"
 
 

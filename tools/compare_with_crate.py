@@ -2,7 +2,7 @@
 """Compares wat_tokens with a program that uses the crate wast: the token list, the exit status, and the message of a lexical error.
 
 The program is tools/oracle, `cd tools/oracle && cargo build --release`. Both read the same texts, each with and without `--allow-confusing`: the
-given files, all files below a given folder, and mutants of each. A mutant has one to three random changes: it is cut, or a few characters are
+given files, all files below a given folder, and mutants of each. A mutant has 1 to 3 random changes: it is cut, or a few characters are
 deleted, duplicated or replaced, or a fragment is inserted. A text on which they differ is kept in the folder `differ`, and the exit status is then 1.
 
 usage: compare_with_crate.py [--mutants N] [--seed N] [--workers N] WAT_TOKENS ORACLE PATH..

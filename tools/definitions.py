@@ -129,7 +129,7 @@ def read(path):
 
 
 def find(path, name):
-    """Returns the definition that a name of a module resolves to, or its path if it is outside of specs/. Exits with a message if there is none."""
+    """Returns the definition that a name of a module resolves to, or its path if it is outside of specs/. Exits if it is unknown."""
     module = read(path)
     if not module:
         return f"{path}.{name}"

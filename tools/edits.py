@@ -10,8 +10,8 @@
 
 A WORD is a crate, a record's name, CRATE/NAME, or the end of a function's path, such as `TableRef::look`.
 
-`try` uses the libraries that a crate depends on in crates/NAME/out, where `rt ci` without names leaves them. The first mutant of a crate takes half a
-minute to one and a half. Each later one takes half of that, as it reuses what they share.
+`try` uses the libraries that a crate depends on in crates/NAME/out, where `rt ci` without names leaves them. The first mutant of a crate takes 30 to
+90 seconds. Each later one takes half of that, as it reuses what they share.
 """
 import argparse
 import collections
@@ -92,7 +92,7 @@ class Record:
 
 
 def record_of(crate, lines):
-    """Parses a record. Raises `Fault` if its keys are not complete and in order, or if a value is empty."""
+    """Parses a record. Raises `Fault` if a key is missing or out of order, if a value is empty, or if a flag is not `yes`."""
     pairs = [(key, value.removeprefix(" ")) for key, _, value in (line.partition(":") for line in lines)]
     keys, values = " ".join(key for key, _ in pairs), dict(pairs)
     if not ORDER.fullmatch(keys):
@@ -300,7 +300,7 @@ def libraries(crate):
 
 
 def prove(record, paths, kept):
-    """Checks the functions of these paths, or all if there are none, in a copy of the crate with the mutant, reusing the results in `kept`.
+    """Checks the items of these paths, or all if there are none, in a copy of the crate with the mutant, reusing the results in `kept`.
 
     Returns the exit status and the output.
     """

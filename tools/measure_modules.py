@@ -44,7 +44,7 @@ def escaped(rng, count):
 
 
 def types(i):
-    """Returns eight value types, which are different for each `i` below 65,536."""
+    """Returns 8 value types, which are different for each `i` below 65,536."""
     return " ".join(VALUES[i >> 2 * k & 3] for k in range(8))
 
 

@@ -1,8 +1,8 @@
 #!/usr/bin/env python3
 """Benchmarks `parse` of the syntax trees of wast 222.0.0, including the creation of its buffer and the drop of its tree, on its own lowest layer and
-on rust/wat-parser. The drivers are those that tools/under_wast.sh leaves. Rounds run in turn, and each has the least time of five passes. Prints rows
+on rust/wat-parser. The drivers are those that tools/under_wast.sh leaves. Rounds run in turn, and each has the least time of 5 passes. Prints rows
 for docs/speed/trees.tsv: the least times of the rounds, the ratio of the medians, and the first passes of processes. The objects of a library are
-read as `Wast`, each with its least time of nine.
+read as `Wast`, each with its least time of 9 passes.
 
 usage: measure_trees.py WORK CPU ROUNDS TEXT.. [-- OBJECT..]     WORK and its drivers; texts; short texts, summed up
 """

@@ -16,7 +16,7 @@ REFUSED = {
     "of a `table.copy` of one table, which wat2wasm takes": ("unexpected token", tokens_of.has_one_table),
     "of a type's number with the lists of another type, which wat2wasm takes": ("mismatching type", tokens_of.type_numbers),
 }
-# Texts that wast accepts too, of older syntax or later proposals: the program's message, and a test of the tokens.
+# Texts of older syntax or later proposals that only the program rejects: its message, and a test of the tokens.
 REFUSED_ALONE = {
     "of limits with a type, which both judges take": ("unexpected token", tokens_of.has_index_type),
     "of a segment's memory or table without parentheses, which both judges take": ("unexpected token", tokens_of.has_bare_use),
@@ -45,7 +45,7 @@ CONDITIONS = "of an `if` with more conditions than one, which wat2wasm refuses"
 UNFOUND = "of the number of a type that a use brings, which wat2wasm does not find"
 STOPPED = "of a segment with a label's name or a type use, at which an assertion of wat2wasm fails"
 
-# Texts for which both write different bytes.
+# Texts for which the program and `wat2wasm` write different bytes.
 SHORT = "of a block of `(type x)`, which wat2wasm writes short"
 UNTYPED = "of a block of the number of a type that a use brings, which wat2wasm writes as one without a type"
 EMPTY = "of an element without instructions, which wat2wasm leaves out"

@@ -18,7 +18,7 @@ KNOWN = {*range(0x12), 0x1A, 0x1B, 0x1C, *range(0x20, 0x27), *range(0x28, 0xC5),
 
 
 class Unknown(Exception):
-    """Bytes that are not parsed."""
+    """An error at bytes that are not parsed: an unknown opcode, an unknown kind of type or element, or a body of another size."""
 
 
 class Reader:

@@ -32,12 +32,12 @@ FORMS = {
     "bare": [],
 }
 OFTEN = 3
-# The bounds of table indices: `wat2wasm` 1.0.32 writes those from 64 on as signed integers.
+# The bounds of random table indices, of which one in 61 is above 64: `wat2wasm` 1.0.32 writes indices from 64 on as signed integers.
 TABLES = [64] * 60 + [200]
 
 
 def rows_of(forms):
-    """Returns the keywords of plain instructions, each with its kind of immediate. Those of the forms are repeated `OFTEN` times."""
+    """Returns the keywords of plain instructions, each with its kind of immediate. Those of the forms occur `OFTEN` times, to be chosen more often."""
     others = {row for rows in FORMS.values() for row in rows}
     words = {word for word, _ in others if word != "select"}
     rows = [row for row in ROW.findall(TABLE.read_text(encoding="utf-8")) if row[0] not in words]
@@ -45,7 +45,7 @@ def rows_of(forms):
 
 
 class Choices(random.Random):
-    """Random choices, with the forms and the plain instructions that are generated."""
+    """A source of random choices, with the forms and the plain instructions to generate."""
 
     forms, rows = frozenset(), []
 
@@ -71,7 +71,7 @@ class Choices(random.Random):
 
 
 def choices(seed, forms):
-    """Returns random choices of the forms from a seed."""
+    """Returns the source of random choices for a seed and forms."""
     rng = Choices(seed)
     rng.forms, rng.rows = frozenset(forms), rows_of(forms)
     return rng
@@ -279,7 +279,7 @@ EXPORTED = ['"e{at}"', '"\\41\\n\\t\\""', '"\u00e9\\c3\\a9"', '""', '"\\u{{1f600
 
 
 def some_names(rng):
-    """Returns the names of up to four items of each kind, and of up to three segments of each kind to which instructions may refer."""
+    """Returns the names of up to 4 items of each kind, and of up to 3 segments of each kind to which instructions may refer."""
     names = {kind: [rng.choice([None, f"${kind[0]}{at}", f"$a.b-{at}!"]) for at in range(rng.choice([0, 0, 1, 2, 3, 4]))] for kind in KINDS + ("type",)}
     for form, kind in SEGMENTS.items():
         if form in rng.forms:
@@ -352,7 +352,7 @@ STRINGS = ['""', '"a"', '"\\00\\ff\\n"', '"\u00e9"', '"' + "0123456789" * 7 + '"
 
 
 def strings(rng):
-    """Returns up to three strings."""
+    """Returns up to 3 strings."""
     return [rng.choice(STRINGS) for _ in range(rng.choice([0, 1, 1, 2, 3]))]
 
 
@@ -370,7 +370,7 @@ def used(rng, names, kind):
 
 
 def how_many(rng, names, kind):
-    """Returns the number of segments of a kind."""
+    """Returns the number of segments of a kind to generate."""
     return len(names[kind]) if kind in names else rng.choice([0, 0, 1, 2, 3])
 
 
@@ -391,21 +391,21 @@ def data_segments(rng, names):
 
 
 def functions(rng, names):
-    """Returns up to three indices of functions."""
+    """Returns up to 3 indices of functions."""
     if not names["func"]:
         return []
     return [rng.index(names["func"]) for _ in range(rng.choice([0, 1, 2, 3]))]
 
 
 def reference(rng, names, mixed):
-    """Returns an element that is one reference: to a function, or null if `mixed` allows it or without functions."""
+    """Returns an element that is one reference: to a function, or a null reference if `mixed` is set or the module has no functions."""
     null = mixed and rng.random() < 0.5 or not names["func"]
     one = ["ref.null", rng.choice(["func", "extern"])] if null else ["ref.func", rng.index(names["func"])]
     return rng.choice([["("] + one + [")"], ["(", "item"] + one + [")"], ["(", "item", "("] + one + [")", ")"]])
 
 
 def elements(rng, names):
-    """Returns elements as instructions. None is an empty `item`, as `wat2wasm` drops these."""
+    """Returns elements as instructions. An empty `item` does not occur, as `wat2wasm` drops it."""
     made, mixed = [], "references" in rng.forms and rng.choice([True, True, False])
     for _ in range(rng.choice([0, 1, 2, 3])):
         if "references" in rng.forms and (not mixed or rng.random() < 0.8):

@@ -335,5 +335,5 @@ def has_more_conditions(tokens):
 
 
 def has_word(words, tokens):
-    """Returns `True` if one of these words is among the tokens."""
+    """Returns `True` if one of these keywords is among the tokens."""
     return not words.isdisjoint(tokens)

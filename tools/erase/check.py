@@ -1,7 +1,7 @@
 #!/usr/bin/env python3
 """Checks the output of tools/erase/erase.py by independent means: it walks over the tokens of a source and of the file that is generated from it in
 parallel, and explains each difference by a rule of docs/ERASURE.md. A difference that no rule explains is a fault. It has its own scanner and its own
-list, and takes from the tool only the output to check and the names of the files.
+list, and uses from the tool only the output to check and the names of the files.
 
 usage: tools/erase/check.py               checks the tool's current output for each source
        tools/erase/check.py --committed   also checks the committed files: each is the tool's current output, and is explained
@@ -22,7 +22,7 @@ CLOSING = (")", "]", "}", ">")
 # A parenthesis after one of these does not begin a call.
 NO_CALLS = ("as", "break", "else", "if", "in", "let", "match", "mut", "ref", "return", "while")
 SAME_IN_CORE = ("cmp", "fmt", "hash", "marker", "mem", "result", "str", "{")
-# Modules that only the sources of the program use, and that `core` does not have.
+# Modules of `std` that `core` does not have: the sources of the formatter and of the program use them.
 STREAMS = ("env", "fs", "io", "path", "process", "rt")
 
 # The closed list of rewritten tokens: those of the source, and those that must replace them.
@@ -88,11 +88,11 @@ MADE = re.compile(
     r"{ core : : slice : : from_raw_parts(?P<mut>_mut)? \( (?P=slice) , (?P=slice)_len \) } ;|let (?P<handle>\w+) = Global ;"
 )
 
-# On some targets a `usize` has 32 bits. An integer above `u32::MAX`, and what is shifted by 32 bits or more, must have one of these types.
+# On some targets a `usize` has 32 bits. An integer above `u32::MAX`, and one that is shifted by 32 bits or more, must have one of these types.
 WIDE_TYPES = {"u64", "i64", "u128", "i128"}
 INTEGER = re.compile(r"(?P<digits>0[box][0-9A-Fa-f_]+?|[0-9][0-9_]*?)_?(?P<type>[iu](?:8|16|32|64|128|size))?")
 OPERATORS = set("<>=!|&^+-*/%")
-# The functions with such an integer whose type the tokens before it do not show, each with the reason why it is wide.
+# The functions with such an integer whose type the tokens before it do not determine, each with the reason why it is wide.
 WIDE = {
     ("crates/wat_floats/src/hexadecimal.rt", "with_digit"): "the field `count` is a u64",
     ("crates/wat_floats/src/precision.rt", "exponent_bit"): "it returns a u64",
@@ -587,7 +587,10 @@ def made_today():
 
 
 def committed_faults():
-    """Yields the faults of the committed files: each must be the tool's current output, byte for byte if rustfmt is installed."""
+    """Yields the faults of the committed files: each must be the tool's current output, byte for byte if rustfmt is installed.
+
+    A committed file that is not generated from a source is also a fault.
+    """
     wanted, has_rustfmt = set(), shutil.which("rustfmt") is not None
     for source, crate, name, target, made in made_today():
         wanted.add(target)

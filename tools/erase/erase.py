@@ -71,7 +71,7 @@ WRITTEN = {
     "println!(rt;": "try_println!(rt;",
     "eprintln!(rt;": "try_eprintln!(rt;",
     "fn main(rt:": "pub fn main(rt:",
-    # A caller from C must ensure the precondition that Rattle's compiler has proved.
+    # A caller from C must ensure what a caller from Rattle has proved: the text is valid UTF-8.
     "let text = unsafe { str::from_utf8_unchecked(text) };": "// SAFETY: rule 2 of wat.h.\nlet text = unsafe { str::from_utf8_unchecked(text) };",
     # The syntax trees of `wast` write a `Span` by its field.
     "pub(crate) offset: usize": "#[doc(hidden)]\npub offset: usize",
