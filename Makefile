@@ -1,25 +1,25 @@
-# Builds and installs the C library, with its header and its descriptions for pkg-config and CMake, and the program. cargo builds the library,
-# static and shared, on each system that Rust supports. BY=rattle installs the static library of Rattle's own compilers, for x86-64 Linux; once it
-# is built it is not built again.
+# Builds and installs the C library, with its header and its descriptions for pkg-config and CMake, and the program. cargo builds the static and the
+# shared library on every system that Rust supports. BY=rattle installs the static library built by Rattle's own compilers, for x86-64 Linux; an
+# archive that exists is not built again.
 #
 #   make install PREFIX=/usr/local
 #   cc program.c $(pkg-config --cflags --libs wat)
 #
-# Without a registry CARGO is cargo with its options: CARGO='cargo --offline --config ..'.
+# Without a crate registry, CARGO is cargo with its options: CARGO='cargo --offline --config ..'.
 #
 # The other targets run the checks of the repository; `make help` lists them.
 #
 ## make                  the C library: an archive and a shared library
-## make install          both, wat.h, and how pkg-config and CMake find them (PREFIX, DESTDIR; BY=rattle: by Rattle's own compilers)
+## make install          both, wat.h, and the files for pkg-config and CMake (PREFIX, DESTDIR; BY=rattle: built by Rattle's own compilers)
 ## make program          the program and the language server, in rust/target/release
 ## make install-program  both, with a manual page and completions for bash, zsh and fish (PREFIX, DESTDIR)
-## make dist             a release, as a folder (OUT; GATE_LOG=FILE; BY=rattle: archives by Rattle's compilers too)
+## make dist             a release, as a folder (OUT; GATE_LOG=FILE; BY=rattle: also archives built by Rattle's compilers)
 ## make tests            the tests of the Rust packages
-## make checks           what takes a minute or two: edits, documents, names, the version, the erased text
-## make gate             rt ci: proves every crate, tries mutants, runs tests and programs (LOG=FILE: with its log, for make dist)
-## make parts            the parts of all that CI checks: group, name, command
-## make part OF=NAME     runs one of them, or a group; all of them: .ci/run
-## make edits OF=NAME    tries the mutants of a function, of a crate, or of this name
+## make checks           the checks that take a minute or two: mutants apply, documents, names, version, generated Rust
+## make gate             rt ci: proves every crate, kills mutants, runs tests and programs (LOG=FILE: also writes its log, for make dist)
+## make parts            lists the parts of CI: group, name, command
+## make part OF=NAME     runs one part or one group; .ci/run runs all of them
+## make edits OF=NAME    tries the mutants of a function, of a crate, or the mutant of this name
 ## make readme           runs the commands of README.md and docs/COMMAND-LINE.md
 
 PREFIX ?= /usr/local
@@ -43,7 +43,7 @@ folder := crates/wat_parser_c/out
 archive := $(folder)/libwat.a
 all: $(archive)
 
-# Both archives as one, so that a program links one file.
+# Merges both archives into one, so that a program links one file.
 $(archive):
 	tools/build_c.sh
 	cd $(folder) && rm -f libwat.a && printf 'create libwat.a\naddlib libwat_parser_c.a\naddlib liblibc_c.a\nsave\nend\n' | ar -M
@@ -54,7 +54,7 @@ else
 
 folder := $(CARGO_TARGET_DIR)/release
 archive := $(folder)/libwat_parser_c.a
-# The system's libraries that the archive needs, as rustc prints them, except the one that a C compiler adds itself, under another name with -static.
+# The system libraries that the archive needs, as rustc prints them, except -lgcc_s: a C compiler adds it itself, under another name with -static.
 PRIVATE = $(filter-out -lgcc_s,$(shell cat $(folder)/libwat_parser_c.libs))
 ifeq ($(shell uname -s),Darwin)
 built := libwat_parser_c.dylib
@@ -80,7 +80,7 @@ install-shared: all
 
 endif
 
-# Adds the shared library to the cache of Linux's loader. Says what a program needs if the loader does not find it afterwards.
+# Adds the shared library to the cache of Linux's loader. Prints a hint if the loader does not find the library afterwards.
 define update_cache
 [ "$$(uname -s)" != Linux ] || { PATH=$$PATH:/sbin:/usr/sbin; \
     [ "$$(id -u)" != 0 ] || ! command -v ldconfig > /dev/null || ldconfig; \
@@ -93,7 +93,7 @@ install: all install-shared
 	install -m 644 $(archive) $(libraries)/libwat.a
 	@$(MAKE) --no-print-directory install-descriptions
 
-# Installs the header, and the descriptions for pkg-config and CMake. PKG_PREFIX is the prefix as wat.pc has it.
+# Installs the header, and the descriptions for pkg-config and CMake. PKG_PREFIX is the prefix written into wat.pc.
 PKG_PREFIX ?= $(PREFIX)
 fill = sed 's|@PREFIX@|$(PKG_PREFIX)|; s|@VERSION@|$(version)|; s|@PRIVATE@|$(PRIVATE)|'
 install-descriptions:

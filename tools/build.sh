@@ -1,5 +1,5 @@
 #!/usr/bin/env bash
-# Proves and builds a program of the repository, and prints where it is: tools/build.sh NAME. Where BUILT is set, it has been built already.
+# Proves and builds a program of the repository, and prints its path: tools/build.sh NAME. If BUILT is set, the program is already built.
 set -eu
 cd "$(dirname "$0")/.."
 [ -n "${BUILT:-}" ] || (cd "crates/$1" && rt run < stdin > /dev/null)

@@ -1,6 +1,6 @@
 #!/usr/bin/env bash
-# Proves and builds the static library, and puts beside it the small C library of Rattle's kit, by which it asks for memory. Prints the
-# folder of both archives.
+# Proves and builds the static library, and copies the small C library of Rattle's toolchain, which it uses to allocate, to the same folder. Prints
+# the folder of both archives.
 #
 # usage: tools/build_c.sh
 set -eu

@@ -1,10 +1,10 @@
 #!/usr/bin/env bash
-# Runs a cargo that builds the standard library from source, for targets of which Debian has no binary one. By default it is Debian's: cargo-web,
-# rustc-web and rust-web-src. Targets and what else they need: i686-unknown-linux-gnu gcc-multilib, wasm32-unknown-unknown lld-22, wasm32-wasip1 lld-22
-# and wasi-libc.
+# Runs a cargo that builds the standard library from source, for targets for which Debian has no binary of it. The default is Debian's cargo:
+# cargo-web, rustc-web and rust-web-src. The targets also need: i686-unknown-linux-gnu gcc-multilib, wasm32-unknown-unknown lld-22, wasm32-wasip1
+# lld-22 and wasi-libc.
 #
-#   RUST_BIN=FOLDER       the folder of cargo and rustc, /usr/bin if it is not set
-#   CRATES_FOLDER=FOLDER  the crates that cargo takes, each in a folder of its own, if no registry is reachable and cargo's configuration has none
+#   RUST_BIN=FOLDER       the folder of cargo and rustc; default: /usr/bin
+#   CRATES_FOLDER=FOLDER  the crates that cargo builds with, one folder each, if no registry is reachable and cargo's configuration names none
 #
 # usage: tools/cargo_with_std.sh COMMAND --target TARGET ..   as cargo
 #        tools/cargo_with_std.sh --is-here                    the status is 0 if the compiler and the sources are here
@@ -19,12 +19,12 @@ die() {
     exit 1
 }
 
-# setting KEY: a string of cargo's configuration, nothing if it is not set
+# setting KEY: prints a string of cargo's configuration, or nothing if it is not set
 setting() {
     "$bin/cargo" -Z unstable-options config get --format json-value "$1" 2> /dev/null | sed 's/^"\(.*\)"$/\1/' || true
 }
 
-# crates_folder: the folder from which cargo takes crates, nothing if that is a registry
+# crates_folder: prints the folder from which cargo loads crates, or nothing if it uses a registry
 crates_folder() {
     local name
     if [ -n "${CRATES_FOLDER:-}" ]; then
@@ -35,8 +35,8 @@ crates_folder() {
     [ -z "$name" ] || setting "source.$name.directory"
 }
 
-# joined FOLDER: a folder of links to the crates of FOLDER and to those that the standard library depends on. Its name stays as long as these do, so
-# that cargo builds them once.
+# joined FOLDER: prints a folder of links to the crates of FOLDER and to those of the standard library. Its name depends only on these crates, so that
+# cargo builds them once.
 joined() {
     local crates=("$library"/vendor/* "$1"/*) target=${CARGO_TARGET_DIR:-$(dirname "$0")/../rust/target} folder
     mkdir -p "$target"
@@ -49,7 +49,7 @@ joined() {
     echo "$folder"
 }
 
-# linkers: the variables that name the linkers of WebAssembly
+# linkers: sets the variables that name the linkers of WebAssembly
 linkers() {
     local linker
     linker=wasm-ld-$("$bin/rustc" -vV | sed -n 's/^LLVM version: \([0-9]*\).*/\1/p')
@@ -58,8 +58,8 @@ linkers() {
     export CARGO_TARGET_WASM32_UNKNOWN_UNKNOWN_LINKER CARGO_TARGET_WASM32_WASIP1_LINKER
 }
 
-# wasi_flags: the flags by which rustc links with Debian's wasi-libc. That has no pthread_join and pthread_detach, which std names and, as WASI has no
-# threads, never calls.
+# wasi_flags: prints the flags with which rustc links Debian's wasi-libc. That library lacks pthread_join and pthread_detach; std refers to them but
+# never calls them, as WASI has no threads.
 wasi_flags() {
     local folder=/usr/lib/wasm32-wasi
     printf ' -C link-arg=%s' "$folder/crt1-command.o" --unresolved-symbols=ignore-all
@@ -75,7 +75,7 @@ crates=$(crates_folder)
 if [ -n "$crates" ]; then
     crates=$(joined "$crates")
     options=(--offline --config 'source.crates-io.replace-with="joined"' --config "source.joined.directory=\"$crates\"")
-    # The folder's path is in none of the bytes that rustc writes.
+    # Keeps the folder's path out of the bytes that rustc writes.
     flags+=" --remap-path-prefix=$crates=crates"
 fi
 [ -z "$flags" ] || export RUSTFLAGS=$flags

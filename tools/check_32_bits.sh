@@ -1,24 +1,23 @@
 #!/usr/bin/env bash
-# Builds and tests the Rust packages for targets whose `usize` has 32 bits: all of them for i686, which Linux on x86-64 runs, and all for WebAssembly,
-# of whose tests node runs those that start neither threads nor processes. Debug assertions and checks for overflow are on. The proofs are for a
-# `usize` of 64 bits.
+# Builds and tests the Rust packages for targets whose `usize` has 32 bits. All tests run for i686, on Linux for x86-64. For WebAssembly, node runs
+# the tests that start neither threads nor processes. Debug assertions and overflow checks are on. The proofs are for a `usize` of 64 bits.
 #
-#   CARGO_32=COMMAND      a cargo for both targets, tools/cargo_with_std.sh if it is not set; that script names its Debian packages
-#   CRATES_FOLDER=FOLDER  as for that script
+#   CARGO_32=COMMAND      a cargo for both targets; default: tools/cargo_with_std.sh, which lists its Debian packages
+#   CRATES_FOLDER=FOLDER  as for tools/cargo_with_std.sh
 #
 # usage: tools/check_32_bits.sh [i686] [wasm]   both if none is named
 set -euo pipefail
 cd "$(dirname "$0")/.."
 read -ra cargo <<< "${CARGO_32:-$PWD/tools/cargo_with_std.sh}"
 export CARGO_TARGET_DIR=${CARGO_TARGET_DIR:-$PWD/rust/target}/32_bits
-# std is built too: without optimization its tests take minutes, with debug information the build does.
+# std is built too: without optimization its tests take minutes; with debug information its build does.
 export CARGO_PROFILE_DEV_OPT_LEVEL=1 CARGO_PROFILE_DEV_DEBUG=0
 log=$(mktemp)
 trap 'rm -f "$log"' EXIT
-# WASI has neither threads nor processes.
+# Skips the tests that start threads or processes, which WASI lacks.
 without_threads=(-- --skip a_refused_request_ends_the_program --skip no_depth_of_the_text_is_a_depth_of_the_stack)
 
-# run NAME WORD..: runs cargo in rust, and reports how many tests passed; the output is shown if it fails or has no test
+# run NAME ARGUMENT..: runs cargo in rust, and reports the number of tests that passed; prints the output if cargo fails or runs no test
 run() {
     local begun=$SECONDS
     if ! (cd rust && "${cargo[@]}" "${@:2}" > "$log" 2>&1) || ! grep -q '^test .* ok$' "$log"; then
@@ -29,12 +28,12 @@ run() {
     echo "check_32_bits.sh: $1: $(grep -c '^test .* ok$' "$log") tests passed in $((SECONDS - begun)) s: ${*:2}"
 }
 
-# All packages, their examples and documentation.
+# i686: tests all packages, their examples and their documentation
 i686() {
     run i686 test --locked --workspace --target i686-unknown-linux-gnu
 }
 
-# All packages are compiled with their tests; those without threads run.
+# wasm: compiles all packages with their tests, and runs the tests without threads
 wasm() {
     : "${CARGO_TARGET_WASM32_WASIP1_RUNNER:=node --no-warnings $PWD/tools/wasi.mjs}"
     export CARGO_TARGET_WASM32_WASIP1_RUNNER

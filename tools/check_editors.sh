@@ -1,7 +1,7 @@
 #!/usr/bin/env bash
-# The language server of rust/wat-tokens/examples in editors that have no window: Neovim, and Emacs with eglot and with lsp-mode, as tools/editors has
-# their sessions. Each opens a text with a fault, mends it and lays it out; Neovim and lsp-mode ask for the colours too. What is not here is left
-# out, and that is said.
+# Runs the language server of rust/wat-tokens/examples in editors without a window: Neovim, and Emacs with eglot and with lsp-mode, with the sessions
+# of tools/editors. Each session opens a source text with a lexical error, fixes and formats it; Neovim and lsp-mode also request semantic tokens, for
+# colours. An editor that is not installed is skipped and reported.
 #
 # usage: tools/check_editors.sh SERVER
 set -euo pipefail
@@ -11,12 +11,12 @@ room=$(mktemp -d)
 trap 'rm -rf "$room"' EXIT
 faults=0
 
-# wanted BEYOND COLOURS: what a session writes, with this character in its text and these colours or none
+# wanted BEYOND COLOURS: prints the expected output of a session, for a text with the character BEYOND; without COLOURS, none are expected
 wanted() {
     printf '%s\n' "fault 1 invalid character in string '\\n' \"open)" 'no fault' ${2:+"colours $2"} "(module ;; é $1" "  (data (; $1é ;) \"open\")" '  (func nop))'
 }
 
-# session NAME BEYOND COLOURS COMMAND..: a session over a text with this character, which has to write what is wanted
+# session NAME BEYOND COLOURS COMMAND..: runs a session on a text with the character BEYOND, and compares its output with the expected one
 session() {
     local name=$1 beyond=$2 colours=$3
     shift 3
@@ -29,12 +29,12 @@ session() {
     fi
 }
 
-# has_library NAME: whether Emacs has a library
+# has_library NAME: succeeds if Emacs has the library
 has_library() {
     emacs --batch --eval "(progn (package-initialize) (kill-emacs (if (locate-library \"$1\") 0 1)))" 2> /dev/null
 }
 
-# in_emacs LIBRARY BEYOND COLOURS
+# in_emacs LIBRARY BEYOND COLOURS: runs the session of an Emacs library, or reports that it is skipped
 in_emacs() {
     if command -v emacs > /dev/null && has_library "$1"; then
         session "$(emacs --version | head -n 1), $1" "$2" "$3" emacs --batch -l "$sessions/$1.el"
@@ -50,7 +50,7 @@ else
     echo 'check_editors.sh: Neovim: left out, as it is not here'
 fi
 in_emacs eglot 😀 ''
-# Its columns are characters, and not units of UTF-16.
+# lsp-mode counts columns in characters instead of UTF-16 units.
 in_emacs lsp-mode 漢 '0 1 6 2 0 0 7 6 0 0 1 2 4 2 0 0 5 8 0 0 0 9 6 1 0 1 2 4 2 0 0 5 3 2 0'
 echo "check_editors.sh: $faults faults"
 [ "$faults" = 0 ]

@@ -1,7 +1,7 @@
 #!/usr/bin/env bash
-# Runs the program on all texts below a folder at once, and on each by itself. The output of the first must be that of the others, each after a line
-# with the file's name and separated by empty lines; the reports must be the same, and the exit status the greatest. The output for a text on standard
-# input must be the same again.
+# Runs the program on all source texts below a folder at once, and on each file alone. The output for all files must consist of the outputs for the
+# single files, separated by empty lines, each after a line with the file's name. The reports must be the same, and the exit status the greatest of
+# them. The output for a source text on standard input must equal that for its file.
 #
 # usage: tools/check_files.sh FOLDER [PROGRAM]
 set -eu
@@ -18,7 +18,7 @@ for file in "${files[@]}"; do
 done
 differences=0
 
-# each WORD..: the words on each file by itself
+# each ARGUMENT..: runs the program with these arguments on each file alone
 each() {
     local file status greatest=0 head='==> %s <==\n'
     : > "$room/each_output"
@@ -34,14 +34,14 @@ each() {
     echo "$greatest" > "$room/each_status"
 }
 
-# all WORD..: the words on all files
+# all ARGUMENT..: runs the program with these arguments on all files at once
 all() {
     local status=0
     "$program" "${options[@]}" "$@" > "$room/all_output" 2> "$room/all_errors" || status=$?
     echo "$status" > "$room/all_status"
 }
 
-# compare NAME: both
+# compare NAME: compares the results of `each` and `all`
 compare() {
     local part
     for part in output errors status; do

@@ -15,7 +15,7 @@ block() {
     awk -v fence="^\`\`\`$1\$" '$0 ~ fence { inside = 1; next } inside && /^```$/ { exit } inside' README.md
 }
 
-# tools_without NAME..: makes a folder of links to the system's commands, without these
+# tools_without NAME..: creates a folder of links to the system's commands, except the given ones
 tools_without() {
     local name
     rm -rf "$scratch/bin"
@@ -26,7 +26,7 @@ tools_without() {
     done
 }
 
-# first_command NAME=VALUE..: runs the command in this environment, and leaves its output, its messages and its status
+# first_command NAME=VALUE..: runs the command in this environment, and records its output, its messages, its status and its seconds
 first_command() {
     local begun=$SECONDS
     status=0
@@ -35,7 +35,7 @@ first_command() {
     message=$(head -n 1 "$scratch/messages")
 }
 
-# expect_tokens HOW: the command printed the lines of README
+# expect_tokens HOW: ends the run unless the command printed the lines of README
 expect_tokens() {
     if [ "$status" != 0 ] || ! diff <(block text) "$scratch/output"; then
         cat "$scratch/messages"
@@ -45,13 +45,13 @@ expect_tokens() {
     echo "check_first_command.sh: $1: $(wc -l < "$scratch/output") lines in $seconds s; $message"
 }
 
-# with_cargo: cargo, with the crates of CRATES_FOLDER or of a registry
+# with_cargo: checks the command with cargo, and the crates of CRATES_FOLDER or of a registry
 with_cargo() {
     first_command "CARGO_TARGET_DIR=$scratch/target"
     expect_tokens 'with cargo'
 }
 
-# with_rattle: the toolchain alone
+# with_rattle: checks the command with the toolchain alone
 with_rattle() {
     local rt
     rt=$(command -v rt) || { echo 'check_first_command.sh: with rt alone: skipped: rt is not installed' && return; }
@@ -61,7 +61,7 @@ with_rattle() {
     expect_tokens 'with rt alone'
 }
 
-# with_neither: the command says what to install
+# with_neither: checks that the command says what to install
 with_neither() {
     tools_without cargo rustc rustup rt
     first_command "PATH=$scratch/bin" CRATES_FOLDER=

@@ -1,6 +1,6 @@
 #!/usr/bin/env bash
-# Compares the layouts of crates/wat_format, as cargo builds it, with those of tools/layout.py, which is written from the definition. Files that
-# are named, as WebAssembly text, are laid out by `fmt` of the proved program and compared too, and what wat2wasm writes for them before and after.
+# Compares the formatted texts of crates/wat_format, built with cargo, with those of tools/layout.py, which is written from the definition. FILE.. are
+# also formatted by `fmt` of the proved program and compared, and so are the modules that wat2wasm writes for them before and after formatting.
 #
 # usage: tools/check_format.sh [FILE..]
 set -euo pipefail

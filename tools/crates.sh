@@ -1,17 +1,17 @@
 # Functions that find the crates cargo builds with. Sourced by run and .ci/run, from the top of the repository.
 #
-# The packages below `rust` use memchr, smallvec and unicode-width, in the versions of rust/Cargo.lock. They come from the folder that CRATES_FOLDER
-# names, from what cargo has or can fetch, or from the folder ../shared/vendor, in this order.
+# The packages below `rust` use memchr, smallvec and unicode-width, in the versions of rust/Cargo.lock. The crates come from the folder that
+# CRATES_FOLDER names, from cargo's cache or its registry, or from the folder ../shared/vendor, in this order.
 
-# The oldest cargo that builds every package: 1.OLDEST.
+# The minor version of the oldest cargo that builds every package: 1.OLDEST.
 OLDEST=87
 
-# has COMMAND
+# has COMMAND: succeeds if the command is installed
 has() {
     command -v "$1" > /dev/null
 }
 
-# cargo_minor: prints the minor version of cargo and rustc, the older one; nothing if one of them is missing or does not start
+# cargo_minor: prints the minor version of cargo or of rustc, the smaller one; nothing if one of them is missing or does not start
 cargo_minor() {
     local tool
     for tool in cargo rustc; do
@@ -27,12 +27,12 @@ has_cargo() {
     [ -n "$minor" ] && [ "$minor" -ge "$OLDEST" ]
 }
 
-# fetches OPTION..: succeeds if cargo gets every crate of the lock file. It makes one request of at most 5 s if it has none of them.
+# fetches OPTION..: succeeds if cargo gets every crate of the lock file. Without a cached crate it makes one request of at most 5 s.
 fetches() {
     (cd rust && CARGO_NET_RETRY=0 CARGO_HTTP_TIMEOUT=5 cargo fetch --locked --quiet "$@") > /dev/null 2>&1 < /dev/null
 }
 
-# folder_settings FOLDER: prints the configuration by which cargo takes crates from a folder alone
+# folder_settings FOLDER: prints the configuration with which cargo loads crates from a folder alone
 folder_settings() {
     cat << CONFIG
 [source.crates-io]
@@ -44,7 +44,7 @@ offline = true
 CONFIG
 }
 
-# find_crates: sets `crates` to the folder of crates to use, or to nothing if cargo finds them by itself; otherwise sets `why_no_crates`
+# find_crates: sets `crates` to the folder of crates to use, or to nothing if cargo finds them itself; otherwise sets `why_no_crates`
 find_crates() {
     crates='' why_no_crates=''
     if ! has_cargo; then

@@ -1,5 +1,5 @@
 #!/usr/bin/env bash
-# `rt ci` over crates of which all is committed. Its log goes to a file too, after a line with the commit, as tools/dist.sh takes it.
+# Runs `rt ci` on committed crates. Writes its log also to a file, after a line with the commit, for tools/dist.sh (GATE_LOG).
 #
 # usage: tools/gate.sh LOG
 set -euo pipefail

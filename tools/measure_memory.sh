@@ -1,7 +1,8 @@
 #!/usr/bin/env bash
-# Measures the memory of the commands `list`, `sig`, `blank` and `play` of the program wat_tokens on texts, and that of `types` on 100,000 types: the most
-# that is resident, and the least address space under which the command still writes the same, to a mebibyte. Just below that it has to be
-# refused memory as docs/COMMAND-LINE.md says: one line on standard error, no output, status 2. Prints a Markdown table; docs/speed/older.tsv has one as rows.
+# Measures the memory of the commands `list`, `sig`, `blank` and `play` of the program wat_tokens on source texts, and of `types` on 100,000 types:
+# the peak resident memory, and the smallest address space, in MiB, with which the command still writes the same output. With less, the command must
+# report the allocation failure as docs/COMMAND-LINE.md says: one line on standard error, no output, status 2. Prints a Markdown table;
+# docs/speed/older.tsv has an earlier one.
 #
 # usage: tools/measure_memory.sh PROGRAM TEXT..     such as crates/wat_tokens/out/wat_tokens and texts that tools/measure.sh leaves
 set -eu -o pipefail
@@ -10,7 +11,7 @@ shift
 room=$(mktemp -d)
 trap 'rm -rf "$room"' EXIT
 
-# peak TEXT WORD..: how many KiB are resident at most; the output and the status stay
+# peak TEXT ARGUMENT..: prints the peak resident memory in KiB; records the output and the status
 peak() {
     local status=0
     /usr/bin/time --quiet -f %M -o "$room/peak" "$program" "${@:2}" < "$1" > "$room/wanted" 2> "$room/errors" || status=$?
@@ -18,7 +19,7 @@ peak() {
     cat "$room/peak"
 }
 
-# under MEBIBYTES TEXT WORD..: whether the command does the same under this limit
+# under MEBIBYTES TEXT ARGUMENT..: succeeds if the command's output and status are the same under this limit
 under() {
     local status=0
     prlimit --as=$(($1 << 20)) "$program" "${@:3}" < "$2" > "$room/output" 2> "$room/refusal" || status=$?
@@ -26,7 +27,7 @@ under() {
     [ "$status" = "$(cat "$room/status")" ] && cmp -s "$room/output" "$room/wanted"
 }
 
-# least KIBIBYTES TEXT WORD..: the least limit, in mebibytes, above which the command does the same
+# least KIBIBYTES TEXT ARGUMENT..: prints the smallest limit, in MiB, under which the command's output and status are the same
 least() {
     local low=0 high=$(($1 / 1024 + 1)) middle
     until under "$high" "${@:2}"; do
@@ -40,7 +41,7 @@ least() {
             low=$middle
         fi
     done
-    # Far below this the program is not even begun.
+    # With a much smaller limit, the program does not start.
     under "$low" "${@:2}" || true
     if [ -s "$room/output" ] || [ "$(cat "$room/refused")" != 2 ] || [ "$(wc -l < "$room/refusal")" != 1 ]; then
         echo "measure_memory.sh: ${*:3} of $2 is not refused as it should be under $low MiB: status $(cat "$room/refused")" >&2
@@ -49,7 +50,7 @@ least() {
     echo "$high"
 }
 
-# row TEXT WORD..: a row of the table
+# row TEXT ARGUMENT..: prints a row of the table
 row() {
     local bytes resident space
     bytes=$(wc -c < "$1")

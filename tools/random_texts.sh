@@ -1,7 +1,7 @@
 #!/usr/bin/env bash
-# Compares the crates below rust/ on random texts with the crate wast 263.0.0, with a program wat_tokens, or a parser's sources with each other:
-# tools/random_texts/src/main.rs.
-# Where no registry is at hand, WAST_FOLDER names a folder with that crate, and CRATES_FOLDER one with the crates that the crates here take.
+# Differential fuzzing: compares the crates below rust/ on random source texts with the crate wast 263.0.0 or with a program wat_tokens, or compares a
+# parser's sources with each other. tools/random_texts/src/main.rs describes the program.
+# Without a registry, WAST_FOLDER names a folder with the crate wast, and CRATES_FOLDER one with the crates that cargo builds with.
 #
 # usage: tools/random_texts.sh [--program PROGRAM | --sources] SEED COUNT [FILE or FOLDER]..
 set -euo pipefail

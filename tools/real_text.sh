@@ -1,11 +1,11 @@
 #!/usr/bin/env bash
-# Makes the "real text" of the measurements: what `wasm2wat` prints of each object of the C and C++ libraries of WASI, one after another.
+# Generates the "real text" of the benchmarks: the output of `wasm2wat` for each object of WASI's C and C++ libraries, concatenated.
 #
 # usage: tools/real_text.sh FOLDER OUT [ARCHIVE..]     the text of libc.a, libc++.a and libc++abi.a in FOLDER, or of these archives in it, to OUT
 #
-# Those of Debian 12 are in /usr/lib/wasm32-wasi: the packages wasi-libc 0.0~git20220510.9886d3d-2 (https://github.com/WebAssembly/wasi-libc,
-# commit 9886d3d), libc++-14-dev-wasm32 and libc++abi-14-dev-wasm32 1:14.0.6-12 (https://github.com/llvm/llvm-project, tag llvmorg-14.0.6).
-# With `wasm2wat` of the package wabt 1.0.32-1 the text then has 12,270,615 bytes and 1,790,604 tokens. `ar` is of binutils.
+# Debian 12 has these libraries in /usr/lib/wasm32-wasi: the packages wasi-libc 0.0~git20220510.9886d3d-2 (https://github.com/WebAssembly/wasi-libc,
+# commit 9886d3d), libc++-14-dev-wasm32 and libc++abi-14-dev-wasm32 1:14.0.6-12 (https://github.com/llvm/llvm-project, tag llvmorg-14.0.6). With
+# `wasm2wat` of the package wabt 1.0.32-1 the text has 12,270,615 bytes and 1,790,604 tokens. `ar` comes from binutils.
 set -eu
 usage='usage: tools/real_text.sh FOLDER OUT [ARCHIVE..]'
 folder=$(cd "${1:?$usage}" && pwd)

@@ -1,8 +1,8 @@
 #!/usr/bin/env bash
-# Runs the commands of README.md and docs/COMMAND-LINE.md in a clone, and compares what they print. A command is a block ```sh, run from the
-# top of the clone; what it writes to standard output must be the block ```text after it, where there is one, and its status 0. A block
-# after the line `<!-- slow -->` proves, and --quick leaves it out; one after `<!-- built -->` runs the program that is proved, and is left out
-# where the clone does not have it. Where BUILT is set, the clone takes the one that is here. Each block that is run or left out is reported.
+# Runs the commands of README.md and docs/COMMAND-LINE.md in a clone, and compares their output. A command is a block ```sh, run from the top of the
+# clone. Its status must be 0, and its standard output must equal the following block ```text, if there is one. A block after the line `<!-- slow -->`
+# runs proofs; --quick skips it. A block after `<!-- built -->` runs the proved program, and is skipped if the clone does not contain it. If BUILT is
+# set, the program of this repository is copied to the clone. Each block is reported, whether it ran or was skipped.
 #
 # usage: tools/run_readme.sh [--quick] [CLONE]     (no CLONE: one of HEAD is made in a temporary folder)
 set -eu
@@ -24,7 +24,7 @@ if [ $# = 0 ] && [ -n "${BUILT:-}" ]; then
 fi
 ran=0 left=0 differences=0
 
-# blocks DOCUMENT: each command of a document in a file of its own, NNN.quick, NNN.slow or NNN.built, and its output, where there is one, in
+# blocks DOCUMENT: writes each command of a document to a file NNN.quick, NNN.slow or NNN.built, and its expected output, if there is one, to
 # NNN.output
 blocks() {
     awk -v room="$room/blocks" '
@@ -38,7 +38,7 @@ blocks() {
     ' "$1"
 }
 
-# why_not BLOCK: why a command is left out; nothing where it is run
+# why_not BLOCK: prints the reason why a command is skipped, or nothing if it runs
 why_not() {
     if [ "${1##*.}" = slow ] && $quick; then
         echo 'it proves'
@@ -47,7 +47,7 @@ why_not() {
     fi
 }
 
-# run BLOCK: runs a command, and compares what it prints
+# run BLOCK: runs a command, and compares its output
 run() {
     local wanted=${1%.*}.output start=$SECONDS status=0
     (cd "$clone" && bash -eu -o pipefail "$1") > "$room/output" 2> "$room/errors" < /dev/null || status=$?

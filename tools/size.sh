@@ -10,7 +10,7 @@ trap 'rm -rf "$work"' EXIT
 git archive "$commit" | tar -x -C "$work"
 cd "$work"
 
-# row WHAT COUNT: prints one line of the table
+# row NAME COUNT: prints one line of the table
 row() {
     printf '%-46s %8d\n' "$1" "$2"
 }
@@ -31,7 +31,7 @@ row 'words of documents, README and docs' "$(cat ./*.md docs/*.md | wc -w)"
 row 'words of the READMEs of crates and packages' "$(find crates rust -name README.md -print0 | xargs -0 -r cat | wc -w)"
 row 'lines of README' "$(wc -l < README.md)"
 
-# words WHAT PATTERN FOLDER..: counts the words that the style no longer allows in the files of a name
+# words NAME PATTERN FOLDER..: counts the words that the style guide bans, in the files whose names match the pattern
 words() {
     row "$1" "$(find "${@:3}" -type f -name "$2" -print0 | xargs -0 -r cat | grep -aowE 'behind|told|stands|anew' | wc -l)"
 }

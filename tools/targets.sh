@@ -1,11 +1,11 @@
 #!/usr/bin/env bash
-# Runs tests of the Rust crates by the oldest rustc that builds them, under the address sanitizer, with other blocks of 16 bytes, and on other
-# machines: AArch64 under emulation, WebAssembly in node. What there is no compiler for is left out, and that is said.
+# Tests the Rust crates with the oldest rustc that builds them, under the address sanitizer, with the SSSE3 code for 16-byte blocks, and on other
+# machines: AArch64 under emulation, WebAssembly in node. A part whose compiler is missing is skipped and reported.
 #
-# The cargo of each part is rustup's, unless a variable names another: OLDEST, NIGHTLY, AARCH64 or WASM. For AArch64 and WebAssembly cargo's own
-# variables name the linker and the runner, as CARGO_TARGET_AARCH64_UNKNOWN_LINUX_GNU_RUNNER. Where no registry is at hand, CRATES_FOLDER names a
-# folder with the crates that the crates take. Where WAST_FOLDER is set, or a registry is there, each target's answers to 20,000 random texts are
-# summed too: tools/random_texts.sh.
+# Each part uses rustup's cargo, unless a variable names another: OLDEST, NIGHTLY, AARCH64 or WASM. For AArch64 and WebAssembly, cargo's own variables
+# name the linker and the runner, such as CARGO_TARGET_AARCH64_UNKNOWN_LINUX_GNU_RUNNER. Without a registry, CRATES_FOLDER names a folder of the
+# crates that cargo builds with. If WAST_FOLDER is set, or a registry is available, the parts also sum the results of differential fuzzing on 20,000
+# texts (tools/random_texts.sh); the sums of all targets must be equal.
 #
 # usage: tools/targets.sh
 set -euo pipefail
@@ -21,12 +21,12 @@ fi
 : "${CARGO_TARGET_AARCH64_UNKNOWN_LINUX_GNU_LINKER:=aarch64-linux-gnu-gcc}"
 : "${CARGO_TARGET_AARCH64_UNKNOWN_LINUX_GNU_RUNNER:=qemu-aarch64 -L /usr/aarch64-linux-gnu}"
 export CARGO_TARGET_WASM32_WASIP1_RUNNER CARGO_TARGET_AARCH64_UNKNOWN_LINUX_GNU_LINKER CARGO_TARGET_AARCH64_UNKNOWN_LINUX_GNU_RUNNER
-# Without optimisation the tests of the blocks take minutes under emulation.
+# Without optimization, the tests of 16-byte blocks take minutes under emulation.
 export CARGO_PROFILE_DEV_OPT_LEVEL=1
 host=$(rustc -vV | sed -n 's/^host: //p')
 faults=0 last_sum=
 
-# is_here TARGET CARGO..: whether a program of this cargo runs
+# is_here TARGET CARGO..: succeeds if this cargo builds and runs a program for the target
 is_here() {
     local target=$1
     shift
@@ -34,7 +34,7 @@ is_here() {
     (cd "$room/trial" && "$@" run --offline --target "$target" > "$room/log" 2>&1)
 }
 
-# part NAME TARGET CARGO: starts a part, or says that it is left out
+# part NAME TARGET CARGO: starts a part, or reports that it is skipped
 part() {
     name=$1 target=$2
     read -ra cargo <<< "$3"
@@ -44,7 +44,7 @@ part() {
     return 1
 }
 
-# try WORD..: runs tests of the part
+# try ARGUMENT..: runs tests of the part
 try() {
     if "${cargo[@]}" test "${options[@]}" --manifest-path rust/Cargo.toml --target "$target" "$@" > "$room/log" 2>&1; then
         echo "$name: $(grep -c '^test .* ok$' "$room/log") tests pass: $*"
@@ -55,7 +55,7 @@ try() {
     fi
 }
 
-# sum: the sum of random texts has to be the one of the last part
+# sum: sums the results on random texts; the sum must equal that of the preceding parts
 sum() {
     local texts=(--manifest-path tools/random_texts/Cargo.toml --release --no-default-features --target "$target") line
     [ -z "${WAST_FOLDER:-}" ] || texts+=(--config "patch.crates-io.wast.path=\"$(realpath "$WAST_FOLDER")\"")
@@ -70,7 +70,7 @@ sum() {
     fi
 }
 
-# A test that starts itself again can't do so in a machine that is emulated.
+# A test that starts its own program again cannot do so under emulation.
 alone=(-- --skip a_refused_request_ends_the_program)
 crates=(-p wat-lex -p wat-parser -p wat-c)
 requests=(-p wat-tokens --test requests)

@@ -1,6 +1,7 @@
 #!/usr/bin/env bash
-# Builds the encoder of the crate wast 222.0.0, over the lowest layer of 263.0.0, as a program that answers many texts (tools/under_wast/encoder says
-# how), and prints its path. FOLDER is one with workspace.sh, as tools/under_wast.sh takes it. No other crate is needed.
+# Builds the encoder of the crate wast 222.0.0, over the lowest layer of 263.0.0, as a program that encodes many source texts
+# (tools/under_wast/encoder describes its protocol), and prints its path. FOLDER contains workspace.sh, as for tools/under_wast.sh. No other crate is
+# needed.
 #
 # usage: tools/wast_encoder.sh FOLDER WORK
 set -eu -o pipefail
