@@ -1,8 +1,8 @@
 #!/usr/bin/env bash
-# Builds the npm package, page/out/wat-lex, and the page over it: the folder page/out, for a server, and page/out/wat.html, one file that opens without
-# one. cargo builds the module from rust/wat-page: rustup's, if its rustc has the target wasm32-unknown-unknown, otherwise Debian's, by
-# tools/cargo_with_std.sh. If neither is here, or with BY=rattle, Rattle's compiler makes it of the proved sources, without `format` and `types`, and
-# binaryen's wasm-opt lowers its memory to 32 bits. With BY=cargo that is an error. Needs python3.
+# Builds the npm package, page/out/wat-lex, and the page over it: the folder page/out, for a server, and page/out/wat.html, one file that opens
+# without a server. cargo builds the module from rust/wat-page: rustup's, if its rustc has the target wasm32-unknown-unknown, otherwise Debian's, with
+# tools/cargo_with_std.sh. If neither is available, or with BY=rattle, Rattle's compiler builds it from the proved sources, without `format` and
+# `types`, and binaryen's wasm-opt lowers its memory to 32 bits. With BY=cargo, a missing cargo is an error. Needs python3.
 #
 #   WASM_CARGO=COMMAND  another cargo whose rustc has the target
 #
@@ -12,7 +12,7 @@ shopt -s inherit_errexit
 cd "$(dirname "$0")"
 target=wasm32-unknown-unknown
 
-# Both print by what they made the module.
+# by_cargo, by_rattle: build the module, and print its sources and its compiler
 by_cargo() {
     local folder=${CARGO_TARGET_DIR:-$PWD/../rust/target}/page command
     read -ra command <<< "$cargo"
@@ -31,7 +31,7 @@ by_rattle() {
     echo "of crates/wat_page by Rattle's compiler, $(rt version), and $(wasm-opt --version)"
 }
 
-# wasm_cargo: a cargo for the target, nothing if there is none
+# wasm_cargo: prints a cargo for the target, or nothing if there is none
 wasm_cargo() {
     if [ -n "${WASM_CARGO:-}" ]; then
         echo "$WASM_CARGO"
@@ -42,7 +42,7 @@ wasm_cargo() {
     fi
 }
 
-# by: which of both makes the module
+# by: prints which of the two builds the module
 by() {
     if [ "${BY:-cargo}" = cargo ] && [ -n "$cargo" ]; then
         echo cargo

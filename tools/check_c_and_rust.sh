@@ -1,11 +1,12 @@
 #!/usr/bin/env bash
-# The C library, by both of its compilers: as cargo builds it of the text that tools/erase makes, static and shared, and as Rattle's own compilers
-# make it. Over each, by each C compiler that is here: each function with answers from outside, C programs that list the stored texts and their
-# identifiers, all functions on the stored texts and on mutants of them under the address and undefined-behaviour sanitizers and under valgrind, and
-# each request for memory refused; the header as C99 and as C++, and the example at its head; and the declarations of both. Each answers the same.
-# Last numbers as wat-parser reads them, beside `strtof` and `strtod`. What can't be run here is left out, and says so.
+# Tests the C library, by both of its compilers: built with cargo from the Rust that tools/erase generates, static and shared, and built by Rattle's
+# own compilers. Each library is tested with every C compiler that is installed: each function against golden results; C programs that list the golden
+# texts and their identifiers; all functions on the golden texts and on mutations of them, under the address and undefined-behavior sanitizers and
+# under valgrind; allocation-failure injection; the header as C99 and as C++, and the example at its head; the declarations of both. All libraries
+# must return the same. Finally, floats read by wat-parser are compared with `strtof` and `strtod`. A part that can't be run here is skipped and
+# reported.
 #
-#   CRATES_FOLDER=FOLDER  the crates that cargo takes, each in a folder of its own, where no registry is at hand
+#   CRATES_FOLDER=FOLDER  the crates that cargo builds with, one folder each, if no registry is available
 #
 # usage: [CRATES_FOLDER=FOLDER] tools/check_c_and_rust.sh [MUTANTS]
 set -eu -o pipefail
@@ -30,7 +31,7 @@ has() {
     command -v "$1" > /dev/null
 }
 
-# stored: the stored texts that need no words
+# stored: prints the golden texts whose lists need no arguments
 stored() {
     local text
     for text in "$texts"/*; do
@@ -41,7 +42,7 @@ stored() {
     done
 }
 
-# identifiers TEXT: each identifier of a stored text with its offset, by its stored list
+# identifiers TEXT: prints each identifier of a golden text with its offset, according to its golden list
 identifiers() {
     local from to
     sed -n 's/\.\.\(.*\) Id$/ \1/p' "$1.stdout" | while read -r from to; do
@@ -51,12 +52,12 @@ identifiers() {
     done
 }
 
-# list TEXT: the stored list
+# list TEXT: prints the golden list
 list() {
     cat "$1.stdout"
 }
 
-# compare NAME PROGRAM WANTED: the program prints of each stored text what the function WANTED prints of its name
+# compare NAME PROGRAM WANTED: checks that the program prints for each golden text what the function WANTED prints
 compare() {
     local compared=0 text
     for text in $(stored); do
@@ -67,13 +68,13 @@ compare() {
     say "$1 prints what is wanted of $compared stored texts"
 }
 
-# sanitizes COMPILER: whether a program can be built and run under its sanitizers
+# sanitizes COMPILER: succeeds if a program can be built and run under the compiler's sanitizers
 sanitizes() {
     printf 'int main(void) { return 0; }\n' > "$room/empty.c"
     "$1" -fsanitize=address,undefined -o "$room/empty" "$room/empty.c" 2> /dev/null && "$room/empty" 2> /dev/null
 }
 
-# read_all NAME COMPILER LIBRARY..: all functions on texts and mutants, under the sanitizers
+# read_all NAME COMPILER LIBRARY..: runs all functions on golden texts and on mutations of them, under the sanitizers
 read_all() {
     local name=$1 compiler=$2 said
     shift 2
@@ -83,7 +84,7 @@ read_all() {
     said_by "$compiler -std=c99 -g -O1 -fsanitize=address,undefined -fno-sanitize-recover=all" "$name" tokens "$@"
 }
 
-# watch NAME LIBRARY..: the functions under valgrind: each byte that is read has a value, and may be read
+# watch NAME LIBRARY..: runs the functions under valgrind: each byte that they read must be initialized and readable
 watch() {
     local name=$1 said
     shift
@@ -92,7 +93,7 @@ watch() {
     say "$name, valgrind: $said"
 }
 
-# call_refused NAME NUMBER: a call with each of its requests for memory refused in turn
+# call_refused NAME INDEX: fails each allocation of a call in turn
 call_refused() {
     local n asks=0 requests=0 held=0
     LD_PRELOAD="$room/refuse.so" TELL=9 "$room/refusals" "$2" > "$room/answer" 9> "$room/counts"
@@ -110,7 +111,7 @@ call_refused() {
     refused=$((refused + requests))
 }
 
-# refuse NAME LIBRARY..: each request for memory of a library refused
+# refuse NAME LIBRARY..: fails each allocation of each call of a library
 refuse() {
     local name=$1 number calls refused=0
     shift
@@ -123,7 +124,7 @@ refuse() {
     say "$name: $calls calls, each of their $refused requests for memory refused, which each answers"
 }
 
-# said_by COMPILER NAME PROGRAM LIBRARY..: what a program of tools/c says over a library, by a compiler with its options
+# said_by COMPILER NAME PROGRAM LIBRARY..: runs a program of tools/c over a library, built by a compiler with its options, and prints its output
 said_by() {
     local compiler name=$2 program=$3 said
     read -ra compiler <<< "$1"
@@ -158,7 +159,7 @@ run_example() {
     say "$name: the example of the header prints the $(wc -l < "$room/example.wanted") lines that the header states"
 }
 
-# suite NAME LIBRARY..: all of tools/c over a library
+# suite NAME LIBRARY..: runs all tests of tools/c over a library
 suite() {
     local name=$1 compiler level
     shift
@@ -193,7 +194,7 @@ suite() {
     fi
 }
 
-# with_crates: the options by which cargo finds the crates, one a line; fails where they are not at hand
+# with_crates: prints the options with which cargo finds the crates, one a line; fails if the crates are not available
 with_crates() {
     if [ -n "${CRATES_FOLDER:-}" ]; then
         printf '%s\n' --offline --config 'source.crates-io.replace-with="folder"' --config "source.folder.directory=\"$(realpath "$CRATES_FOLDER")\""
@@ -202,7 +203,7 @@ with_crates() {
     fi
 }
 
-# by_cargo: the suite over what cargo builds and `make` installs
+# by_cargo: tests the library that cargo builds and `make` installs
 by_cargo() {
     local options installed=$room/installed words
     mapfile -t options < "$room/options"
@@ -221,7 +222,7 @@ by_cargo() {
     fi
 }
 
-# by_cargo_with_sanitizer: all functions over an archive whose own code looks at each address
+# by_cargo_with_sanitizer: tests all functions of an archive whose own code is built with the address sanitizer
 by_cargo_with_sanitizer() {
     local options target
     mapfile -t options < "$room/options"
@@ -238,7 +239,7 @@ by_cargo_with_sanitizer() {
     done
 }
 
-# floats: numbers as wat-parser reads them and as C does
+# floats: compares floats as wat-parser and as C read them
 floats() {
     local options said
     mapfile -t options < "$room/options"
@@ -251,7 +252,7 @@ floats() {
 tools/compare_declarations.py
 compilers=() libraries=()
 for compiler in "${CC:-cc}" gcc clang; do
-    # (each once, whatever names it has)
+    # Keeps each compiler once, even if it has several names.
     found=$(realpath "$(command -v "$compiler")" 2> /dev/null) || continue
     [[ " ${compilers[*]} " == *" $found "* ]] || compilers+=("$found")
 done

@@ -1,5 +1,5 @@
 #!/usr/bin/env bash
-# Runs `fmt` of the program wat_tokens to each of its statuses, in a new folder: what it writes, reports and leaves of files.
+# Runs `fmt` of the program wat_tokens to each of its exit statuses, in a new folder, and checks its output, its reports and the files that it leaves.
 #
 # usage: tools/check_fmt.sh PROGRAM
 set -euo pipefail
@@ -11,7 +11,7 @@ mkdir "$room/files"
 cd "$room/files"
 faults=0 compared=0
 
-# how the program is run as a user who may not do all, which root may
+# The command prefix that runs the program as a user without root's permissions.
 plain_user=()
 if [ "$(id -u)" = 0 ]; then
     plain_user=(setpriv --reuid=65534 --regid=65534 --clear-groups)
@@ -22,7 +22,7 @@ if [ "$(id -u)" = 0 ]; then
 fi
 user=()
 
-# expect WHAT WANTED GOT
+# expect NAME WANTED GOT: compares two strings
 expect() {
     compared=$((compared + 1))
     if [ "$2" != "$3" ]; then
@@ -31,7 +31,7 @@ expect() {
     fi
 }
 
-# run STATUS WORD..: runs the program over the text in the file `in`, for two minutes at most, and compares its status
+# run STATUS ARGUMENT..: runs the program on the text in the file `in`, for two minutes at most, and compares its status
 run() {
     local wanted=$1 status=0
     shift
@@ -39,7 +39,7 @@ run() {
     expect "status of $*" "$wanted" "$status"
 }
 
-# can_be_plain: whether the program can be run as that user
+# can_be_plain: succeeds if the program can be run as that user
 can_be_plain() {
     "${plain_user[@]}" "$program" --version > /dev/null 2>&1 || {
         echo 'check_fmt.sh: what another user may not do is left out, as the program can not be run as one here'
@@ -47,7 +47,7 @@ can_be_plain() {
     }
 }
 
-# run_plain STATUS WORD..: the same as that user
+# run_plain STATUS ARGUMENT..: like run, as that user
 run_plain() {
     user=("${plain_user[@]}")
     run "$@"
@@ -126,7 +126,7 @@ rm busy.wat_tokens to_busy
 run 0 fmt --write busy
 expect 'and is written without it' '(a)' "$(cat busy)"
 
-# a disk with no room for the layout: 40 KB become more, and the file is as it was
+# A full disk: 40 KB do not suffice for the formatted text, and the file must stay as it was.
 if [ -w /dev/full ]; then
     status=0
     "$program" fmt messy > /dev/full 2> err || status=$?
@@ -140,7 +140,7 @@ expect 'report of a file too large' 'wat_tokens: deep: write failed: file too la
 expect 'the file is as it was' "$(md5sum < old)" "$(md5sum < deep)"
 expect 'and nothing is left beside it' 'deep.*' "$(echo deep.*)"
 
-# a temporary file that can't be made
+# A temporary file that cannot be created.
 long=$(printf 'n%.0s' {1..250})
 printf '( a )' > "$long"
 run 2 fmt --write "$long"
@@ -156,7 +156,7 @@ if can_be_plain; then
     chmod 755 locked
 fi
 
-# a file that nobody may write
+# A file that nobody may write.
 printf '( a )' > fixed
 printf '(b)\n' > laid
 chmod 444 fixed laid
@@ -174,7 +174,7 @@ chmod 424 fixed
 run 0 fmt --write fixed
 expect 'one that some may write is written' '(a) 424' "$(cat fixed) $(stat -c %a fixed)"
 
-# each report of several files
+# One report for each of several files.
 printf '( c )' > third
 printf '( d )' > busy
 : > busy.wat_tokens
@@ -191,7 +191,7 @@ wat_tokens: busy: busy.wat_tokens is there already: remove it, or another run is
 wat_tokens: bytes: input is not UTF-8 at byte 2' "$(cat err)"
 rm -f busy busy.wat_tokens third
 
-# names with control characters: a letter that would be the escape, U+007F, U+0085
+# Names with control characters: a letter that would be the escape, U+007F, U+0085.
 odd=$'a\001\033[31m\177\302\205b'
 shown=$'a\342\220\201\342\220\233[31m\342\220\241\357\277\275b'
 printf '( a )' > "$odd"
@@ -228,7 +228,7 @@ expect 'and the diff of the last' '--- in' "$(head -1 out)"
 run 1 fmt --diff in neat in
 expect 'diffs of several files' 2 "$(grep -c '^--- in$' out)"
 
-# one line without an end; changes six lines apart are one hunk, and seven apart two
+# A last line without a line end. Changes six lines apart belong to one hunk, changes seven apart to two.
 printf '( a )' > 'no end'
 run 1 fmt --diff 'no end'
 expect 'a text without a last line end' $'--- no end\t\n+++ no end\t\n@@ -1 +1 @@\n-( a )\n\\ No newline at end of file\n+(a)' "$(cat out)"
@@ -281,7 +281,7 @@ expect 'a text of white space' $'--- blank\n+++ blank\n@@ -1,2 +0,0 @@\n-\n- ' "
 run 0 fmt --diff empty
 expect 'no diff of an empty text' '' "$(cat out)"
 
-# patched WHAT FILE: `patch` with the diff makes of the file what `fmt` writes of it
+# patched NAME FILE: checks that `patch` with the diff turns the file into the output of `fmt`
 patched() {
     "$program" fmt "$2" > wanted
     "$program" fmt --diff "$2" > changes || true
@@ -318,7 +318,7 @@ else
     echo 'check_fmt.sh: the command patch is not here, so no diff is applied'
 fi
 
-# folders
+# Folders.
 mkdir -p tree/b tree/a.wat tree/.c/d tree/none
 for file in tree/z.wat tree/a.wast tree/b/x.wat tree/b/y.wast tree/a.wat/in.wat tree/.c/d/e.wat; do
     printf '( %s )' "$(basename "$file" | tr . _)" > "$file"

@@ -1,11 +1,12 @@
 #!/usr/bin/env bash
-# Runs the program with each request for memory refused, each read of standard input and each write on standard output failed, and these of
-# one byte each, and prints how many runs there were. A run gives its whole answer, or the line and status 2 of what failed; then nothing is on standard output, but
-# for the bytes before a failed write.
+# Allocation-failure injection for the program: fails each allocation, each read of standard input and each write on standard output, also with reads
+# and writes of one byte, and prints the number of runs. A run must either complete with its whole output, or report the failure in one line with
+# status 2; then standard output is empty, or has the bytes before the failed write.
 #
 # usage: tools/check_runs.sh [PROGRAM]
-# Where BY_CARGO is set the program is the one that cargo builds. Its first requests are Rust's library's, which ends the program where one is
-# refused: they are not refused here, and how many they are is found by `--version`, whose last such request is for its one word.
+# If BY_CARGO is set, the program is the one built with cargo. Its first allocations are those of Rust's standard library, which aborts the program if
+# one fails; they are not failed here. Their number is found by runs of `--version`, in which the last such allocation is the one for its only
+# argument.
 set -eu
 cd "$(dirname "$0")/.."
 program=${1:-$(tools/build.sh wat_tokens)}
@@ -16,7 +17,8 @@ command -v "$compiler" > /dev/null || compiler=$(dirname "$(rt doc)")/toolchain/
 "$compiler" -O1 -fPIC -shared -nostdlib -o "$room/refuse.so" tools/refuse_requests.c
 runs=0 faults=0 requests=0 reads=0 writes=0 library=0
 
-# run VARIABLE=N..: a run of the words on the text, in the files output, errors and status of the room, and what was counted in counts
+# run VARIABLE=N..: runs the program with the arguments `words` on the text, and records output, errors, status and counts in files of the temporary
+# directory
 run() {
     local status=0
     env "$@" LD_PRELOAD="$room/refuse.so" TELL=9 "$program" "${words[@]}" < "$room/text" > "$room/output" 2> "$room/errors" 9> "$room/counts" \
@@ -25,13 +27,13 @@ run() {
     runs=$((runs + 1))
 }
 
-# is_whole: whether the run gave its whole answer
+# is_whole: succeeds if the run produced its whole output
 is_whole() {
     cmp -s "$room/output" "$room/whole_output" && cmp -s "$room/errors" "$room/whole_errors" && cmp -s "$room/status" "$room/whole_status"
 }
 
-# says MESSAGE: whether the report is this line; that of `fmt` has the input's name, but for want of memory while the words are read, and may have
-# a cause
+# says MESSAGE: succeeds if the report is this line. A report of `fmt` has the input's name, unless an allocation failed while the arguments were
+# read, and may add a cause.
 says() {
     local line
     line=$(cat "$room/errors")
@@ -42,7 +44,7 @@ says() {
     fi
 }
 
-# failed_with MESSAGE BYTES: whether the run ended with this line and status 2 after so many bytes of its lines
+# failed_with MESSAGE BYTES: succeeds if the run ended with this line and status 2, after BYTES bytes of its output
 failed_with() {
     [ "$(cat "$room/status")" = 2 ] && says "$1" \
         && head -c "$2" "$room/whole_output" | cmp -s - "$room/output"
@@ -53,7 +55,7 @@ fault() {
     faults=$((faults + 1))
 }
 
-# count: how many requests, reads and writes the last run had
+# count: sets the numbers of allocations, reads and writes of the last run
 count() {
     # shellcheck disable=SC1091
     . "$room/counts"
@@ -62,12 +64,12 @@ count() {
     fi
 }
 
-# first: the first request of the words that is refused
+# first: prints the index of the first allocation that is failed
 first() {
     echo $((library ? library + ${#words[@]} + 1 : 1))
 }
 
-# refuse_each VARIABLE=N..: refuses each request for memory alone, and each with all after it, in such a run
+# refuse_each VARIABLE=N..: fails each allocation alone, and each allocation with all later ones, in runs with these variables
 refuse_each() {
     local n
     for ((n = $(first); n <= requests; n++)); do
@@ -78,7 +80,7 @@ refuse_each() {
     done
 }
 
-# fail_each VARIABLE COUNT MESSAGE BYTES: fails each of so many reads or writes of one byte, alone and with each request for memory refused
+# fail_each VARIABLE COUNT MESSAGE BYTES: fails each of COUNT reads or writes of one byte, alone and together with each allocation
 fail_each() {
     local n m
     for ((n = 1; n <= $2; n++)); do
@@ -91,7 +93,7 @@ fail_each() {
     done
 }
 
-# refuse STATUS TEXT WORD..: runs the words on the text, which end with this status where nothing fails, and with each request refused
+# refuse STATUS TEXT ARGUMENT..: runs the arguments on the text, which must end with this status without failures; then fails each allocation
 refuse() {
     local status=$1
     printf %s "$2" > "$room/text"
@@ -110,13 +112,13 @@ tell() {
     printf '%-28s %8d %6s %6s\n' "${words[*]:-(no words)}" "$requests" "$1" "$2"
 }
 
-# requests STATUS TEXT WORD..: these runs, in a line of the table
+# requests STATUS TEXT ARGUMENT..: does the runs of `refuse`, and prints their line of the table
 requests() {
     refuse "$@"
     tell - -
 }
 
-# check STATUS TEXT WORD..: these runs, and those of one byte a call, with each request refused and each read and write failed
+# check STATUS TEXT ARGUMENT..: does the runs of `refuse`, also with one byte a call, fails each read and write, and prints the line of the table
 check() {
     refuse "$@"
     run MOST=1
@@ -128,7 +130,7 @@ check() {
     tell "$reads" "$writes"
 }
 
-# find_library: finds how many requests the library makes before those for the words
+# find_library: finds the number of allocations of the library before those for the arguments
 find_library() {
     local n
     words=(--version)
@@ -143,7 +145,7 @@ find_library() {
     echo "check_runs.sh: the library's own requests: $library, and one for each word"
 }
 
-# functions COUNT: functions of as many types
+# functions COUNT: prints COUNT functions with distinct types
 functions() {
     local number digit
     for ((number = 0; number < $1; number++)); do

@@ -1,12 +1,12 @@
 #!/usr/bin/env bash
 # Writes a release of HEAD to a folder, from committed files alone: the packages for Rust, the program and the C library for this machine, the npm
-# package, the page, the guides, and a report of what each file was built from, by which compiler. A second run writes the same bytes. What can't be
-# built here is skipped, and the report says why. docs/RELEASE.md describes the folder.
+# package, the page, the guides, and a report of the sources and the compiler of each file. A second run writes the same bytes. A part that can't be
+# built here is skipped, and the report states the reason. docs/RELEASE.md describes the folder.
 #
-#   CRATES_FOLDER=FOLDER  the crates that cargo needs, each in a folder of its own, if no registry is available
+#   CRATES_FOLDER=FOLDER  the crates that cargo needs, one folder each, if no registry is available
 #   WASM_CARGO=COMMAND    as for page/build.sh
-#   GATE_LOG=FILE         the log that tools/gate.sh wrote of this commit; the release gets it, and the verdict for each crate
-#   BY=rattle             also archives for C by Rattle's compilers, for x86-64-v2 and AArch64, from the proofs that are kept in `crates`
+#   GATE_LOG=FILE         the log that tools/gate.sh wrote for this commit; the release includes it, and the verdict for each crate
+#   BY=rattle             also archives for C built by Rattle's compilers, for x86-64-v2 and AArch64, with the proofs that exist in `crates`
 #
 # usage: tools/dist.sh OUT
 set -euo pipefail
@@ -33,13 +33,13 @@ has() {
     command -v "$1" > /dev/null
 }
 
-# skip WHAT REASON: reports what the release does not get
+# skip PART REASON: reports that the release lacks a part
 skip() {
     say "$1: skipped: $2"
     echo "Skipped: $1: $2." >> "$work/skipped"
 }
 
-# record FILE.. -- TEXT: records what files were built from, and by what
+# record FILE.. -- TEXT: records the sources and the compiler of files
 record() {
     local files=()
     while [ "$1" != -- ]; do
@@ -48,7 +48,7 @@ record() {
     printf '%s\n  %s\n' "${files[*]}" "$2" >> "$work/built"
 }
 
-# from_folder FOLDER: prints the settings with which cargo takes its crates from a folder
+# from_folder FOLDER: prints the settings with which cargo loads its crates from a folder
 from_folder() {
     printf '[source.crates-io]\nreplace-with = "folder"\n[source.folder]\ndirectory = "%s"\n[net]\noffline = true\n' "$1"
 }
@@ -58,7 +58,7 @@ crate_names() {
     sed -n 's/^\([a-z0-9_]*\)[ :].*/\1/p' "$top/crates.txt"
 }
 
-# check_gate_log: ends the run unless the log is one of HEAD, passed, and has each crate
+# check_gate_log: ends the run unless the log is one of HEAD, says that all checks passed, and has a proof of each crate
 check_gate_log() {
     local name
     [ -f "$gate_log" ] || die "GATE_LOG: there is no file $gate_log"
@@ -69,7 +69,7 @@ check_gate_log() {
     done
 }
 
-# verdicts: prints the last verdict that the log has for the proof of each crate, after its name
+# verdicts: prints the name of each crate and the log's last verdict for its proof
 verdicts() {
     awk '/^== / { name = /: its tests$/ ? "" : $2 } /^logic=/ && name { print "  " name ": " $0; name = "" }' "$gate_log"
 }
@@ -86,7 +86,7 @@ take_crates() {
     (cd rust && cargo vendor --locked --quiet --versioned-dirs --respect-source-config "$work/crates" > /dev/null)
 }
 
-# prepare: clones HEAD, and makes a home for cargo with no crates except those of Cargo.lock. No path of either is in the bytes that rustc writes.
+# prepare: clones HEAD, and creates a cargo home whose only crates are those of Cargo.lock. rustc writes no path of either into its output.
 prepare() {
     [ -z "$gate_log" ] || check_gate_log
     git clone --quiet "$top" "$source"
@@ -106,7 +106,7 @@ prepare() {
     commit=$(git rev-parse HEAD)
 }
 
-# package NAME: builds a package as a registry takes it, from its own file alone; later packages find it among the crates
+# package NAME: builds a package from its .crate file alone, as a registry distributes it; later packages find it among the crates
 package() {
     local crate=$work/target/package/$1-$version.crate folder=$work/crates/$1-$version
     (cd rust && cargo package --quiet --locked --package "$1" --registry crates-io)
@@ -121,7 +121,7 @@ workspace_files() {
     (cd rust && cargo package --quiet --list --package "$1") | grep -vxE 'Cargo\.lock|Cargo\.toml\.orig|\.cargo_vcs_info\.json' | sed "s|^|$1/|"
 }
 
-# workspace: writes the packages as a workspace whose crates are in `vendor`, so that each can be named by its path, with no registry
+# workspace: writes the packages as a workspace with its crates in `vendor`, so that a project can use each by its path, without a registry
 workspace() {
     local name
     for name in $(sed -n '/^members/s/[^"]*"\([^"]*\)"[^"]*/\1 /gp' rust/Cargo.toml); do
@@ -153,7 +153,7 @@ declared() {
     sed -n '/static/d; s/^[a-z].*\(wat_[a-z0-9_]*\)(.*/\1/p' include/wat.h | sort
 }
 
-# one_object TO ARCHIVE..: writes an archive of one object, which has all that the header's functions reach, and no global names except theirs
+# one_object TO ARCHIVE..: writes an archive of one object, with all code that the header's functions reach, and no other global names
 one_object() {
     local to=$1 roots
     shift
@@ -166,14 +166,14 @@ one_object() {
     "${TOOLS:-}nm" --defined-only --extern-only "$to" | awk 'NF == 3 { print $3 }' | sort | cmp - "$work/declared"
 }
 
-# c_folder FOLDER [LIBRARIES]: writes the header, and descriptions that find the libraries from their own location; the archive needs LIBRARIES
+# c_folder FOLDER [LIBRARIES]: writes the header, and descriptions that find the libraries relative to their own location; the archive needs LIBRARIES
 c_folder() {
     # shellcheck disable=SC2016
     env -u MAKEFLAGS make --silent install-descriptions DESTDIR='' PREFIX="$1" PKG_PREFIX='$${pcfiledir}/../..' PRIVATE="${2:-}"
 }
 
-# check_answers NAME LIBRARY..: compares the results of the C library with stored ones, and its tokens with those that the header finds inline. TOOLS
-# is the prefix of the compiler's name, EMULATOR the command that runs its programs.
+# check_answers NAME LIBRARY..: compares the results of the C library with golden ones, and its tokens with those of the header's inline functions.
+# TOOLS is the prefix of the compiler's name, EMULATOR the command that runs its programs.
 check_answers() {
     local name=$1 program said
     shift
@@ -202,7 +202,7 @@ c_library() {
     record "$folder/lib/libwat.a" "$folder/lib/libwat.so.${version%%.*}" -- "rust/wat-c, by $compiler"
 }
 
-# by_rattle KIND TARGET PROCESSOR TOOLS SOURCE..: builds an archive by Rattle's compilers, with the C files that it needs
+# by_rattle KIND TARGET PROCESSOR TOOLS SOURCE..: builds an archive with Rattle's compilers, and with the C files that it needs
 by_rattle() {
     local kind=$1 folder=$made/c/$1 target=$2 processor=$3 log=$made/proof/$1.log TOOLS=$4 objects=() name
     shift 4
@@ -217,7 +217,7 @@ by_rattle() {
   $(tail -n 1 "$log")"
 }
 
-# take_proofs CRATE..: copies the proofs that are kept here, of which `rt lib` uses those that fit, and the licences of what it builds
+# take_proofs CRATE..: copies the proofs that exist here, from which `rt lib` uses those that fit, and the licences of the code that it builds
 take_proofs() {
     local crate file
     if ! grep -q "^==== Rattle's toolchain" "$made/THIRD-PARTY.txt"; then
@@ -274,7 +274,7 @@ npm_and_page() {
     record "$made"/npm/*.tgz "$made/page/wat.html" -- "page, with the module ${said##*build.sh: }"
 }
 
-# third_parties: writes the licences of what the program, the libraries and the module contain in addition to the code of this project
+# third_parties: writes the licences of the third-party code in the program, the libraries and the module
 third_parties() {
     local file library
     library=$(rustc --print sysroot)/share/doc/rust/COPYRIGHT-library.html
@@ -290,7 +290,7 @@ third_parties() {
     [ ! -e "$library" ] || cp "$library" "$made/"
 }
 
-# proof: writes what was built from what, and by what
+# proof: writes the sources and the compiler of each file
 proof() {
     local logic
     logic=$(sed -n 's/.*`rt version` prints `\([^`]*\)`.*/\1/p' README.md)
@@ -304,14 +304,14 @@ proof() {
     } > "$made/proof/PROOF.txt"
 }
 
-# documents: writes README and guides, of which no link leads nowhere
+# documents: writes README and guides, and checks that they have no broken link
 documents() {
     tools/release_pages.py write "$made" "$host" "$version"
     tools/release_pages.py check "$made" > "$work/links" || die "$(cat "$work/links")"
     say "$(tail -n 1 "$work/links")"
 }
 
-# sums: writes the checksums of all files, and all files as one
+# sums: writes the checksums of all files, and an archive of all files
 sums() {
     local stamp name=wat-$version.tar.gz
     stamp=$(git log -1 --format=%ct)

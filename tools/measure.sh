@@ -1,18 +1,18 @@
 #!/usr/bin/env bash
-# Measures the calls of Rattle and of the static library for C beside those of the crate wast 263.0.0, in one program (tools/measure) over the loops of
-# tools/measure/rattle and library.c: times in turn, pass by pass, by the processor time of a thread that is pinned to one processor; first passes of
-# processes; instructions by callgrind; memory. Writes rows to WORK/rattle.tsv, for docs/speed, and each contender's quartiles to WORK/times.tsv. Texts
-# that are in WORK already are not made again.
+# Benchmarks the calls of the Rattle crates and of the static C library against the crate wast 263.0.0, in one program (tools/measure) over the loops
+# of tools/measure/rattle and library.c: interleaved passes, in processor time of a thread pinned to one processor; first passes of processes;
+# instructions, counted by callgrind; memory. Writes rows to WORK/rattle.tsv, for docs/speed, and each contender's quartiles to WORK/times.tsv. Texts
+# that exist in WORK are not generated again.
 #
 # usage: [NAME=VALUE ..] tools/measure.sh WORK
 #
-#   WAST=FOLDER      the crate wast 263.0.0, where its registry is not at hand. Only one that has `Cursor::oracle_any`, which takes any token, is
-#                    measured by steps
-#   ARCHIVES=FOLDER  where libwat_measure.a, libwat_parser_c.a and liblibc_c.a lie; otherwise `rt lib` proves and builds the first two
-#   REAL=FILE        the real text; otherwise tools/real_text.sh makes it, where the machine has what it takes
-#   PASSES=15 KINDS=5 FIRSTS=11  how many passes there are, over the texts of one kind each, and processes for the first pass of one
-#   CPU=N            the processor; otherwise the last
-#   PARTS='lexing readers parsing faults'  which parts are measured
+#   WAST=FOLDER      the crate wast 263.0.0, if its registry is not available. Only a version with `Cursor::oracle_any`, which consumes any token, is
+#                    benchmarked by steps
+#   ARCHIVES=FOLDER  the folder of libwat_measure.a, libwat_parser_c.a and liblibc_c.a; otherwise `rt lib` proves and builds the first two
+#   REAL=FILE        the real text; otherwise tools/real_text.sh generates it, if the machine has the tools and libraries it needs
+#   PASSES=15 KINDS=5 FIRSTS=11  the number of passes, of passes over texts of one token kind, and of processes for each first pass
+#   CPU=N            the processor; default: the last one
+#   PARTS='lexing readers parsing faults'  the parts to benchmark
 set -eu -o pipefail
 mkdir -p "${1:?usage: [NAME=VALUE ..] tools/measure.sh WORK}"
 work=$(cd "$1" && pwd)
@@ -26,13 +26,13 @@ firsts=${FIRSTS:-11}
 cpu=${CPU:-$(($(nproc --all) - 1))}
 texts=$work/texts
 program=$work/target/release/measure
-# Its lexing where the crate's `parse` has one caller.
+# The program in which the crate's `parse` has only one caller.
 program_one=$work/target/release/one
 
 # shellcheck source=tools/measure/rows.sh
 . tools/measure/rows.sh
 
-# build_loops: proves and builds the loops, in a copy in which they are a crate, so that they are none where CI proves all
+# build_loops: proves and builds the loops, in a copy of the repository in which they are a crate, so that CI does not prove them
 build_loops() {
     local file
     rm -rf "$copy"
@@ -45,7 +45,7 @@ build_loops() {
     (cd "$copy/crates/wat_measure" && rt lib)
 }
 
-# The archives.
+# Builds the archives.
 copy=$work/copy
 if [ -z "${ARCHIVES:-}" ]; then
     ARCHIVES=$work/archives
@@ -56,7 +56,7 @@ if [ -z "${ARCHIVES:-}" ]; then
 fi
 export ARCHIVES
 
-# The program.
+# Builds the program.
 rm -rf "$work/measure" "$work/measure_rust"
 cp -r tools/measure tools/measure_rust "$work/"
 features=()
@@ -72,7 +72,7 @@ fi
 export INCLUDE=$PWD/include
 (cd "$work/measure" && CARGO_TARGET_DIR=$work/target cargo build --release --quiet "${features[@]}")
 
-# The texts.
+# Generates the texts.
 if [ ! -d "$texts" ]; then
     rm -rf "$texts.new"
     mkdir "$texts.new"
@@ -92,7 +92,7 @@ elif [ ! -e "$texts/real.wat" ]; then
     fi
 fi
 
-# Their fronts of one megabyte and of four, up to the end of a line: glibc uses the pages again of a table of at most two million tokens.
+# Cuts each text to its first megabyte and its first 4 MB, at the end of a line: glibc reuses the pages of a table of at most two million tokens.
 mkdir -p "$texts/fronts"
 for name in real generated annotated dense u32_decimal u32_hexadecimal u32_mixed groups; do
     for size in 1 4; do
@@ -100,7 +100,7 @@ for name in real generated annotated dense u32_decimal u32_hexadecimal u32_mixed
     done
 done
 
-# those NAME..: the texts of these names that are there
+# those NAME..: prints the paths of the texts with these names that exist
 those() {
     local name
     for name; do
@@ -108,13 +108,13 @@ those() {
     done
 }
 
-# over_all SUITE: its rows, on all texts
+# over_all SUITE: prints the rows of a suite on all texts
 over_all() {
     times "$1" "$passes" "${all[@]}"
     times "$1" "$kinds" "$texts"/kinds/*.wat "${forms[@]}"
 }
 
-# sized SUITE NAME: its rows over a text, over its fronts, by the first pass of a process, and by instructions
+# sized SUITE NAME: prints the rows of a suite on a text and on its fronts, those of first passes, and those of instructions
 sized() {
     each "$1" "$texts/$2.wat" "$texts/fronts/$2, "{1,4}" MB.wat"
     first "$1" "$texts/$2.wat"
@@ -161,7 +161,7 @@ parsing() {
     memory parser "${all[@]}"
 }
 
-# faults: places in a text, and errors as they are printed
+# faults: benchmarks line and column of an offset, and printed errors
 faults() {
     times places "$passes" "${all[@]}"
     times errors "$passes" "$texts"/line_*.wat

@@ -1,16 +1,16 @@
 #!/usr/bin/env bash
-# Measures the Rust crates and the C library by cargo beside the crate wast 263.0.0, in one program that cargo builds with its defaults
-# (tools/measure_rust), and the first suite once more with `-C target-cpu=native`: times in turn, pass by pass, by the processor time of a thread that
-# is pinned to one processor; first passes of processes; instructions by callgrind; memory. Writes rows to WORK/rust.tsv, for docs/speed.
+# Benchmarks the Rust crates and the C library built with cargo against the crate wast 263.0.0, in one program that cargo builds with its defaults
+# (tools/measure_rust); the suite `lexing` runs again with `-C target-cpu=native`. Prints interleaved passes, in processor time of a thread pinned to
+# one processor; first passes of processes; instructions, counted by callgrind; memory. Writes rows to WORK/rust.tsv, for docs/speed.
 #
 # usage: WAST=FOLDER TEXTS=FOLDER [NAME=VALUE ..] tools/measure_rust.sh WORK
 #
 #   WAST=FOLDER   the crate wast 263.0.0
 #   TEXTS=FOLDER  the texts that tools/measure.sh left in its WORK/texts
-#   CARGO=cargo   cargo with its options, where no registry is at hand
-#   PASSES=9 FIRSTS=11  how many passes there are, and processes for the first pass of one
-#   CPU=N         the processor; otherwise the last
-#   PARTS='lexing readers parsing faults'  which parts are measured
+#   CARGO=cargo   cargo with its options, if no registry is available
+#   PASSES=9 FIRSTS=11  the number of passes, and of processes for each first pass
+#   CPU=N         the processor; default: the last one
+#   PARTS='lexing readers parsing faults'  the parts to benchmark
 set -eu -o pipefail
 mkdir -p "${1:?usage: WAST=FOLDER TEXTS=FOLDER tools/measure_rust.sh WORK}"
 work=$(cd "$1" && pwd)
@@ -25,12 +25,12 @@ program=$work/target/release/measure_rust
 # shellcheck source=tools/measure/rows.sh
 . tools/measure/rows.sh
 
-# build FLAGS TARGET: the program, with flags of rustc
+# build FLAGS TARGET: builds the program with flags of rustc
 build() {
     (cd "$work/measure_rust" && RUSTFLAGS=$1 CARGO_TARGET_DIR=$2 ${CARGO:-cargo} build --release --quiet)
 }
 
-# The program, and the shared library for C.
+# Builds the program, and the shared library for C.
 rm -rf "$work/measure" "$work/measure_rust"
 cp -r tools/measure tools/measure_rust "$work/"
 sed -i "s|^wast = .*|wast = { path = \"$crate\", default-features = false }|; s|\"\.\./\.\./rust|\"$PWD/rust|" "$work/measure_rust/Cargo.toml"
@@ -39,12 +39,12 @@ export INCLUDE=$PWD/include SHARED=$work/library/release
 build '' "$work/target"
 build '-C target-cpu=native' "$work/native"
 
-# kinds NAME..: texts of one kind
+# kinds NAME..: prints the paths of texts of one token kind
 kinds() {
     printf "$texts/kinds/%s.wat\n" "$@"
 }
 
-# forms NAME..: texts of a form
+# forms NAME..: prints the paths of texts of a form
 forms() {
     printf "$texts/forms/%s.wat\n" "$@"
 }
@@ -84,7 +84,7 @@ parsing() {
     memory parser "$texts"/{real,generated}.wat
 }
 
-# faults: places in a text, and errors as they are printed
+# faults: benchmarks line and column of an offset, and printed errors
 faults() {
     times places "$passes" "${all[@]}"
     times errors "$passes" "$texts"/line_*.wat

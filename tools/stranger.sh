@@ -1,10 +1,10 @@
 #!/usr/bin/env bash
-# Uses a release from scratch, with no clone, no `rt`, an empty home and an empty home of cargo: the commands of its README in an empty folder, the
-# packages' own tests, C programs, the program with its manual page and completions, a Node project, and the page in a browser. What can't be run
-# here is skipped, and reported.
+# Clean-install test: uses a release without a clone, without `rt`, with an empty home and an empty cargo home. Runs the commands of its README in an
+# empty folder, the packages' own tests, C programs, the program with its manual page and completions, a Node project, and the page in a browser. A
+# part that can't be run here is skipped and reported.
 #
-#   CRATES_FOLDER=FOLDER  memchr, smallvec and unicode-width, each in a folder of its own: the Rust commands also run with these as the registry
-#   CHROMIUM=PROGRAM      the browser, `chromium` by default
+#   CRATES_FOLDER=FOLDER  memchr, smallvec and unicode-width, one folder each: the Rust commands also run with these as the registry
+#   CHROMIUM=PROGRAM      the browser; default: `chromium`
 #
 # usage: tools/stranger.sh DIST
 set -euo pipefail
@@ -28,7 +28,7 @@ has() {
     command -v "$1" > /dev/null
 }
 
-# timed WHAT MOST COMMAND..: runs a command, which may use MOST seconds of processor time
+# timed NAME MOST COMMAND..: runs a command, which must use less than MOST seconds of processor time
 timed() {
     local what=$1 most=$2 seconds user system status=0 TIMEFORMAT='%0R %0U %0S'
     shift 2
@@ -39,7 +39,7 @@ timed() {
     [ "$((user + system))" -lt "$most" ] || fail "$what takes $most s of processor time or more"
 }
 
-# expect WHAT WANTED COMMAND..: checks what a command prints
+# expect NAME WANTED COMMAND..: compares the output of a command
 expect() {
     local what=$1 wanted=$2 said
     shift 2
@@ -48,7 +48,7 @@ expect() {
     say "$what: as wanted"
 }
 
-# leave: sets a path without `rt`, and empty homes; only the release's file and README are in the current folder
+# leave: sets a path without `rt`, and empty homes; the current folder then has only the archive of the release
 leave() {
     local name
     export RUSTUP_HOME=${RUSTUP_HOME:-$HOME/.rustup}
@@ -67,15 +67,15 @@ leave() {
     readme=$work/$release/README.md
 }
 
-# pages: the commands of README in the empty folder, and the links of all documents
+# pages: runs the commands of README in the empty folder, and checks the links of all documents
 pages() {
     "$tools/release_pages.py" check "$work/$release"
     "$tools/run_page.py" "$readme" || fail 'a command of README is wrong'
     say "$(wc -l < "$release/SHA256SUMS") sums are right"
 }
 
-# with_registry: README's Rust commands with crates from a registry, as a project with other dependencies has them; only the crates' source is another,
-# so nothing is optimized
+# with_registry: runs README's Rust commands with crates from a registry, like a project with other dependencies. Only the source of the crates
+# differs, so nothing is optimized.
 with_registry() {
     [ -n "$crates_folder" ] || { say 'Rust with a registry: skipped: CRATES_FOLDER is not set' && return; }
     local registry=$work/registry
@@ -90,7 +90,7 @@ with_registry() {
     ) || fail 'a command of README is wrong with a registry'
 }
 
-# rust_packages: the tests that the packages contain, a build for debugging, and the installed program
+# rust_packages: runs the tests that the packages contain, a debug build, and the installed program
 rust_packages() {
     (cd "$release/rust" && CARGO_TARGET_DIR=$work/target timed "the packages' own tests" 300 cargo test --quiet --locked --workspace)
     say "$(awk '/^test result: / { passed += $4 } END { print passed " tests passed" }' "$work/log")"
@@ -98,7 +98,7 @@ rust_packages() {
     expect 'Rust: the program that cargo installs' $'0..1 LParen\n1..2 Keyword\n2..3 RParen' "$CARGO_HOME/bin/wat_tokens" < <(printf '(a)')
 }
 
-# c_project: a C program with strict warnings, and linked with -static
+# c_project: compiles a C program with strict warnings, and also links it with -static
 c_project() {
     local folder flags
     folder=$(echo "$release/c/$(uname -m)"-*)
@@ -127,7 +127,7 @@ C
     ! has cmake || cmake_libraries "$PWD/$folder"
 }
 
-# cmake_libraries FOLDER: both libraries by their CMake targets, and a version that must not be found
+# cmake_libraries FOLDER: links both libraries through their CMake targets, and checks that other versions are not found
 cmake_libraries() {
     local name
     mkdir cmake
@@ -151,7 +151,7 @@ CMAKE
     say 'CMake: versions 0.0.1, 0.9 and 1.0 are not found'
 }
 
-# the_program: what README's copy of the program and of `share` offers
+# the_program: checks the program and the files of `share`, as README installs them
 the_program() {
     local program=$HOME/.local/bin/wat_tokens share=$HOME/.local/share header body
     [ -x "$program" ] && "$program" --version > "$work/log" || { say 'the program: skipped: the release has none for this machine' && return; }
@@ -190,7 +190,7 @@ described() {
     say "manual page and completions: each has the $(wc -w <<< "$words") words of --help"
 }
 
-# completions: what is typed, and the one completion that each shell must offer
+# completions: prints what is typed, and the only completion that each shell must offer
 completions() {
     cat << 'ROWS'
 wat_tokens m|module
@@ -214,7 +214,7 @@ by_fish() {
     fish --no-config -c 'source $argv[1]; complete -C $argv[2]' "$1/fish/vendor_completions.d/wat_tokens.fish" "$2" | cut -f 1
 }
 
-# by_zsh SHARE LINE: prints what zsh makes of a line after a TAB, in a terminal of its own
+# by_zsh SHARE LINE: prints the word that zsh completes on a line after a TAB, in a pseudo-terminal
 by_zsh() {
     cat > "$work/complete.zsh" << 'ZSH'
 zmodload zsh/zpty
@@ -229,7 +229,7 @@ ZSH
     timeout 60 zsh -f "$work/complete.zsh" "$1/zsh/site-functions" "$2" | sed -n "s/^\[wat_tokens.* \([^ ]*\) *\].*/\1/p"
 }
 
-# completed SHARE: compares the completions of each shell that is here, in a folder with no files
+# completed SHARE: compares the completions of each installed shell, in a folder without files
 completed() {
     local shell line wanted said
     for shell in bash fish zsh; do
@@ -242,7 +242,7 @@ completed() {
     done
 }
 
-# node_project: a program over the npm package
+# node_project: runs a program that uses the npm package
 node_project() {
     mkdir node_project
     printf '{ "name": "project", "private": true, "type": "module" }\n' > node_project/package.json
@@ -270,7 +270,7 @@ JS
     fi
 }
 
-# the_page: the page from the disk, in two widths, whose first text is read to its end
+# the_page: opens the page from the disk, in two widths, and checks that its first text is lexed to the end
 the_page() {
     local width said
     for width in 360 1200; do
@@ -282,7 +282,7 @@ the_page() {
     done
 }
 
-# part WHAT FILES COMMAND PROGRAM..: runs a part if the release has its files, and its programs are here
+# part NAME FILES COMMAND PROGRAM..: runs a part if the release has its files, and its programs are installed
 part() {
     local what=$1 files=$2 command=$3 name
     shift 3

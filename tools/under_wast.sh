@@ -1,15 +1,15 @@
 #!/usr/bin/env bash
-# Builds the crate wast 222.0.0 whole over its own lowest layer, that of 263.0.0, and over this project's, without changing a line above, and
-# compares what the two answer of the same texts: bytes, trees with spans, errors as they are printed. Both are built once more: ours so that each
-# buffer keeps what was shown as wast does (`ParseBuffer::keep_shown`), and theirs so that it keeps nothing. Ours has to answer as theirs that
-# keeps nothing, and ours that keeps as theirs; the counts of what differs between ours and theirs are printed. Then calls at random are made of
-# both lowest layers alone (tools/under_wast/plays), under the same rule.
+# Builds the whole crate wast 222.0.0 over its own lowest layer, that of 263.0.0, and over this project's, without changing a line above, and compares
+# the results of both on the same source texts: bytes, trees with spans, printed errors. Each is built twice: ours also with buffers that cache
+# visible tokens as wast does (`ParseBuffer::keep_shown`), theirs also without that cache. Ours must equal theirs without a cache, and ours with a
+# cache must equal theirs; the numbers of differences between ours and theirs are printed. Then differential fuzzing calls both lowest layers directly
+# (tools/under_wast/plays), under the same rule.
 #
-# The drivers are left as WORK/ours/target/release/driver and WORK/theirs/target/release/driver, and in WORK/kept and WORK/fresh.
-# FOLDER is one with workspace.sh, which unpacks wast 222.0.0 over the layer of 263.0.0, and with edge.sh, which writes texts at the edges.
-# CRATES is a folder with the crates that rust/wat-lex takes (memchr, smallvec, unicode-width), each in a folder of its own.
+# The drivers are left as WORK/ours/target/release/driver and WORK/theirs/target/release/driver, and in WORK/kept and WORK/fresh. FOLDER contains
+# workspace.sh, which unpacks wast 222.0.0 over the layer of 263.0.0, and edge.sh, which writes edge-case texts. CRATES is a folder with the crates
+# that rust/wat-lex depends on (memchr, smallvec, unicode-width), one folder each.
 #
-# MUTANTS, 20,000 where it is not given, is the count of mutants and of plays.
+# MUTANTS, 20,000 by default, is the number of mutated texts and of plays.
 #
 # usage: CRATES_FOLDER=CRATES tools/under_wast.sh FOLDER WORK [MUTANTS]
 set -eu -o pipefail
@@ -26,7 +26,7 @@ say() {
     echo "under_wast.sh: $*"
 }
 
-# unpack NAME: a workspace of wast over its own lowest layer, as new; what was built of it before stays
+# unpack NAME: creates a fresh workspace of wast over its own lowest layer; keeps its earlier build
 unpack() {
     local target=$work/$1/target
     [ ! -d "$target" ] || mv "$target" "$work/$1.target"
@@ -39,7 +39,7 @@ unpack() {
     [ ! -d "$work/$1.target" ] || mv "$work/$1.target" "$target"
 }
 
-# ours NAME: a workspace of wast over this project's lowest layer
+# ours NAME: creates a workspace of wast over this project's lowest layer
 ours() {
     unpack "$1"
     local wast=$work/$1/wast module
@@ -47,14 +47,14 @@ ours() {
         rm "$wast/src/$module.rs"
     done
     cp -r rust/wat-parser/src/. tools/under_wast/lib.rs "$wast/src/"
-    # The examples of the documentation.
+    # Renames the crate in the examples of the documentation.
     sed -i 's/^\( *\/\/\/ .*\)wat_parser::/\1wast::/' "$wast/src/parser.rs"
-    # The keywords that 222.0.0 has and 263.0.0 dropped.
+    # Adds the keywords that 222.0.0 has and 263.0.0 dropped.
     sed -n 's/^+ *\(custom_keyword!.*\)/\1/p' "$folder/lib-263-to-222.diff" >> "$wast/src/kw.rs"
     sed -i "s|^\[features\]|[dependencies.wat-lex]\npath = \"$project/rust/wat-lex\"\n\n[features]|" "$wast/Cargo.toml"
 }
 
-# unchanged NAME: fails where a file above the lowest layer is another than wast's
+# unchanged NAME: fails if a file above the lowest layer differs from wast's
 unchanged() {
     local path changed=0 above=0
     while IFS= read -r path; do
@@ -68,12 +68,12 @@ unchanged() {
     [ "$changed" = 0 ]
 }
 
-# build NAME
+# build NAME: builds the driver of a workspace
 build() {
     (cd "$work/$1" && cargo build --offline --release --quiet -p driver)
 }
 
-# answers NAME: what a driver answers of all texts, a line for each question
+# answers NAME: prints the driver's results for all texts, a line for each question
 answers() {
     local driver=$work/$1/target/release/driver texts=("$work"/texts/*)
     "$driver" files "${texts[@]}" | sed 's/^/plain\t/'
@@ -81,12 +81,12 @@ answers() {
     "$driver" mutants "$each" "$work"/tests/* | sed 's/^/mutant\t/'
 }
 
-# different ONE OTHER KIND: how many answers of a kind differ
+# different ONE OTHER KIND: prints the number of results of a kind that differ
 different() {
     diff -a <(grep -a "^$3" "$work/$1.answers") <(grep -a "^$3" "$work/$2.answers") | grep -ac '^<' || true
 }
 
-# plays NAME [keep]: calls at random of this wast's lowest layer and of ours, which keeps what was shown where that is asked for
+# plays NAME [keep]: compares random calls of this wast's lowest layer with ours; with `keep`, our buffers cache visible tokens
 plays() {
     local at=$work/$1/plays
     rm -rf "$at/src"
@@ -102,11 +102,11 @@ plays() {
 
 unpack theirs
 unpack fresh
-# The token that a look found before is looked for again.
+# Disables the cache: the token that an earlier peek found is looked up again.
 sed -i 's/^\( *\)Some(token) => Ok(Some(token)),$/\1Some(_) => self.parser.buf.advance_token(self.pos.offset),/' "$work/fresh/wast/src/parser.rs"
 ours ours
 ours kept
-# Buffers that wast makes above keep what was shown too.
+# Enables the cache also in buffers that wast creates above.
 sed -i 's/^\( *\)keep_shown: false,$/\1keep_shown: true,/' "$work/kept/wast/src/parser.rs"
 ! cmp -s "$work/ours/wast/src/parser.rs" "$work/kept/wast/src/parser.rs"
 unchanged ours
@@ -131,7 +131,7 @@ for text in crates/wat_tokens/agreement/*; do
         *) cp "$text" "$work/texts/" ;;
     esac
 done
-# Some of the mutants are not UTF-8, and so are no texts.
+# Some mutated texts are not UTF-8, so more than MUTANTS are generated.
 each=$((mutants * 5 / 4 / $(find "$work/tests" -type f | wc -l) + 1))
 for name in theirs fresh ours kept; do
     answers "$name" > "$work/$name.answers"

@@ -1,5 +1,5 @@
-# What tools/measure.sh and tools/measure_rust.sh share: rows of figures, each a line of six columns with tabs between them: suite, text, call, ours, the
-# crate's, ratio. It takes `program`, `cpu`, `passes`, `firsts` and `work` of the script that reads it.
+# Functions shared by tools/measure.sh and tools/measure_rust.sh. They print rows of figures, each a line of six columns separated by tabs: suite,
+# text, call, ours, the crate's, ratio. The script that sources this file sets `program`, `cpu`, `passes`, `firsts` and `work`.
 # shellcheck shell=bash disable=SC2154
 
 say() {
@@ -10,19 +10,19 @@ has() {
     command -v "$1" > /dev/null
 }
 
-# describe PASSES: what the rows were measured by
+# describe PASSES: prints the date, the commit, the machine and the method of the benchmark
 describe() {
     echo "# $(date -u +%F), commit $(git rev-parse --short HEAD), $(sed -n 's/^model name.*: //p' /proc/cpuinfo | head -1), $(nproc --all) processors, load $(cut -d' ' -f1-2 /proc/loadavg),"
     echo "# $(rustc --version | cut -d' ' -f1-2); $1"
     printf '# suite\ttext\tcall\tours\twast\tratio\n'
 }
 
-# times SUITE PASSES TEXT..: the rows of a suite, in milliseconds
+# times SUITE PASSES TEXT..: prints the rows of a suite, in milliseconds
 times() {
     taskset -c "$cpu" "$program" "$2" "$1" "${@:3}" 2>> "$work/times.tsv" || { say "$(tail -n 1 "$work/times.tsv")" && exit 1; }
 }
 
-# each SUITE TEXT..: its rows, each text in a process of its own: what was freed before decides which pages glibc gives to a table
+# each SUITE TEXT..: prints the rows of a suite, with a process for each text: earlier allocations decide which pages glibc gives to a table
 each() {
     local text
     for text in "${@:2}"; do
@@ -30,17 +30,17 @@ each() {
     done
 }
 
-# median: of the numbers of standard input, one a line
+# median: prints the median of the numbers of standard input, one a line
 median() {
     sort -n | awk '{ all[NR] = $1 } END { print all[int((NR + 1) / 2)] }'
 }
 
-# ratio THEIRS OURS
+# ratio THEIRS OURS: prints the quotient
 ratio() {
     awk "BEGIN { printf \"%.2f\", $1 / $2 }"
 }
 
-# first SUITE TEXT..: the rows of the first pass of a process: the median of processes that take turns
+# first SUITE TEXT..: prints the rows of the first pass of a process: the median over interleaved processes
 first() {
     local text ours theirs what turn mine other
     for text in "${@:2}"; do
@@ -57,14 +57,14 @@ first() {
     done
 }
 
-# row SUITE TEXT CALL OURS THEIRS: a row, without the crate's figure where that is empty
+# row SUITE TEXT CALL OURS THEIRS: prints a row; an empty THEIRS becomes `-`
 row() {
     local theirs=${5:--} divided=-
     [ "$theirs" = - ] || divided=$(ratio "$theirs" "$4")
     printf '%s\t%s\t%s\t%s\t%s\t%s\n' "$1" "$(basename "$2" .wat)" "$3" "$4" "$theirs" "$divided"
 }
 
-# instructions FUNCTION TEXT: how many a call takes for each byte of the text's front
+# instructions FUNCTION TEXT: prints the instructions of a call for each byte of the text's first megabyte
 instructions() {
     local counted
     valgrind --tool=callgrind --callgrind-out-file=/dev/null --toggle-collect="$1" "$program" once "$1" "$2" 1000000 \
@@ -74,7 +74,7 @@ instructions() {
     awk "BEGIN { printf \"%.2f\", $counted / $(cut -f3 "$work/once") }"
 }
 
-# counts SUITE TEXT..: the rows of a suite's instructions, for each byte of a text's first megabyte
+# counts SUITE TEXT..: prints the rows of a suite's instructions for each byte of a text's first megabyte
 counts() {
     local text ours theirs what other
     has valgrind || { say "instructions of $1 are left out, as valgrind is not here" && return; }
@@ -87,7 +87,7 @@ counts() {
     done
 }
 
-# memory SUITE TEXT..: by how many bytes the process grows for each byte of the text
+# memory SUITE TEXT..: prints the rows of the process's growth, in bytes for each byte of the text
 memory() {
     local text ours theirs what mine other
     for text in "${@:2}"; do
