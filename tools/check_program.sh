@@ -1,12 +1,11 @@
 #!/usr/bin/env bash
-# Builds the program, proved, and runs it: its exit status, standard output and standard error must be the ones that stand here. First come the runs
-# that it was asked for: over standard input, with no word, `sig` or `play`, and the two options. Then what it has beyond these, which is known
-# by its words: JSON, blank, types, files, help. An input that is too long is left out, since it takes 4 GiB of memory; a test of
-# rust/wat-tokens/tests/outcomes.rs has its line and status.
+# Proves and builds the program, and runs it: its exit status, standard output and standard error must equal those written here. First come the runs
+# of the specified interface: standard input, with no arguments, `sig` or `play`, and the two options. Then come the extensions, each with a command
+# or option of its own: JSON, blank, types, files, help. An input that is too long is left out, since it needs 4 GiB of memory; a test in
+# rust/wat-tokens/tests/outcomes.rs checks its report and status.
 #
 # usage: tools/check_program.sh [PROGRAM]
-# Where BY_CARGO is set the program is the one that cargo builds, and a standard input that is closed is an empty one: Rust's library opens
-# /dev/null in its place.
+# If BY_CARGO is set, the program is the one built with cargo, and a closed standard input is empty: Rust's standard library opens /dev/null instead.
 set -eu
 cd "$(dirname "$0")/.."
 program=$(realpath "${1:-$(tools/build.sh wat_tokens)}")
@@ -16,7 +15,7 @@ trap 'rm -rf "$room"' EXIT
 runs=0
 differences=0
 
-# compare FILE NAME: whether a file that the run wrote is as it must be
+# compare FILE NAME: compares a file that the run wrote with the expected one
 compare() {
     if ! cmp -s "$room/wanted_$1" "$room/$1"; then
         echo "$2: $1 is not as it must be:"
@@ -25,7 +24,7 @@ compare() {
     fi
 }
 
-# expect NAME STATUS OUTPUT ERRORS COMMAND..: runs the command on the script's input, where `output` may name a file for the output
+# expect NAME STATUS OUTPUT ERRORS COMMAND..: runs the command on the script's input; `output` may name another file for the output
 expect() {
     local name=$1 got=0
     printf '%s\n' "$2" > "$room/wanted_status"
@@ -41,17 +40,17 @@ expect() {
     compare errors "$name"
 }
 
-# the report of a fault of a file: its message, file, column, line and marker
+# fault_in MESSAGE FILE COLUMN LINE MARGIN: prints the report of an error in line 1 of a file; MARGIN precedes the marker
 fault_in() {
     printf '%s\\n     --> %s:1:%s\\n      |\\n    1 | %s\\n      | %s^\\n' "$@"
 }
 
-# the report of a fault of standard input: its message, column, line and marker
+# fault MESSAGE COLUMN LINE MARGIN: prints the report of an error in line 1 of standard input
 fault() {
     fault_in "$1" '<anon>' "${@:2}"
 }
 
-# headed NAME LINES..: the lists of several files, each after its name
+# headed NAME LINES..: prints the lists of several files, each after a line with its name
 headed() {
     local gap=''
     while [ $# -gt 0 ]; do
@@ -61,41 +60,42 @@ headed() {
     done
 }
 
-# json_fault OFFSET MESSAGE LINE COLUMN: the line of a fault as JSON; the message as it is in the string
+# json_fault OFFSET MESSAGE LINE COLUMN: prints the JSON line of an error; the message is escaped
 json_fault() {
     printf '{"offset":%s,"fault":"%s","line":%s,"column":%s}\\n' "$@"
 }
 
-# json_fault_in FILE OFFSET MESSAGE LINE COLUMN
+# json_fault_in FILE OFFSET MESSAGE LINE COLUMN: prints the JSON line of an error in a named file
 json_fault_in() {
     printf '{"file":"%s",' "$1"
     json_fault "${@:2}" | cut -c2-
 }
 
-# expect_json_fault NAME LINES FAULT REPORT COMMAND..: a list as JSON that ends with a fault: its line follows the tokens, and it is reported too
+# expect_json_fault NAME LINES FAULT REPORT COMMAND..: expects a JSON list that ends with an error: the error's line follows the tokens, and it is
+# also reported
 expect_json_fault() {
     local name=$1 lines=$2 fault=$3 report=$4
     shift 4
     expect "$name" 1 "$lines$fault" "$report" "$@"
 }
 
-# json OFFSET LENGTH KIND TEXT LINE COLUMN: a token's line; the text as it is in the string
+# json OFFSET LENGTH KIND TEXT LINE COLUMN: prints a token's JSON line; the text is escaped
 json() {
     printf '{"offset":%s,"length":%s,"kind":"%s","text":"%s","line":%s,"column":%s}\\n' "$@"
 }
 
-# json_in FILE OFFSET LENGTH KIND TEXT LINE COLUMN
+# json_in FILE OFFSET LENGTH KIND TEXT LINE COLUMN: prints the JSON line of a token of a named file
 json_in() {
     printf '{"file":"%s",' "$1"
     json "${@:2}" | cut -c2-
 }
 
-# expect_usage WORDS..: words of which the usage line is all that is said. They are judged before the input is read, which here fails
+# expect_usage ARGUMENT..: expects only the usage line. Arguments are checked before the input is read, which would fail here
 expect_usage() {
     expect "the words $*" 2 '' "$usage" "$program" "$@" < /
 }
 
-# unread NAME STATUS ERRORS COMMAND..: runs the command on the script's input, with a pipe as output that nobody reads any more
+# unread NAME STATUS ERRORS COMMAND..: runs the command on the script's input, with a pipe as output whose reading end is closed
 unread() {
     local name=$1 status=$2 errors=$3
     shift 3
@@ -106,7 +106,7 @@ os.close(reader)
 sys.exit(subprocess.run(sys.argv[1:], stdout=writer, check=False).returncode % 256)' "$@"
 }
 
-# expect_closed NAME ERRORS COMMAND..: runs the command with a standard input that is closed
+# expect_closed NAME ERRORS COMMAND..: runs the command with a closed standard input
 expect_closed() {
     local name=$1 errors=$2 empty
     shift 2
@@ -125,12 +125,12 @@ confusing_fault=$(fault "likely-confusing unicode character found '\\\\u{202e}'"
 underscores='"\u{1__0}"'
 underscores_fault=$(fault 'bare underscore in numeric literal' 7 '"\\u{1__0}"' '      ')
 
-# all lines, and the lines before a fault
+# All lines, and the lines before an error.
 expect 'no text' 0 '' '' "$program" < /dev/null
 expect 'a module' 0 '0..1 LParen\n1..7 Keyword\n7..8 RParen\n' '' "$program" < <(printf '(module)')
 expect 'a fault' 1 '0..1 Keyword\n' "$(fault 'unterminated block comment' 2 'x(;' ' ')" "$program" < <(printf 'x(;')
 
-# the options
+# The options.
 expect 'confusing' 1 '' "$confusing_fault" "$program" < <(printf %s "$confusing")
 expect 'confusing, strict' 1 '' "$confusing_fault" "$program" --strict-underscores < <(printf %s "$confusing")
 expect 'confusing, allowed' 0 '0..5 LineComment\n' '' "$program" --allow-confusing < <(printf %s "$confusing")
@@ -140,7 +140,7 @@ expect 'underscores, strict' 1 '' "$underscores_fault" "$program" --strict-under
 expect 'both options' 1 '' "$underscores_fault" "$program" --allow-confusing --strict-underscores < <(printf %s "$underscores")
 expect 'both, the other way' 0 '0..5 LineComment\n' '' "$program" --strict-underscores --allow-confusing < <(printf %s "$confusing")
 
-# the tokens that count
+# The significant tokens.
 annotated='(@a (@b) ) (;c;) x'
 expect 'sig' 0 '17..18 Keyword\n' '' "$program" sig < <(printf %s "$annotated")
 expect 'sig, a name' 0 '0..1 LParen\n1..3 Annotation\n9..10 RParen\n17..18 Keyword\n' '' "$program" sig a < <(printf %s "$annotated")
@@ -153,7 +153,7 @@ expect 'sig, confusing' 1 '' "$confusing_fault" "$program" sig < <(printf %s "$c
 expect 'sig, confusing, allowed' 0 '' '' "$program" --allow-confusing sig < <(printf %s "$confusing")
 expect 'sig, strict' 1 '' "$underscores_fault" "$program" --strict-underscores sig < <(printf %s "$underscores")
 
-# replies to calls
+# Replies to calls.
 expect 'play, no calls' 0 '' '' "$program" play < <(printf '"')
 expect 'play' 0 '0..6 Keyword\n19..20 Keyword\ndone\n7..8 LParen\ndone\n19..20 Keyword\nabsent\n' '' \
     "$program" play take look reg=name look unreg=name look unreg=name < <(printf 'module (@name "m") x')
@@ -166,7 +166,7 @@ expect 'play, an empty name' 0 'done\nfault 1 empty annotation id\n' '' "$progra
 expect 'play, a name of options' 0 'done\n0..1 LParen\n' '' "$program" play reg=--json look < <(printf '(@--json) x')
 expect 'play, nine digits' 0 'not closed 10\nnot closed 1\n' '' "$program" play parens=999999999 parens=0 < <(printf 'x(((((((((' | tr x '(')
 
-# what fails, one line each, whatever of the words is given that were asked for
+# failures ARGUMENT..: expects one line for each failure of input, output or memory, with any arguments of the specified interface
 failures() {
     expect "no UTF-8: $*" 2 '' 'wat_tokens: input is not UTF-8\n' "$program" "$@" < <(printf 'a \377')
     expect "a folder: $*" 2 '' 'wat_tokens: read failed\n' "$program" "$@" < /
@@ -196,7 +196,7 @@ expect 'a pipe that is closed early' 2 '0' 'wat_tokens: write failed\n' \
 expect 'sig, a pipe that is closed early' 2 '0' 'wat_tokens: write failed\n' \
     bash -c 'set -o pipefail; "$0" sig < "$1" | head -c 1' "$program" "$room/long" < /dev/null
 
-# the folder of the following runs: files by whose names a word is a file, where it is none of the program's words
+# The folder of the following runs. Its files are named like arguments, so that a wrong argument could be read as a file.
 mkdir "$room/here"
 cd "$room/here"
 printf x > a
@@ -210,7 +210,7 @@ printf z > -dash
 mkdir folder
 word='0..1 Keyword\n'
 
-# words that do not have the form: the usage line, and nothing else
+# Malformed arguments: only the usage line is printed.
 expect_usage foo
 expect_usage lst
 expect_usage ''
@@ -269,8 +269,8 @@ expect_usage --allow-confusing $'\377'
 # shellcheck disable=SC2016
 expect 'the input is left' 2 'rest' "$usage" bash -c '"$0" play Look; status=$?; cat; exit $status' "$program" < <(printf rest)
 
-# any word is a name of sig
-# sig_of NAMES..: a text with a group of one name is listed with these names registered
+# Any argument after `sig` is a name.
+# expect_named NAME ARGUMENT..: expects the list of a text with one group of this name, with these names registered
 expect_named() {
     local name=$1
     shift
@@ -286,13 +286,13 @@ expect 'sig, a name that is not there' 0 '' '' "$program" sig --allow-confusin <
 expect 'sig, a file as a name' 0 "$word" '' "$program" sig a sig -- a < <(printf x)
 expect 'sig, an option as a name' 1 '' "$confusing_fault" "$program" sig --allow-confusing < <(printf %s "$confusing")
 
-# what is in a fault of standard input is raw
+# The line that an error report quotes from unnamed standard input is unescaped.
 controls='x \007\0177\0302\0205\r    \001y'
 expect 'a fault among control characters' 1 '0..1 Keyword\n1..2 Whitespace\n' "$(fault "unexpected character '\\\\u{7}'" 3 "$controls" '  ')" \
     "$program" < <(printf 'x \007\177\302\205\r\t\001y')
 cd "$top"
 
-# beyond what was asked: the lists as JSON
+# Extensions of the specified interface: the lists as JSON.
 expect 'json' 0 "$(json 0 1 LParen '(' 1 1)$(json 1 6 Keyword module 1 2)$(json 7 1 RParen ')' 1 8)" '' "$program" --json < <(printf '(module)')
 expect 'json, no text' 0 '' '' "$program" --json list < /dev/null
 # shellcheck disable=SC2016
@@ -330,7 +330,7 @@ unread list 2 'wat_tokens: write failed\n' "$program" list < <(printf x)
 expect 'list' 0 "$word" '' "$program" list < <(printf x)
 expect 'list, a folder' 2 '' 'wat_tokens: read failed\n' "$program" list < /
 
-# the text with its comments blanked
+# The text with its comments blanked.
 expect 'blank' 0 '(module                 (func))       ' '' "$program" blank < <(printf '(module (; a comment ;) (func)) ;; end')
 expect 'blank, line ends' 0 '  \n \r\n  x  \n' '' "$program" blank < <(printf '(;\n;\r\n;)x;;\n')
 expect 'blank, no text' 0 '' '' "$program" blank < /dev/null
@@ -341,7 +341,7 @@ expect 'blank, strict' 1 '' "$underscores_fault" "$program" --strict-underscores
 expect 'blank, no UTF-8' 2 '' 'wat_tokens: input is not UTF-8\n' "$program" blank < <(printf 'a \377')
 output=/dev/full expect 'blank, no room' 2 '' 'wat_tokens: write failed\n' "$program" blank < <(printf x)
 
-# the bytes of the module that the text spells
+# The bytes of the module that the text defines.
 expect 'types' 0 '\0asm\01\0\0\0\01\05\01\0140\01\0177\0' '' "$program" types < <(printf '(module (type (func (param i32))))')
 expect 'types, none' 0 '\0asm\01\0\0\0' '' "$program" types < <(printf '(module)')
 expect 'types, refused' 1 '' "$(fault "expected keyword \`type\`" 10 '(module (func))' '         ')" "$program" types < <(printf '(module (func))')
@@ -358,7 +358,7 @@ output=/dev/full expect 'module, no room' 2 '' 'wat_tokens: write failed\n' "$pr
 
 unread blank 2 'wat_tokens: write failed\n' "$program" blank < <(printf x)
 
-# files
+# Files.
 cd "$room/here"
 bad=$(fault_in 'unterminated block comment' bad 2 'x(;' ' ')
 expect 'a file' 0 "$word" '' "$program" a < /dev/null
@@ -393,7 +393,7 @@ printf x > once &
 expect 'a file that can be opened once' 0 "$(headed once "$word" a "$word")" '' timeout 10 "$program" list once a < /dev/null
 rm once
 
-# files of sig and play, and of any command
+# Files for `sig` and `play`, and for any command.
 expect 'sig, files' 0 "$(headed a "$word" sig "$word")" '' "$program" --file a --file sig sig name < /dev/null
 expect 'sig, a file and names' 0 '0..1 LParen\n1..3 Annotation\n4..5 Integer\n' '' "$program" --file open sig a -- < /dev/null
 expect 'sig, a file, options' 0 "$word" '' "$program" --allow-confusing --file a --strict-underscores sig < /dev/null
@@ -406,8 +406,8 @@ expect 'play, no such file' 2 '' 'wat_tokens: none: open failed: no such file or
 expect 'list, files by the option' 0 "$(headed a "$word" sig "$word")" '' "$program" --file a --file sig list < /dev/null
 expect 'blank, a file by the option' 0 x '' "$program" --file a blank < /dev/null
 
-# the bytes of a module in a file of their own: it is written where the text compiles, and else stays as it is
-# expect_module NAME STATUS ERRORS TEXT WORDS..: what the words come to, of which the module goes to the file `made`, over a text
+# A module written to a file: the file is written if the text compiles, and otherwise stays as it is.
+# expect_module NAME STATUS ERRORS TEXT ARGUMENT..: runs arguments that write the module of a text to the file `made`, and compares it with `module`
 expect_module() {
     local name=$1 status=$2 errors=$3 text=$4
     shift 4
@@ -445,7 +445,7 @@ expect 'types, to a terminal' 2 "$terminal_line" '' terminal types -
 expect 'module, to a terminal by its name' 0 '\0asm\01\0\0\0' '' terminal module -o -
 expect 'blank, to a terminal' 0 '(module)' '' terminal blank
 
-# standard input by its name
+# Standard input given by name.
 expect 'standard input, named' 0 "$word" '' "$program" - < <(printf x)
 expect 'standard input, named, a fault' 1 "$word" "$(fault_in 'unterminated block comment' '<stdin>' 2 'x(;' ' ')" "$program" - < <(printf 'x(;')
 expect 'standard input, named, no UTF-8' 2 '' 'wat_tokens: <stdin>: input is not UTF-8 at byte 2\n' "$program" list - < <(printf 'a \377')
@@ -457,7 +457,7 @@ expect 'sig, standard input, named' 0 "$word" '' "$program" --file - sig < <(pri
 expect 'sig, standard input, named, not closed' 1 '' '<stdin>: unclosed annotation at byte offset 1\n' "$program" --file - sig < <(printf '(@a 1')
 expect 'play, standard input, named, no UTF-8' 2 '' 'wat_tokens: <stdin>: input is not UTF-8 at byte 0\n' "$program" --file - play look < <(printf '\377')
 
-# control characters of a file's text and name are shown by pictures of them
+# Control characters in a file's text and name are printed as control pictures.
 printf 'x \007\177\302\205\r\t\001y' > controls.wat
 shown=$'x \u2407\u2421\ufffd\u240d    \u2401y'
 expect 'control characters of a file' 1 '0..1 Keyword\n1..2 Whitespace\n' "$(fault_in "unexpected character '\\\\u{7}'" controls.wat 3 "$shown" '  ')" \
@@ -480,7 +480,7 @@ long=$(printf 'n%.0s' {1..200})
 printf 'x(;' > "$long"
 expect 'a long name' 1 "$word" "$(fault_in 'unterminated block comment' "$long" 2 'x(;' ' ')" "$program" "$long" < /dev/null
 
-# files as JSON: the name comes first where there are several files, and in each fault
+# Files as JSON: if there are several files, each line begins with the name; each error has it too.
 expect 'json, a file' 0 "$(json 0 1 Keyword x 1 1)" '' "$program" --json a < /dev/null
 expect 'json, an option after a file' 0 "$(json 0 1 Keyword x 1 1)" '' "$program" a --json < /dev/null
 expect_json_fault 'json, a file with a fault' "$(json 0 1 Keyword x 1 1)" "$(json_fault 1 'unterminated block comment' 1 2)" "$bad" \
@@ -501,7 +501,7 @@ expect_json_fault 'json, a name that is escaped' "$(json_in a 0 1 Keyword x 1 1)
 expect 'json, no such file' 2 '' 'wat_tokens: none: open failed: no such file or directory\n' "$program" --json list none < /dev/null
 cd "$top"
 
-# what the program says of itself
+# Help and version.
 help=$("$program" --help | sed 's/\\/\\\\/g')
 case $help in
 *usage:*'sig NAME..'*'reg=NAME'*examples:*) ;;
@@ -516,13 +516,13 @@ expect 'version' 0 "wat_tokens $version, of wast 263.0.0\n" '' "$program" --vers
 expect 'version, short' 0 "wat_tokens $version, of wast 263.0.0\n" '' "$program" -V < /dev/null
 output=/dev/full expect 'help, no room' 2 '' 'wat_tokens: write failed\n' "$program" --help < /dev/null
 
-# expect_wrong COMPLAINT WORDS..: words beyond those that were asked for, and what is said of them
+# expect_wrong COMPLAINT ARGUMENT..: expects this complaint about arguments of the extensions
 expect_wrong() {
     local complaint=$1
     shift
     expect "the words $*" 2 '' "wat_tokens: $complaint\n$more" "$program" "$@" < /
 }
-# wrong words of the commands beyond those that were asked for
+# Expects the complaints about wrong arguments of the extensions.
 wrong_words_beyond() {
     expect_wrong '--help comes too late' a.wat --help
     expect_wrong '-V comes too late' list -V

@@ -1,4 +1,4 @@
-// Runs a program for WASI, with its words and the machine's files: node tools/wasi.mjs PROGRAM [WORD]..
+// Runs a WASI program with its arguments and the machine's files: node tools/wasi.mjs PROGRAM [WORD]..
 import { readFile } from 'node:fs/promises';
 import { WASI } from 'node:wasi';
 

@@ -1,5 +1,5 @@
 ;;; eglot.el --- A session of Emacs with the language server, by eglot  -*- lexical-binding: t -*-
-;; The faults of a buffer, an edit that mends it, and its layout. Writes a line for each.
+;; Prints the errors of a buffer, an edit that fixes them, and the formatted text, each on a line.
 ;; usage: SERVER=PROGRAM emacs --batch -l eglot.el FILE
 (require 'package)
 (package-initialize)

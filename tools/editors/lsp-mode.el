@@ -1,5 +1,5 @@
 ;;; lsp-mode.el --- A session of Emacs with the language server, by lsp-mode  -*- lexical-binding: t -*-
-;; The faults of a buffer, an edit that mends it, its colours, and its layout. Writes a line for each.
+;; Prints the errors of a buffer, an edit that fixes them, its semantic tokens, and the formatted text, each on a line.
 ;; usage: SERVER=PROGRAM emacs --batch -l lsp-mode.el FILE
 (require 'package)
 (package-initialize)
@@ -13,7 +13,7 @@
  (make-lsp-client :new-connection (lsp-stdio-connection (getenv "SERVER")) :major-modes '(wat-mode) :server-id 'wat))
 
 (defun wait-until (what holds)
-  "Wait until the function HOLDS answers other than nil, and name WHAT where it does not."
+  "Wait until the function HOLDS returns non-nil, or fail with an error that names WHAT."
   (with-timeout (10 (error "No %s" what))
     (while (not (funcall holds))
       (accept-process-output nil 0.01))))

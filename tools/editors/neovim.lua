@@ -1,4 +1,4 @@
--- In Neovim: the faults of the buffer, an edit that mends it, its colours, and its layout. Writes a line for each.
+-- Prints the errors of a buffer in Neovim, an edit that fixes them, its semantic tokens, and the formatted text, each on a line.
 -- usage: SERVER=PROGRAM nvim --headless -u NONE -c 'luafile neovim.lua' FILE
 local function say(...) io.stdout:write(table.concat({ ... }, ' '), '\n') end
 

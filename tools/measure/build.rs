@@ -1,5 +1,5 @@
-//! Compiles the loops in C over the header in the folder that `INCLUDE` names, and finds the static libraries of loops and for C, and the small C library
-//! of Rattle's kit, in the folder that `ARCHIVES` names.
+//! Compiles the loops in C over the header in the folder `INCLUDE`. Links the static libraries of loops and for C, and the small C library of
+//! Rattle's toolchain, from the folder `ARCHIVES`.
 
 include!("compile.rs");
 

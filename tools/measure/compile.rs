@@ -1,4 +1,4 @@
-/// Compiles a file of loops in C, as an archive to be linked, by the compiler that `CC` names or `cc`.
+/// Compiles a C file of loops to an archive, with the compiler named by `CC` or with `cc`, and links it.
 fn compile(source: &str) {
     println!("cargo::rerun-if-env-changed=INCLUDE");
     println!("cargo::rerun-if-changed={source}");

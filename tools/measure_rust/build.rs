@@ -1,4 +1,4 @@
-//! Compiles the loops in C over the header in the folder that `INCLUDE` names, and finds the shared library in the folder that `SHARED` names.
+//! Compiles the loops in C over the header in the folder `INCLUDE`, and links the shared library in the folder `SHARED`.
 
 include!("../measure/compile.rs");
 

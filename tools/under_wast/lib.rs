@@ -1,4 +1,4 @@
-//! The crate `wast` with this project's lowest layer: the modules of `wat-parser` in the place of its own.
+//! The crate `wast` over this project's lowest layer: the modules of `wat-parser` replace its own.
 #![allow(missing_docs)]
 
 extern crate alloc;
@@ -9,7 +9,7 @@ mod macros;
 pub mod annotation;
 mod encode;
 mod error;
-// As in `wat-parser`.
+// Allowed as in `wat-parser`.
 #[allow(dead_code, non_camel_case_types)]
 #[allow(unused_imports, unused_labels, unused_variables)]
 mod generated {

@@ -17,7 +17,7 @@ loops! {
     error library_error,
 }
 
-/// The loops that see each token, beside one of the crate's.
+/// Returns the loops over every token, each paired with a loop of the crate.
 pub const fn of_tokens(theirs: Option<Loop>) -> [Pair; 4] {
     [
         pair("wat_fill", ("library_fill", fill), theirs),
@@ -31,7 +31,8 @@ pub const fn of_tokens(theirs: Option<Loop>) -> [Pair; 4] {
     ]
 }
 
-/// The loops over rows, beside the crate's over the tokens that are no trivia; and the test of a text, to which the crate has nothing.
+/// Returns the loop over rows, paired with the crate's loop over the significant tokens, and the loop that validates a text, for which the crate has
+/// no counterpart.
 #[allow(dead_code)]
 pub const fn of_rows(theirs: Option<Loop>) -> [Pair; 2] {
     [

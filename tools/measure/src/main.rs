@@ -1,14 +1,14 @@
-//! Measures this project's calls beside those of the crate `wast`, in one process: in each pass every contender runs once, in turn, the first of them
-//! another in each pass. A time is the processor time of the thread, and a ratio that of the medians, the crate's to ours: above 1 ours is faster.
-//! Ours and the crate's have to answer the same sum, and not 0, which is for a text that is refused.
+//! Benchmarks this project's calls against those of the crate `wast`, in one process. Each pass runs every contender once, and each pass starts with
+//! the next one. A time is the thread's processor time. A ratio is the crate's median divided by ours: above 1, ours is faster. Ours and the crate's
+//! must return the same sum, which must not be 0, the sum of a rejected text.
 //!
 //! usage: measure PASSES SUITE TEXT..             a row for each call: suite, text, call, milliseconds of ours and of the crate's, ratio
 //!        measure functions SUITE                 the functions of a suite: ours, and the crate's or -, and the call
 //!        measure once FUNCTION TEXT [BYTES]      one call on the text, or on its front: the sum, by how many bytes the process grew, the
 //!                                                text's bytes, the milliseconds
 //!
-//! A TEXT that is a folder is its files, which a pass reads one by one. In `errors` the fault is at the text's last byte. Each contender's
-//! best, quartile, median and upper quartile go to standard error.
+//! If TEXT is a folder, each pass reads its files one after another. In `errors`, the lexical error is at the text's last byte. Each contender's
+//! minimum, lower quartile, median and upper quartile go to standard error.
 
 #[path = "../../measure_rust/src/layer.rs"]
 mod layer;
@@ -66,7 +66,7 @@ const LEXING: &[Pair] = &[
     ),
 ];
 
-// What reads with a parser has a loop for each source of one, beside the same of the crate.
+// Each suite of a parser has a loop for each of the parser's sources, paired with the crate's loop.
 const PARSER: &[Pair] = &[
     pair("ParseBuffer::new", ("measure_buffer", ours::buffer), None),
     pair("Parser::step", ("measure_each", ours::each), EACH),

@@ -1,4 +1,4 @@
-//! What both programs do with their suites.
+//! Passes, rows and command line of the benchmark programs.
 
 use std::hint::black_box;
 use std::path::Path;
@@ -10,10 +10,10 @@ const USAGE: &str =
 
 type Result<T> = std::result::Result<T, Box<dyn std::error::Error>>;
 
-/// A loop over a text, and its name for callgrind.
+/// A loop over a text, with its name for callgrind.
 pub type Loop = (&'static str, fn(&str) -> u64);
 
-/// A loop of ours, and that of the crate which it is measured against.
+/// A loop of ours, and the loop of the crate that it is compared with.
 pub struct Pair {
     what: &'static str,
     ours: Loop,
@@ -24,7 +24,7 @@ pub const fn pair(what: &'static str, ours: Loop, theirs: Option<Loop>) -> Pair 
     Pair { what, ours, theirs }
 }
 
-/// Loops in C or in Rattle over a text, made safe.
+/// Declares loops in C or in Rattle over a text, with safe wrappers.
 macro_rules! loops {
     ($($name:ident $symbol:ident),* $(,)?) => {
         unsafe extern "C" {
@@ -34,7 +34,7 @@ macro_rules! loops {
         $(#[allow(dead_code)]
         pub fn $name(text: &str) -> u64 {
             assert!(text.len() <= u32::MAX as usize);
-            // SAFETY: the text is UTF-8, as each `&str`, and its length was tested.
+            // SAFETY: the text is UTF-8, like each `&str`, and its length was checked.
             unsafe { $symbol(text.as_ptr(), text.len()) }
         })*
     };
@@ -42,7 +42,7 @@ macro_rules! loops {
 #[allow(unused_imports)]
 pub(crate) use loops;
 
-/// A suite, by its name.
+/// A suite: its name and its pairs.
 pub type Suite = (&'static str, &'static [Pair]);
 
 fn suite<'a>(suites: &'a [Suite], name: &str) -> Result<&'a Suite> {
@@ -54,17 +54,17 @@ unsafe extern "C" {
     fn clock_gettime(clock: i32, time: *mut [i64; 2]) -> i32;
 }
 
-/// The processor time of this thread, in nanoseconds.
+/// Returns the processor time of this thread, in nanoseconds.
 fn now() -> u64 {
     const THREAD: i32 = 3;
     let mut time = [0; 2];
-    // SAFETY: a `timespec` of Linux on x86-64 is two numbers of 64 bits.
+    // SAFETY: a `timespec` of Linux on x86-64 consists of two 64-bit integers.
     let status = unsafe { clock_gettime(THREAD, &mut time) };
     assert_eq!(status, 0, "the thread has a clock");
     time[0] as u64 * 1_000_000_000 + time[1] as u64
 }
 
-/// What the passes of a contender took, in nanoseconds, the least first.
+/// The times of a contender's passes, in nanoseconds, sorted.
 struct Times(Vec<u64>);
 
 impl Times {
@@ -81,7 +81,7 @@ impl Times {
     }
 }
 
-/// A suite's contenders, each once.
+/// Returns the contenders of a suite, without duplicates.
 fn contenders(suite: &[Pair]) -> Vec<Loop> {
     let mut all: Vec<Loop> = Vec::new();
     let both = |pair: &Pair| iter::once(pair.ours).chain(pair.theirs);
@@ -93,7 +93,7 @@ fn contenders(suite: &[Pair]) -> Vec<Loop> {
     all
 }
 
-/// What a loop answers of texts, one after another, and how long it took.
+/// Runs a loop on each text. Returns the time in nanoseconds, at least 1, and the sum of the results.
 fn pass(call: fn(&str) -> u64, texts: &[String]) -> (u64, u64) {
     let begun = now();
     let sums = texts.iter().map(|text| black_box(call(black_box(text))));
@@ -101,7 +101,7 @@ fn pass(call: fn(&str) -> u64, texts: &[String]) -> (u64, u64) {
     ((now() - begun).max(1), sum)
 }
 
-/// The times of all contenders, in turn, and their sums.
+/// Runs all contenders, in rotating order, and returns their times and their sums.
 fn run(contenders: &[Loop], passes: usize, texts: &[String]) -> Vec<(Times, u64)> {
     let count = contenders.len();
     let mut all: Vec<_> = contenders.iter().map(|_| (Times(Vec::new()), 0)).collect();
@@ -157,7 +157,7 @@ fn rows(name: &str, suite: &Suite, passes: usize, texts: &[String]) -> Result<()
     Ok(())
 }
 
-/// The text of a file, or those of the files of a folder.
+/// Returns the text of a file, or of each file of a folder.
 fn texts(path: &str) -> Result<Vec<String>> {
     if !Path::new(path).is_dir() {
         return Ok(vec![fs::read_to_string(path)?]);
@@ -171,7 +171,7 @@ fn texts(path: &str) -> Result<Vec<String>> {
         .collect()
 }
 
-/// The front of a text of at most so many bytes, of whole lines where it has one.
+/// Returns the start of a text, of at most `bytes` bytes; it ends with a line if it contains a line end.
 fn front(text: &str, bytes: usize) -> &str {
     let front = &text[..text.floor_char_boundary(bytes)];
     match front.rfind('\n') {
@@ -180,7 +180,7 @@ fn front(text: &str, bytes: usize) -> &str {
     }
 }
 
-/// How many bytes of memory the process has, or had at most.
+/// Returns the process's current or peak resident memory, in bytes, from this key of `/proc/self/status`.
 fn memory(key: &str) -> Result<u64> {
     let status = fs::read_to_string("/proc/self/status")?;
     let line = status.lines().find(|line| line.starts_with(key));
@@ -188,7 +188,7 @@ fn memory(key: &str) -> Result<u64> {
     Ok(number.ok_or("no such line")?.parse::<u64>()? * 1024)
 }
 
-/// Prints of one call the sum, by how many bytes the process grew, the bytes of the texts, and the milliseconds.
+/// Runs a loop once. Prints the sum, the growth of the process in bytes, the length of the texts in bytes, and the milliseconds.
 fn once(suites: &[Suite], function: &str, texts: &[String]) -> Result<()> {
     let all = suites.iter().flat_map(|suite| contenders(suite.1));
     let found = all.into_iter().find(|one| one.0 == function);
@@ -227,7 +227,7 @@ fn answer(suites: &[Suite], words: &[&str]) -> Result<()> {
     }
 }
 
-/// Does what the words ask for.
+/// Runs the command given by the arguments.
 pub fn run_words(suites: &[Suite]) -> ExitCode {
     let words: Vec<String> = env::args().skip(1).collect();
     let words: Vec<&str> = words.iter().map(String::as_str).collect();

@@ -1,4 +1,4 @@
-//! A step a token over the crate `wast`, where it has `Cursor::oracle_any`. Its name stays as it is, for callgrind.
+//! A loop over the crate `wast` with one step for each token, for versions that have `Cursor::oracle_any`. callgrind finds it by its unmangled name.
 
 use crate::theirs::weight;
 use wast::parser::{self, Parse, ParseBuffer, Parser, Result};
@@ -21,7 +21,7 @@ impl<'a> Parse<'a> for Each {
     }
 }
 
-/// The kinds of all tokens that are shown; 0 where the text is refused.
+/// Sums the weights of all visible tokens; returns 0 if the text is rejected.
 #[inline(never)]
 #[unsafe(no_mangle)]
 pub fn theirs_any(text: &str) -> u64 {

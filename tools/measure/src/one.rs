@@ -1,4 +1,4 @@
-//! The suites `lexing` and `library` of `measure`, where the crate's `parse` has one caller, and so is built into it.
+//! The suites `lexing` and `library` of `measure`, in a program in which the crate's `parse` has only one caller and is inlined there.
 
 mod library;
 mod measure;

@@ -1,4 +1,4 @@
-//! The loops of `tools/measure/rattle`, made safe. The program `one` has some of them alone.
+//! The loops of `tools/measure/rattle`, with safe wrappers. The program `one` uses only some of them.
 #![allow(dead_code)]
 
 use crate::measure::loops;
@@ -30,16 +30,16 @@ unsafe extern "C" {
     fn measure_error(text: *const u8, len: usize, pos: usize) -> u64;
 }
 
-/// Line and column of the last byte.
+/// Returns the sum for the line and column of the last byte.
 pub fn linecol(text: &str) -> u64 {
-    // SAFETY: the text is UTF-8, as each `&str`.
+    // SAFETY: the text is UTF-8, like each `&str`.
     unsafe { measure_linecol(text.as_ptr(), text.len(), text.len() - 1) }
 }
 
-/// The error of the fault at the last byte, printed.
+/// Returns the sum for the printed error at the last byte.
 pub fn error(text: &str) -> u64 {
     let pos = text.len() - 1;
     assert!(text.len() <= u32::MAX as usize && text.is_char_boundary(pos));
-    // SAFETY: the text is UTF-8, as each `&str`; its length and the place were tested.
+    // SAFETY: the text is UTF-8, like each `&str`; its length and the position were checked.
     unsafe { measure_error(text.as_ptr(), text.len(), pos) }
 }

@@ -1,8 +1,8 @@
-//! The first loop of `tools/measure/rattle` once more, over the crate `wast`. Its name stays as it is, for callgrind.
+//! The first loop of `tools/measure/rattle`, over the crate `wast`. callgrind finds it by its unmangled name.
 
 use wast::lexer::{Lexer, TokenKind};
 
-/// A number for each kind.
+/// Returns a distinct weight for each kind.
 pub fn weight(kind: TokenKind) -> u64 {
     match kind {
         TokenKind::LineComment => 1,

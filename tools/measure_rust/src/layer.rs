@@ -1,4 +1,5 @@
-/// Loops over a crate with the names of `wast`. The functions have names of their own, for callgrind.
+/// Defines the benchmark loops over a crate with the names of `wast`. Each expansion names its functions itself, so that callgrind can tell them
+/// apart.
 macro_rules! layer {
     (
         $layer:ident, $module:ident:
@@ -17,7 +18,7 @@ macro_rules! layer {
                 $layer::custom_keyword!(word_c = "c");
             }
 
-            /// A number for each kind.
+            /// Returns a distinct weight for each kind.
             pub fn weight(kind: TokenKind) -> u64 {
                 match kind {
                     TokenKind::LineComment => 1,
@@ -77,7 +78,7 @@ macro_rules! layer {
                 tokens.fold(0, |sum, token| sum.wrapping_add(whole(&token)))
             }
 
-            /// The kinds of tokens that are neither white space nor comments.
+            /// Sums the weights of the tokens that are neither whitespace nor comments.
             #[inline(never)]
             #[unsafe(no_mangle)]
             pub fn $counting(text: &str) -> u64 {
@@ -113,7 +114,7 @@ macro_rules! layer {
                 }
             }
 
-            /// What the token reads as: a number of its length and ends.
+            /// Reads the token's value, and returns a sum of its length and its first and last byte.
             fn value(token: &Token, text: &str) -> u64 {
                 match token.kind {
                     TokenKind::String => ends(&token.string(text)),
@@ -155,7 +156,7 @@ macro_rules! layer {
                 tokens.fold(0, |sum, token| sum.wrapping_add(comment(&token, text)))
             }
 
-            /// What a type reads of a whole text; 0 where it does not.
+            /// Parses a whole text as `T`, and returns its sum; 0 if the text is rejected.
             fn read<T: for<'a> Parse<'a> + Into<u64>>(text: &str) -> u64 {
                 let Ok(buffer) = ParseBuffer::new(text) else {
                     return 0;
@@ -163,7 +164,7 @@ macro_rules! layer {
                 parser::parse::<T>(&buffer).map_or(0, T::into)
             }
 
-            /// The token that is shown, whatever it is, and the place after it; 0 at the text's end.
+            /// Consumes the visible token, of any kind except an annotation. Returns its weight and the cursor after it; 0 at the end of the text.
             fn take<'a>(cursor: Cursor<'a>) -> Result<(u64, Cursor<'a>)> {
                 if let Some((_, next)) = cursor.keyword()? {
                     return Ok((17, next));
@@ -217,7 +218,7 @@ macro_rules! layer {
                 read::<Each>(text)
             }
 
-            /// All tokens, with the groups of annotations of a name.
+            /// The sum over all tokens, including the annotation groups with the name `name`.
             struct Annotated(u64);
 
             impl From<Annotated> for u64 {
@@ -249,7 +250,7 @@ macro_rules! layer {
                 read::<Annotated>(text)
             }
 
-            /// All tokens, with the comments between them.
+            /// The sum over all tokens, including the comments between them.
             struct Cursors(u64);
 
             impl From<Cursors> for u64 {
@@ -280,7 +281,7 @@ macro_rules! layer {
                 read::<Cursors>(text)
             }
 
-            /// What three looks see at each token.
+            /// The sum over all tokens, and over the results of three peeks at each of them.
             struct Peeks(u64);
 
             impl From<Peeks> for u64 {
@@ -335,7 +336,7 @@ macro_rules! layer {
                 read::<Numbers>(text)
             }
 
-            /// A type of which a list is read, and what its values add up to.
+            /// A type whose values form a list; `number` is added to the list's sum.
             trait Item<'a>: Parse<'a> {
                 fn number(&self) -> u64;
             }
@@ -441,7 +442,7 @@ macro_rules! layer {
                 read::<Groups>(text)
             }
 
-            /// Where a list of integers is refused: 0 where it is not.
+            /// Returns the offset of the error in a list of integers; 0 if there is none.
             #[inline(never)]
             #[unsafe(no_mangle)]
             pub fn $refused(text: &str) -> u64 {

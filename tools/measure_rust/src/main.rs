@@ -1,5 +1,5 @@
-//! Measures the Rust crates beside the crate `wast`, in one process, as tools/measure does: `wat-lex` and `wat-parser` with the names of `wast`, whose
-//! loops are the same text, and the proved modules below them.
+//! Benchmarks the Rust crates against the crate `wast`, in one process, like tools/measure: `wat-lex` and `wat-parser`, which have the names of
+//! `wast` and share its loops, and the proved modules below them.
 //!
 //! usage: measure_rust PASSES SUITE TEXT..         a row for each call: suite, text, call, milliseconds of ours and of the crate's, ratio
 //!        measure_rust functions SUITE             the functions of a suite: ours, and the crate's or -, and the call
@@ -44,7 +44,7 @@ const REFUSED: Option<Loop> = Some(("theirs_refused", theirs::theirs_refused));
 const LINECOL: Option<Loop> = Some(("theirs_linecol", theirs::theirs_linecol));
 const ERROR: Option<Loop> = Some(("theirs_error", theirs::theirs_error));
 
-// Each call has two callers, as in a program that lexes at two places: a call with one caller is built into it.
+// Each call has two callers, like in a program that lexes in two functions: a call with only one caller would be inlined.
 const LEXING: &[Pair] = &[
     pair(
         "proved Lexer::scan",
@@ -70,7 +70,7 @@ const LEXING: &[Pair] = &[
     ),
 ];
 
-// What reads with a parser has a loop for each source of one, beside the same of the crate.
+// Each suite of a parser pairs its loops with the crate's loop.
 const SUITES: &[Suite] = &[
     ("lexing", LEXING),
     ("library", &of_tokens(PARSE)),

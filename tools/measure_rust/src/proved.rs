@@ -1,4 +1,4 @@
-//! The same loops over the proved modules alone.
+//! Benchmark loops over the proved modules alone.
 
 use crate::ours::weight;
 use wat_lex::shim::alloc::Global;
@@ -36,7 +36,7 @@ pub fn proved_scan_whole(text: &str) -> u64 {
     sum
 }
 
-/// What a type reads of a whole text; 0 where it does not.
+/// Parses a whole text as `T`, and returns its sum; 0 if the text is rejected.
 fn read<T: for<'a> Parse<'a> + Into<u64>>(text: &str) -> u64 {
     let Ok(buffer) = ParseBuffer::new(Global, text) else {
         return 0;

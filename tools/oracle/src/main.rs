@@ -1,9 +1,9 @@
-//! Lists the raw tokens of standard input over the crate `wast`, in the form of `wat_tokens`: a line for each token, its bytes and its
-//! kind. A fault ends the list and goes to standard error.
+//! Test oracle: lists the raw tokens of standard input, lexed by the crate `wast`, in the form of `wat_tokens`: a line for each token, with its byte
+//! range and its kind. A lexical error ends the list and is printed to standard error.
 //!
 //! usage: oracle [--allow-confusing]
 //!
-//! The status is 0, 1 where the text has a fault, or 2 where the words are others or the input is not UTF-8.
+//! The status is 0, 1 if the text has a lexical error, or 2 if the arguments are wrong or the input is not UTF-8.
 use std::io::{self, Read, Write};
 use std::process::ExitCode;
 use wast::lexer::{Lexer, Token, TokenKind};
@@ -30,12 +30,12 @@ fn write_line(lines: &mut Vec<u8>, token: &Token) -> io::Result<()> {
     writeln!(lines, "{}..{end} {}", token.offset, kind_name(token.kind))
 }
 
-/// The lines of the raw tokens up to the first fault, and that fault.
+/// Returns the lines of the raw tokens before the first lexical error, and that error.
 fn list(text: &str, allow_confusing: bool) -> io::Result<(Vec<u8>, Option<wast::Error>)> {
     let mut lexer = Lexer::new(text);
     lexer.allow_confusing_unicode(allow_confusing);
     let mut lines = Vec::new();
-    // `iter` may go on after a fault, or repeat it without end.
+    // Stops at the first error: after it, `iter` may continue, or repeat it endlessly.
     for token in lexer.iter(0) {
         match token {
             Ok(token) => write_line(&mut lines, &token)?,

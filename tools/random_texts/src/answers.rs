@@ -1,5 +1,5 @@
-// The calls of a layer with the names of `wast`, each answered as text. `main.rs` includes this file once for each of two crates, as `layer`,
-// with a function `keep_shown`.
+// The calls of a layer with the names of `wast`, each with its result as text. `main.rs` includes this file once for each of two crates, named
+// `layer`, and defines `keep_shown` for each.
 
 use crate::random::Random;
 use crate::report::Answers;
@@ -16,7 +16,7 @@ fn lexer_of(text: &str, allow: bool) -> Lexer<'_> {
     lexer
 }
 
-/// The tokens of a text with their values, and the fault that ends them.
+/// Records the tokens of a text with their values, and the error that ends them.
 pub fn tokens(text: &str, allow: bool, answers: &mut Answers) {
     let (lexer, mut place) = (lexer_of(text, allow), 0);
     loop {
@@ -48,7 +48,7 @@ fn value(token: &Token, text: &str) -> String {
     }
 }
 
-/// A value, or the error.
+/// Formats a value, or the error.
 pub fn outcome<T: Debug>(answer: Result<T>) -> String {
     match answer {
         Ok(value) => format!("{value:?}"),
@@ -56,7 +56,7 @@ pub fn outcome<T: Debug>(answer: Result<T>) -> String {
     }
 }
 
-/// All that an error says. What `InvalidUtf8Id` holds in `wast` is left out, as it holds nothing here.
+/// Formats an error's offset, cause, message and printed form. Omits the fields of `InvalidUtf8Id`, which exist only in `wast`.
 pub fn fault(error: &Error) -> String {
     let offset = error.span().offset();
     let message = error.message();
@@ -73,7 +73,7 @@ pub fn buffer_of(text: &str, allow: bool) -> ParseBuffer<'_> {
         .unwrap_or_else(|error| panic!("no buffer: {error}"))
 }
 
-/// The text read as the type of a number, which counts from 0.
+/// Parses the text as the type with this index, counted from 0, and records the result.
 pub fn typed(text: &str, allow: bool, number: usize, answers: &mut Answers) {
     let buffer = buffer_of(text, allow);
     let read = match number {
@@ -99,7 +99,7 @@ pub fn typed(text: &str, allow: bool, number: usize, answers: &mut Answers) {
     answers.push(&format_args!("type {number}: {read}"));
 }
 
-/// The types that print otherwise in the proved crates, or are not there.
+/// Parses one of the types that the proved modules print differently, or lack.
 fn without_proved_form<'a>(buffer: &'a ParseBuffer<'a>, number: usize) -> String {
     match number {
         17 => outcome(parse::<(u32, Span)>(buffer)),
@@ -112,15 +112,15 @@ fn without_proved_form<'a>(buffer: &'a ParseBuffer<'a>, number: usize) -> String
     }
 }
 
-/// A parser that is asked at random. Its calls come from a random number, so another layer with the same number is asked the same.
+/// Random calls of a parser. The calls depend on a seed and on earlier results, so two layers get the same calls as long as they return the same.
 struct Play {
     random: Random,
-    /// Whether names are registered and taken back.
+    /// Whether annotation names are registered and unregistered.
     is_registering: bool,
     answers: Answers,
 }
 
-/// Calls of a parser at the start of the text.
+/// Makes random calls of a parser at the start of the text, and records the results.
 pub fn play(text: &str, allow: bool, seed: u64, answers: &mut Answers) {
     let is_registering = seed % 2 == 0;
     let mut buffer = buffer_of(text, allow);
@@ -136,7 +136,7 @@ pub fn play(text: &str, allow: bool, seed: u64, answers: &mut Answers) {
 }
 
 thread_local! {
-    /// What a `Played` plays, as `Parse` takes nothing but a parser.
+    /// The play that `Played` continues; `Parse::parse` has no argument for it.
     static PLAY: Cell<Option<Play>> = const { Cell::new(None) };
 }
 
@@ -151,7 +151,7 @@ impl<'a> Parse<'a> for Played {
     }
 }
 
-/// Names that are registered: some are in the texts.
+/// Annotation names to register; some occur in the texts.
 const NAMES: &[&str] = &["a", "b", "name", "custom", "d"];
 
 impl Play {
@@ -256,7 +256,7 @@ impl Play {
         }
     }
 
-    /// A step over up to three tokens, or one that is refused.
+    /// Steps over up to three tokens; one step in eight returns an error instead.
     fn step(&mut self, parser: Parser<'_>) {
         let tokens = self.random.below(4);
         let is_refused = self.random.is_one_in(8);
@@ -278,7 +278,7 @@ impl Play {
         self.answer("step", answer);
     }
 
-    /// Each look of a cursor, which leaves the parser.
+    /// Calls each peek of a cursor, without moving the parser.
     fn looks(&mut self, parser: Parser<'_>) {
         let answer = parser.step(|cursor| {
             let seen = [
@@ -312,7 +312,7 @@ impl Play {
     }
 }
 
-/// The shown token whatever its kind, and the cursor after it.
+/// Consumes the visible token, of any kind. Returns its text, and the cursor after it.
 pub fn any(cursor: Cursor<'_>) -> Result<Option<(String, Cursor<'_>)>> {
     if let Some(next) = cursor.lparen()? {
         return Ok(Some(("(".to_owned(), next)));
@@ -349,7 +349,7 @@ fn any_value(cursor: Cursor<'_>) -> Result<Option<(String, Cursor<'_>)>> {
     Ok(string.map(|(string, next)| (format!("{string:?}"), next)))
 }
 
-/// Takes what is left of a group.
+/// Consumes the rest of a group.
 pub fn skip(parser: Parser<'_>) -> Result<()> {
     let mut depth = 0;
     while depth > 0 || !parser.is_empty() {

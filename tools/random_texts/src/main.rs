@@ -1,14 +1,14 @@
-//! Compares the crates here with the crate `wast` on random texts: tokens with their values, printed faults, typed readings, and calls of a
-//! parser. A text that is answered otherwise is printed, with both answers; the first eight are enough. Without the feature `wast` the layer
-//! and the proved calls below it are compared with each other. At the end there is a sum over all answers, which is the same on every machine, but
-//! for compilers whose tables of Unicode escape other characters in `{:?}`.
+//! Differential fuzzing of the crates of this repository against the crate `wast`. Compares tokens with their values, printed errors, parsed
+//! types, and calls of a parser, on random texts. A text with different results is printed, with both results; the run ends after eight such
+//! texts. Without the feature `wast`, only the layer and the proved modules below it are compared with each other. At the end it prints a sum
+//! over all results, which is the same on every machine, unless compilers differ in the characters that `{:?}` escapes.
 //!
 //! usage: random_texts SEED COUNT [FILE or FOLDER]..
 //!        random_texts --program PROGRAM SEED COUNT [FILE or FOLDER]..
 //!        random_texts --sources SEED COUNT [FILE or FOLDER]..
 //!
-//! The second form compares with the lists and printed faults of `wat_tokens`, as Rattle's compiler made it; the third compares the proved
-//! parser over a table with the one over the text itself, and with the layer, by the same calls of each.
+//! The second form compares the crates with the lists and printed errors of the program `wat_tokens`, as built by Rattle's compiler. The third
+//! compares the proved parser over a table with the one over the text itself, and with the layer, by making the same calls of each.
 
 mod program;
 mod proved;
@@ -17,7 +17,7 @@ mod report;
 mod sources;
 mod texts;
 
-/// The calls of the crates here.
+/// The calls of the crates of this repository.
 mod ours {
     use wat_parser as layer;
 
@@ -33,7 +33,7 @@ mod ours {
 mod theirs {
     use wast as layer;
 
-    /// It always keeps what was shown.
+    /// Does nothing: the original always caches visible tokens.
     fn keep_shown(_: &mut ParseBuffer<'_>, _: bool) {}
 
     include!("answers.rs");
@@ -47,16 +47,16 @@ use std::process::ExitCode;
 use std::{env, fs};
 use texts::Texts;
 
-/// After so many texts that are answered otherwise the run ends.
+/// The number of texts with different results after which the run ends.
 const MOST_DIFFERENCES: u64 = 8;
 
-/// The types that `answers.rs` reads, of which the last two are floating-point numbers.
+/// The number of types that `answers.rs` parses; the last two are floating-point types.
 const TYPES: usize = 24;
 
-/// A text is read as so many types, or fewer.
+/// The largest number of types that one text is parsed as.
 const TYPES_OF_A_TEXT: usize = 8;
 
-/// What was asked and answered so far.
+/// The counts of a run, and the sum over all results.
 #[derive(Default)]
 struct Totals {
     texts: u64,
@@ -82,7 +82,7 @@ impl Totals {
         self.compare_two(text, ["layer", name], ours, other);
     }
 
-    /// Compares answers of two that have these names.
+    /// Compares the results of two sources with these names.
     fn compare_two(
         &mut self,
         text: &str,
@@ -110,11 +110,11 @@ impl Totals {
     }
 }
 
-/// What is asked of a text beside its tokens.
+/// The comparison made for a text in addition to its tokens.
 enum Question {
-    /// Types, by their numbers from this one on.
+    /// The types to parse the text as, from the one with this index on.
     Types(usize),
-    /// Calls of a parser.
+    /// Random calls of a parser, from this seed.
     Play(u64),
 }
 
@@ -128,8 +128,8 @@ impl Question {
     }
 }
 
-/// The types that a text is read as. Floating-point numbers are left out where `wast` may round otherwise, as docs/compatibility.md has it: of
-/// more than 8 hexadecimal digits, or of an exponent that may have no 32 bits.
+/// Returns the number of types that a text is parsed as. Leaves out the floating-point types if `wast` may round differently, as
+/// docs/compatibility.md says: for more than 8 hexadecimal digits, or an exponent that may not fit in 32 bits.
 fn types_for(text: &str) -> usize {
     let is_rounded_otherwise = text.split("0x").skip(1).any(|number| {
         let after = number.trim_start_matches(|c: char| c.is_ascii_hexdigit() || "._".contains(c));
@@ -160,7 +160,7 @@ macro_rules! ask {
     }};
 }
 
-/// The tokens, and each type that has a proved form, of the proved calls and of the layer.
+/// Compares the tokens of the layer with those of the proved modules, and each type that has a proved form.
 fn compare_with_proved(totals: &mut Totals, text: &str, allow: bool, question: &Question) {
     let (mut ours, mut proved) = (Answers::default(), Answers::default());
     ours::tokens(text, allow, &mut ours);
@@ -190,7 +190,7 @@ fn compare_texts(seed: u64, count: u64, files: Vec<String>) -> Totals {
     totals
 }
 
-/// The texts of a file, or of the files in a folder; those that are not UTF-8 are left out.
+/// Returns the text of a file, or of each file of a folder; skips texts that are not UTF-8.
 fn texts_of(path: &Path) -> Result<Vec<String>, Box<dyn Error>> {
     if !path.is_dir() {
         return Ok(String::from_utf8(fs::read(path)?).into_iter().collect());

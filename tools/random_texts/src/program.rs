@@ -1,4 +1,4 @@
-//! The program `wat_tokens` beside the crates here: its lists of raw tokens and of those that count, and the faults that it prints.
+//! Compares the program `wat_tokens` with the crates: its lists of raw and of significant tokens, and the errors that it prints.
 use crate::random::Random;
 use crate::report::Answers;
 use crate::texts::{OF_SAME_WIDTH, Texts};
@@ -13,7 +13,7 @@ use wat_lex::proved::lexer::{Lexer, Token};
 use wat_lex::shim::alloc::Global;
 use wat_parser::proved::parser::{Cursor, ParseBuffer, Parser};
 
-/// So many texts are given to the program at once, each as a file.
+/// The number of texts that one run of the program gets, each as a file.
 const BATCH: usize = 500;
 
 /// The names that `sig` registers.
@@ -21,15 +21,15 @@ const NAMES: [&str; 3] = ["name", "custom", "b"];
 
 type Outcome<T> = Result<T, Box<dyn Error>>;
 
-/// What the program is asked for of each text.
+/// The options of the program for a batch of texts.
 #[derive(Clone, Copy)]
 struct Question {
     allow: bool,
-    /// The tokens that count under `NAMES`, or all.
+    /// Whether only the tokens that are significant under `NAMES` are listed.
     is_filtered: bool,
 }
 
-/// Compares what the program prints of random texts.
+/// Compares the program's output for random texts.
 pub fn compare_texts(program: &Path, seed: u64, count: u64, files: Vec<String>) -> Outcome<Totals> {
     let folder = env::temp_dir().join(format!("random_texts.{}", process::id()));
     fs::create_dir(&folder)?;
@@ -67,7 +67,7 @@ impl Run {
         Ok(totals)
     }
 
-    /// All texts of a batch at once, and each alone where they differ; and the first as standard input too.
+    /// Runs the program on all texts of a batch at once, and on each alone if the output differs. Runs it on the first text also as standard input.
     fn compare_batch(
         &self,
         totals: &mut Totals,
@@ -126,7 +126,7 @@ fn name_of(number: usize) -> String {
     format!("./{number}")
 }
 
-/// What the command prints of its input.
+/// Runs the command on an input, and returns its output.
 fn printed(command: &mut Command, input: &str) -> Outcome<Printed> {
     command.stdin(Stdio::piped());
     command.stdout(Stdio::piped()).stderr(Stdio::piped());
@@ -143,7 +143,7 @@ fn printed(command: &mut Command, input: &str) -> Outcome<Printed> {
     })
 }
 
-/// What is printed of one or more texts.
+/// The output of the program for one or more texts.
 #[derive(Default)]
 struct Printed {
     list: String,
@@ -158,7 +158,7 @@ impl PartialEq for Printed {
     }
 }
 
-/// What is printed of texts one after the other. The greatest status counts.
+/// Concatenates the output for several texts. The status is the greatest.
 fn joined(each: &[Printed]) -> Printed {
     Printed {
         list: each.iter().map(|printed| printed.list.as_str()).collect(),
@@ -169,7 +169,7 @@ fn joined(each: &[Printed]) -> Printed {
 }
 
 impl Printed {
-    /// What has to be printed of a text: of standard input, or of the file of a number.
+    /// Returns the expected output for a text, which is standard input or the file with this number.
     fn of(text: &str, question: Question, number: Option<usize>) -> Printed {
         let mut printed = Printed {
             status: Some(0),
@@ -236,7 +236,7 @@ fn take(parser: &mut Parser<'_>) -> Result<Option<Token>, wat_lex::proved::error
     })
 }
 
-/// What the program prints of a fault of a file.
+/// Returns the expected report of an error in a file.
 fn named(error: &wat_lex::Error, name: &str) -> String {
     let (message, printed) = (error.message(), error.to_string());
     let place = &printed[message.len()..];
@@ -253,7 +253,7 @@ fn named(error: &wat_lex::Error, name: &str) -> String {
     shown + "\n"
 }
 
-/// The picture of a control character, but of a line feed.
+/// Returns the control picture of a control character, except of a line feed.
 fn visible(character: char) -> char {
     match character {
         '\n' => '\n',

@@ -1,4 +1,4 @@
-//! The proved calls, without the layer over them, each answered as `answers.rs` does.
+//! The calls of the proved modules, without the layer over them, with results in the form of `answers.rs`.
 use crate::report::Answers;
 use std::fmt::Debug;
 use wat_lex::proved::error::Error;
@@ -17,7 +17,7 @@ pub fn lexer_of(text: &str, allow: bool) -> Lexer<'_> {
     lexer
 }
 
-/// The tokens of a text with their values, and the fault that ends them. The lexer's four ways to find a token are compared with each other.
+/// Records the tokens of a text with their values, and the error that ends them. Checks that the lexer's four ways to find a token agree.
 pub fn tokens(text: &str, allow: bool, answers: &mut Answers) {
     let (lexer, mut place) = (lexer_of(text, allow), 0);
     let mut items = lexer.iter(Global, 0);
@@ -48,7 +48,7 @@ pub fn tokens(text: &str, allow: bool, answers: &mut Answers) {
     }
 }
 
-/// Whether the token is the one that was scanned, or the error that of the fault.
+/// Returns `true` if the token is the one that was scanned, or the error reports the scanned lexical error.
 fn is_same(
     scanned: Result<Option<Token>, LexFault>,
     parsed: &Result<Option<Token>, Error>,
@@ -99,13 +99,13 @@ pub enum Source<'a> {
 }
 
 impl<'a> Source<'a> {
-    /// A table of the text's tokens.
+    /// Creates a table of the text's tokens.
     pub fn table(text: &'a str, allow: bool) -> Source<'a> {
         let lexer = lexer_of(text, allow);
         Source::Table(ParseBuffer::new_with_lexer(Global, lexer).expect("memory"))
     }
 
-    /// The text itself.
+    /// Creates a source that lexes the text on demand.
     pub fn text(text: &'a str, allow: bool) -> Source<'a> {
         Source::Text(LazyBuffer::new_with_lexer(Global, lexer_of(text, allow)))
     }
@@ -136,10 +136,10 @@ impl<'a> Source<'a> {
     }
 }
 
-/// How many types have a proved form that prints as that of `wast`.
+/// The number of types whose proved form prints like that of `wast`.
 pub const TYPES: usize = 17;
 
-/// The text read as the type of a number, which is below `TYPES`.
+/// Parses the text as the type with this index, which must be below `TYPES`, and records the result.
 pub fn typed(source: &Source, number: usize, answers: &mut Answers) {
     let read = match number {
         0 => source.read::<u8>(),

@@ -1,17 +1,17 @@
 use std::fmt::{Debug, Display, Write};
 
-/// What was answered, as text, and how much of it.
+/// The results for a text, as lines, and their counts.
 #[derive(Default)]
 pub struct Answers {
     pub text: String,
     pub tokens: u64,
     pub faults: u64,
-    /// Answers of typed readings and of parsers.
+    /// The number of results of parsed types and of parser calls.
     pub others: u64,
 }
 
 impl Answers {
-    /// A token's line. A sign of an integer's kind prints as `Some(Minus)` in `wast`, and as `Minus` here.
+    /// Records a token. The sign in an integer's kind prints as `Some(Minus)` in `wast`, and is recorded as `Minus`.
     pub fn token(&mut self, offset: usize, len: u32, kind: &impl Debug, value: &str) {
         self.tokens += 1;
         let kind = format!("{kind:?}")
@@ -20,13 +20,13 @@ impl Answers {
         self.line(&format_args!("{offset} {len} {kind} {value}"));
     }
 
-    /// The fault that ends the tokens.
+    /// Records the error that ends the tokens.
     pub fn fault(&mut self, printed: &str) {
         self.faults += 1;
         self.line(&printed);
     }
 
-    /// Any other answer.
+    /// Records any other result.
     pub fn push(&mut self, answer: &impl Display) {
         self.others += 1;
         self.line(answer);

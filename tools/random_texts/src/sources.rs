@@ -1,4 +1,4 @@
-//! The proved parser over a table, the same parser over the text itself, and the layer: the same calls of each.
+//! Differential fuzzing of the proved parser over a table, the same parser over the text itself, and the layer: each gets the same calls.
 
 mod asked_layer;
 mod asked_proved;
@@ -10,32 +10,32 @@ use crate::texts::{ALL, Texts};
 use crate::{MOST_DIFFERENCES, Totals, ours};
 use std::rc::Rc;
 
-/// Names that are registered: most are in the texts, and some there with escapes.
+/// Annotation names to register: most occur in the texts, some of them with escapes.
 const NAMES: &[&str] = &[
     "a", "a", "a", "b", "b", "name", "name", "ab", "custom", "é", "", "a\0",
 ];
 
-/// A call of a parser, or some.
+/// A call of a parser, or several calls.
 pub enum Call {
-    /// Where the parser is, and what it shows there.
+    /// The parser's position, and the position of the visible token.
     Places,
-    /// Types that are seen at the first three tokens.
+    /// Peeks for types at the first three tokens.
     Peeks,
-    /// Each look of a cursor, after so many tokens.
+    /// Each peek of a cursor, after this number of tokens.
     Looks(usize),
-    /// A step over so many tokens, with the comments before some, which refuses at last or not.
+    /// A step over a number of tokens, with the comments before those whose bit is set; the flag makes the step return an error at its end.
     Step(usize, usize, bool),
-    /// A step over the comment that comes next.
+    /// A step over the next comment.
     Comment,
-    /// Calls in a group, of which the rest is taken or not, and which is refused or not.
+    /// Calls in a group. The first flag consumes the rest of the group, the second makes the closure return an error.
     Group(Vec<Call>, bool, bool),
     Register(&'static str),
-    /// Takes back one of the names that are registered.
+    /// The removal of one of the registered names.
     Unregister(usize),
-    /// Reads a type.
+    /// The parse of a type.
     Read(usize),
     Lookahead(usize),
-    /// Errors here, and at what was taken last.
+    /// Errors at the current token, and at the token consumed last.
     Errors,
 }
 
@@ -66,7 +66,8 @@ fn call(random: &mut Random, depth: usize) -> Call {
     }
 }
 
-/// What the proved parser answers of a source: to the calls, to a list of them by `replay`, and as the types from one on.
+/// Makes the calls of the proved parser over a source, then a random list of calls by `replay`, and parses two types from `first` on. Returns the
+/// results.
 fn asked(source: &Source, calls: &[Call], listed: u64, first: usize) -> Answers {
     let mut answers = Answers::default();
     asked_proved::answer(&mut source.parser(), calls, &mut answers);

@@ -1,6 +1,6 @@
 use crate::random::Random;
 
-/// Parts of tokens, whole tokens, and what is between them.
+/// Parts of tokens, whole tokens, and separators.
 const PIECES: &[&str] = &[
     "(",
     ")",
@@ -93,13 +93,13 @@ const PIECES: &[&str] = &[
     "a\"b\"",
 ];
 
-/// What a stretch is of: each one repeated is a token, or within one.
+/// Fragments to repeat: each repeated fragment is one token, lies within one, or makes many small ones.
 const STRETCHES: &[&str] = &[
     "a", "1", " ", "\n", "\t", "_", "\"", ";", "(", ")", "$", "é", "漢", "x1", "\\n", "\\00", "(;",
     ";)", "(@b ", ".", "-", "\u{301}",
 ];
 
-/// Numbers at the limits of their types.
+/// Integers and NaNs at the limits of their types.
 const LIMITS: &[&str] = &[
     "127",
     "128",
@@ -178,7 +178,7 @@ const WORDS: &[&str] = &[
     "0$y",
 ];
 
-/// Parts of groups of annotations: names with and without escapes, names at fault, what closes a group, and what does not.
+/// Parts of annotation groups: names with and without escapes, malformed names, closing parentheses, and tokens that only seem to close a group.
 const ANNOTATED: &[&str] = &[
     "(@a",
     "(@b",
@@ -228,12 +228,12 @@ const ANNOTATED: &[&str] = &[
 
 const IDCHARS: &[u8] = b"abcxyzAZ0129!#$%&'*+-./:<=>?@\\^_`|~";
 
-/// Which characters there are outside of files and pieces: below one of these.
+/// Exclusive upper bounds of the code points of random characters.
 pub const ALL: &[u32] = &[0x80, 0x300, 0x3000, 0x1_0000, 0x11_0000];
-/// Those that have the same width by the library of Rattle's kit as by `unicode-width`.
+/// The bounds within which Rattle's library and `unicode-width` agree on the width of each character.
 pub const OF_SAME_WIDTH: &[u32] = &[0x80, 0x300, 0x5c8];
 
-/// Random texts, of pieces and of cuts of files.
+/// A generator of random texts, from fragments and from slices of files.
 pub struct Texts {
     random: Random,
     files: Vec<String>,
@@ -260,7 +260,7 @@ impl Texts {
         }
     }
 
-    /// Groups of annotations, or any text.
+    /// Returns annotation groups, or any other text.
     pub fn next_annotated(&mut self) -> String {
         if self.random.is_one_in(3) {
             return self.next();
@@ -278,14 +278,14 @@ impl Texts {
         text
     }
 
-    /// Pieces in a row.
+    /// Returns a sequence of fragments.
     fn joined(&mut self) -> String {
         (0..self.random.below(12))
             .map(|_| self.random.one_of(PIECES))
             .collect()
     }
 
-    /// Cuts of two files, with pieces in them.
+    /// Returns slices of one or two files, with fragments inserted.
     fn cuts(&mut self) -> String {
         let mut text = self.cut();
         if self.random.is_one_in(2) {
@@ -299,7 +299,7 @@ impl Texts {
         text
     }
 
-    /// Up to 200 bytes of a file.
+    /// Returns a slice of a file, of up to 200 bytes.
     fn cut(&mut self) -> String {
         let number = self.random.below(self.files.len());
         let file = &self.files[number];
@@ -308,7 +308,7 @@ impl Texts {
         file[begin..start_of_character(file, end)].to_owned()
     }
 
-    /// Pieces among stretches, so that they are at the edges of blocks of 16 bytes.
+    /// Returns fragments between long runs, so that tokens cross the edges of 16-byte blocks.
     fn at_edges(&mut self) -> String {
         let mut text = String::new();
         for _ in 0..=self.random.below(8) {
@@ -319,7 +319,7 @@ impl Texts {
         text
     }
 
-    /// A string, a comment or none of both, of any characters. Most have a fault, of which the column is printed.
+    /// Returns a string, a comment or plain text of random characters. Most have a lexical error, whose column is printed.
     fn characters(&mut self) -> String {
         let mut text = self
             .random
@@ -331,13 +331,13 @@ impl Texts {
         text + self.random.one_of(&["\\q\"", "\"", "\n", ";)", "\"\\q"])
     }
 
-    /// A character; the smaller ones come more often.
+    /// Returns a random character; smaller code points are more frequent.
     fn character(&mut self) -> char {
         let bound = self.random.one_of(self.characters);
         char::from_u32(self.random.below(bound as usize) as u32).unwrap_or('\u{fffd}')
     }
 
-    /// A number, a string, a name or a word, for a type that reads it.
+    /// Returns a number, a string, an identifier or a keyword between trivia, for a type to parse.
     fn one_token(&mut self) -> String {
         let before = self.random.one_of(TRIVIA);
         let token = self.token();
@@ -386,7 +386,7 @@ impl Texts {
         text
     }
 
-    /// Digits with underscores, some of which are in wrong places.
+    /// Returns digits with underscores, some of which are misplaced.
     fn digits(&mut self, of: &str, most: usize) -> String {
         let mut text = String::new();
         let most = self.random.one_of(&[1, 3, most]);
@@ -426,7 +426,7 @@ impl Texts {
         }
     }
 
-    /// An identifier or an annotation.
+    /// Returns an identifier or an annotation.
     fn name(&mut self, first: char) -> String {
         if self.random.is_one_in(3) {
             return format!("{first}{}", self.string());
@@ -437,7 +437,7 @@ impl Texts {
         name
     }
 
-    /// Tokens in groups, of which some are annotations, and some are not closed.
+    /// Returns tokens in groups. Some groups are annotations, and some are not closed.
     fn groups(&mut self) -> String {
         let (mut text, mut open) = (String::new(), 0);
         for _ in 0..self.random.below(16) {
@@ -463,7 +463,7 @@ impl Texts {
     }
 }
 
-/// The place, or that of the character that it is within.
+/// Returns the offset, rounded down to a char boundary.
 fn start_of_character(text: &str, mut place: usize) -> usize {
     while !text.is_char_boundary(place) {
         place -= 1;

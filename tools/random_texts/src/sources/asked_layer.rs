@@ -1,4 +1,4 @@
-//! Calls of the layer with the names of `wast`, as `asked_proved` makes them of the proved parser.
+//! Calls of the layer with the names of `wast`, in the order in which `asked_proved` makes them of the proved parser.
 use super::Call;
 use crate::ours::{any, fault, outcome};
 use crate::report::Answers;
@@ -9,7 +9,7 @@ use wat_parser::parser::{Cursor, Parse, ParseBuffer, Parser, Result, parse};
 use wat_parser::token::{Id, Index, LParen, RParen};
 use wat_parser::{annotation, kw};
 
-/// A name that is registered until this is dropped.
+/// A guard that keeps a name registered until it is dropped.
 trait Held {}
 
 impl<T> Held for T {}
@@ -20,14 +20,14 @@ struct Asked<'a> {
 }
 
 thread_local! {
-    /// What an `Asked` asks, as `Parse` takes nothing but a parser, and the answers.
+    /// The calls of the next `Asked`, since `Parse::parse` has no argument for them, and its results.
     static CALLS: Cell<Option<Rc<[Call]>>> = const { Cell::new(None) };
     static ANSWERS: Cell<Option<Answers>> = const { Cell::new(None) };
 }
 
 pub fn answer<'a>(buffer: &'a ParseBuffer<'a>, calls: Rc<[Call]>) -> Answers {
     CALLS.set(Some(calls));
-    // What is left after the calls is an error of its own.
+    // Drops the error that `parse` returns for tokens left after the calls; the proved parser has none.
     let _left = parse::<Asked>(buffer).map(|_| ());
     ANSWERS.take().expect("answers")
 }
@@ -193,7 +193,7 @@ impl<'a> Asked<'a> {
     }
 }
 
-/// A step over so many tokens, with the comments before those of which the bit is set.
+/// Steps over a number of tokens, with the comments before those whose bit is set.
 fn step(
     mut cursor: Cursor<'_>,
     tokens: usize,

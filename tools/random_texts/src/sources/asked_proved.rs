@@ -174,7 +174,7 @@ impl Asked<'_> {
     }
 }
 
-/// A step over so many tokens, with the comments before those of which the bit is set.
+/// Steps over a number of tokens, with the comments before those whose bit is set.
 fn step<'p, 'a>(
     mut cursor: Cursor<'p, 'a>,
     tokens: usize,
@@ -201,7 +201,8 @@ fn step<'p, 'a>(
     Ok((taken, cursor))
 }
 
-/// The shown token whatever its kind, and the cursor after it; by the taker of its kind, which answers as `any` does.
+/// Consumes the visible token with the method of its kind, and checks that `Cursor::any` moves to the same position. Returns its text, and the cursor
+/// after it.
 fn any<'p, 'a>(cursor: Cursor<'p, 'a>) -> Result<Option<(String, Cursor<'p, 'a>)>, Error> {
     let taken = taken(cursor)?;
     let found = cursor.any()?;
@@ -245,7 +246,7 @@ fn taken_value<'p, 'a>(cursor: Cursor<'p, 'a>) -> Result<Option<(String, Cursor<
     Ok(string.map(|(string, next)| (format!("{:?}", string.as_slice()), next)))
 }
 
-/// Takes what is left of a group.
+/// Consumes the rest of a group.
 fn take_rest(parser: &mut Parser) -> Result<(), Error> {
     let mut depth = 0;
     while depth > 0 || !parser.is_empty() {
@@ -260,7 +261,7 @@ fn take_rest(parser: &mut Parser) -> Result<(), Error> {
     Ok(())
 }
 
-/// A list of calls as values, and where it leaves the parser; and the fault of the text.
+/// Records the replies to random calls given as values to `replay`, the positions of the parser after them, and the text's lexical error.
 pub fn answer_list(source: &Source, random: &mut Random, answers: &mut Answers) {
     let mut parser = source.parser();
     for _ in 0..=random.below(16) {

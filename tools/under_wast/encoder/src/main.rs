@@ -1,9 +1,9 @@
-//! What wast's encoder makes of modules, one after another, until the input ends.
+//! Encodes modules with wast's encoder, one after another, until the input ends.
 //!
-//! A text comes as a line with the count of its bytes, and these. Its answer is a line: `= ` and the module's bytes in hexadecimal; or `! ` and the
-//! fault, whose offset comes first, or that the encoder panics.
+//! A text is sent as a line with its length in bytes, followed by its bytes. The reply is a line: `= ` and the module's bytes in hexadecimal, or `! `
+//! and the error, beginning with its offset, or `! panic: ` and the message of a panic.
 //!
-//! With the word `once` the whole input is one text, and the answer its module's bytes as they are, as other compilers write them.
+//! With the argument `once` the whole input is one text, and the reply is its module's raw bytes, like the output of other compilers.
 
 use std::any::Any;
 use std::env;

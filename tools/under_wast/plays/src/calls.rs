@@ -1,4 +1,4 @@
-// The calls, once for each layer.
+// The random calls, included once for each layer.
 
 use super::{NAMES, below, note, note_cause, note_value};
 use layer::kw;
@@ -8,7 +8,7 @@ use layer::token::{F32, F64, Id, Index, ItemRef, LParen, NameAnnotation, RParen,
 
 mod words {
     use super::layer;
-    // `custom_reserved!` of one layer asks for it.
+    // Needed by `custom_reserved!` of one layer.
     #[allow(unused_imports)]
     use super::layer::parser::Result;
     layer::custom_keyword!(in_line = "in-line");
@@ -64,7 +64,7 @@ fn calls(parser: Parser<'_>, count: usize, depth: usize) -> Result<()> {
     Ok(())
 }
 
-/// What a cursor takes, and where it is then.
+/// Consumes a token with a cursor's method, and notes its value and the position after it.
 macro_rules! take {
     ($parser:ident, $taker:ident, $value:ident => $found:expr) => {
         tell($parser.step(|cursor| {
@@ -100,7 +100,7 @@ fn take(parser: Parser<'_>) {
     }
 }
 
-/// Whether each of the types is seen, first, second or third.
+/// Notes the results of peeks for each of the types, at the first, second or third token.
 macro_rules! look {
     ($parser:ident, $look:ident: $($type:ty),*) => {
         tell((|| Ok([$($parser.$look::<$type>()?),*]))())
@@ -163,7 +163,7 @@ fn word(parser: Parser<'_>) {
     }
 }
 
-/// A group of a few calls, and mostly of what they leave.
+/// Makes a few calls in a group, and in two of three cases consumes the words that they leave.
 fn group(parser: Parser<'_>, depth: usize) -> Result<Span> {
     let (count, rest) = (below(8), below(3) > 0);
     parser.parens(|inside| {
@@ -173,7 +173,7 @@ fn group(parser: Parser<'_>, depth: usize) -> Result<Span> {
     })
 }
 
-/// The cursor after a word, and whether there was one.
+/// Consumes a keyword, a string or an integer. Returns the cursor after it, and whether there was one.
 fn past_word(cursor: Cursor<'_>) -> Result<(bool, Cursor<'_>)> {
     let after = match cursor.keyword()? {
         Some((_, rest)) => Some(rest),

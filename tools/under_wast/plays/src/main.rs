@@ -1,5 +1,5 @@
-//! Makes the same calls at random of wast's lowest layer and of this project's, on texts of pieces at random, and compares what they answer:
-//! values, places, and errors as they are printed.
+//! Makes the same random calls of wast's lowest layer and of this project's, on random texts, and compares their results: values, positions, and
+//! printed errors.
 //!
 //! usage: plays COUNT [keep]      keep: this project's buffers keep what was shown, as wast's do
 
@@ -18,7 +18,7 @@ mod ours {
     include!("calls.rs");
 }
 
-/// The names that are registered and taken back.
+/// The names to register and unregister.
 const NAMES: [&str; 5] = ["a", "name", "custom", "x y", "\u{e9}"];
 
 #[rustfmt::skip]
@@ -28,10 +28,10 @@ const PIECES: [&str; 38] = [
     ";; c\n", "(; b (; n ;) ;)", ",", "a\"b\"", "\t", "\u{6f22}", ";;\u{202e}\n", "(@", "$", "(@\"\\ff\"", "@",
 ];
 
-/// How many of the pieces, from the first on, are no fault by themselves.
+/// The number of fragments, from the first on, that are not lexical errors by themselves.
 const TAME: usize = 32;
 
-/// Those that end or spoil a text where they stand.
+/// The fragments that cause a lexical error up to the end of the text.
 const FAULTS: [&str; 4] = ["(;", "\"", "(@\"\")", "$\"\\ff\""];
 
 thread_local! {
@@ -39,7 +39,7 @@ thread_local! {
     static NOTES: RefCell<String> = const { RefCell::new(String::new()) };
 }
 
-/// A number below another, the same for both layers.
+/// Returns a pseudo-random number below `bound`, the same for both layers.
 fn below(bound: usize) -> usize {
     let mut state = STATE.get();
     state ^= state << 13;
@@ -49,7 +49,7 @@ fn below(bound: usize) -> usize {
     (state >> 11) as usize % bound
 }
 
-/// Notes an answer.
+/// Notes a result.
 fn note(answer: impl Display) {
     NOTES.with_borrow_mut(|notes| *notes += &format!("{answer}\n"));
 }
@@ -58,7 +58,7 @@ fn note_value(value: impl Debug) {
     note(format_args!("{value:?}"));
 }
 
-/// Notes a fault. Of a name that is not UTF-8 wast's says which bytes are not, and this project's does not.
+/// Notes the cause of an error. Only wast's cause of a name that is not UTF-8 contains the bytes, so that cause is noted by its name alone.
 fn note_cause(cause: Option<impl Debug>) {
     const NAME: &str = "InvalidUtf8Id";
     let cause = format!("{cause:?}");
@@ -81,7 +81,7 @@ fn text() -> String {
     text
 }
 
-/// What a layer answers to the calls that this state of the numbers makes.
+/// Returns the results of the calls that a layer makes from this state of the generator.
 fn answers(state: u64, play: impl Fn() + panic::UnwindSafe) -> String {
     STATE.set(state);
     if panic::catch_unwind(play).is_err() {
@@ -90,7 +90,7 @@ fn answers(state: u64, play: impl Fn() + panic::UnwindSafe) -> String {
     NOTES.take()
 }
 
-/// The first answers that differ.
+/// Prints the first results that differ.
 fn show(text: &str, theirs: &str, ours: &str) {
     let differ = theirs
         .lines()
