@@ -1,4 +1,4 @@
-// A text that is edited, and what the lexer reads in it. Places are in UTF-16 units, as those of JavaScript's strings are.
+// A source text that is edited, and its tokens. Offsets are in UTF-16 code units, like those of JavaScript's strings.
 import { KINDS, Lexer, decoder } from './lexer.js';
 import { Reader } from './reader.js';
 import { Tokens } from './tokens.js';
@@ -19,7 +19,7 @@ export class Document {
     this.replace(text, flags);
   }
 
-  // Another text, or other flags, of which all is read.
+  // Replaces the text and the flags, and lexes all of it.
   replace(text, flags = {}) {
     this.#flags = { allow: flags.allowConfusingUnicode, strict: flags.strictUnderscores };
     this.#reader.open(encoder.encode(text), this.#flags);
@@ -28,7 +28,7 @@ export class Document {
     this.#reader.measures.push(this.#units);
   }
 
-  // Puts a piece of text in the place of what is from one place to another, and reads again what that touches.
+  // Replaces the text from `start` to `end` by `piece`, and lexes again only what the change affects.
   change(start, end, piece) {
     if (end < start) throw new RangeError(`from ${start} to ${end} nothing lies`);
     this.#reader.change(this.#units.byteAt(start), this.#units.byteAt(end), encoder.encode(piece));
@@ -42,7 +42,7 @@ export class Document {
 
   get text() { return decoder.decode(this.#reader.bytes); }
 
-  // How many tokens there are: all of the text, or those before its fault.
+  // The number of tokens: all of the text, or those before its lexical error.
   get count() { return this.#reader.count; }
 
   kind(i) { return KINDS[this.#reader.rows.code(this.#checked(i))]; }
@@ -55,7 +55,7 @@ export class Document {
     return i;
   }
 
-  // The number of the token at a place, or `count` after the last.
+  // Returns the index of the token that contains an offset, or `count` after the last.
   at(place) { return new Tokens(this.#reader).at(this.#units.byteAt(place)); }
 
   * [Symbol.iterator]() {
@@ -68,7 +68,7 @@ export class Document {
 
   get tokens() { return [...this]; }
 
-  // What ends the tokens before the text's end, or null. Line and column are from 0.
+  // The lexical error that ends the tokens, or null. Its line and column count from 0.
   get fault() {
     const { ending, offset, line, lines, message } = this.#reader;
     if (ending !== 'faulty') return null;
@@ -76,12 +76,12 @@ export class Document {
     return { start, line, column: start - this.#units.at(lines.start(line)), message: message.split('\n')[0], printed: message };
   }
 
-  // The text laid out, or null where it has a fault.
+  // Returns the formatted text, or null if the text has a lexical error or memory runs out.
   format() {
     const laidOut = this.#reader.ending === 'whole' ? this.#whole.layOut(this.#reader.bytes, this.#flags) : null;
     return laidOut && decoder.decode(laidOut);
   }
 
-  // The bytes of a module of nothing but function types, or null where the text is none.
+  // Returns the binary module, or null if the text is not a module of function types alone or memory runs out.
   types() { return this.#reader.ending === 'whole' ? this.#whole.types(this.#reader.bytes) : null; }
 }

@@ -2,54 +2,54 @@
 export type Kind =
   | 'LineComment' | 'BlockComment' | 'Whitespace' | 'LParen' | 'RParen' | 'String' | 'Id' | 'Keyword' | 'Annotation' | 'Reserved' | 'Integer' | 'Float';
 
-/** The kinds by the module's numbers, from 1 on; the last four are kinds of floats. */
+/** The kinds by the module's codes, which begin at 1; the last four are kinds of floats. */
 export declare const KINDS: readonly (Kind | null)[];
 
-/** A token. Places are in UTF-16 units, as those of strings. */
+/** A token. Offsets are in UTF-16 code units, like those of strings. */
 export interface Token {
   kind: Kind;
   start: number;
   end: number;
 }
 
-/** What ends the tokens of a text before its end. */
+/** The lexical error that ends the tokens before the end of the text. */
 export interface Fault {
-  /** The place in UTF-16 units. */
+  /** Offset in UTF-16 code units. */
   start: number;
-  /** The line, from 0. */
+  /** Index of the line, counted from 0. */
   line: number;
-  /** UTF-16 units in the line before the place. */
+  /** Offset in the line, in UTF-16 code units, counted from 0. */
   column: number;
   message: string;
-  /** As the program prints it: message, place, and the line with a marker. */
+  /** The error as the program prints it: message, location, and the line with a marker. */
   printed: string;
 }
 
 export interface Flags {
-  /** Whether the nine characters that can make a text look other than it is may be in comments and strings. */
+  /** Allows U+202A, U+202B, U+202D, U+202E, U+2066 to U+2069 and U+206C, which change how a text is displayed, in comments and strings. */
   allowConfusingUnicode?: boolean;
-  /** Whether an underscore directly after another is a fault inside `\u{..}`. */
+  /** Rejects two consecutive underscores inside `\u{..}`. */
   strictUnderscores?: boolean;
 }
 
-/** A text that is edited. Tokens lie end to end from 0 on, white space and comments included, up to the end or the fault. */
+/** A source text that is edited. Its tokens, which include whitespace and comments, cover the text from 0 to its end or its error without gaps. */
 export declare class Document implements Iterable<Token> {
   constructor(module: WebAssembly.Module, text?: string, flags?: Flags);
   readonly text: string;
-  /** How many tokens there are. */
+  /** The number of tokens. */
   readonly count: number;
-  /** All of them, in a fresh array. */
+  /** All tokens, in a new array. */
   readonly tokens: Token[];
   readonly fault: Fault | null;
   kind(i: number): Kind;
   start(i: number): number;
   end(i: number): number;
   token(i: number): Token;
-  /** The number of the token at a place, or `count` after the last. */
+  /** Returns the index of the token that contains an offset, or `count` after the last. */
   at(place: number): number;
-  /** Puts a piece in the place of what is between two places, and reads again what that touches. Throws `RangeError` within a character. */
+  /** Replaces the text between two offsets, and lexes again only what the change affects. Throws a `RangeError` for an offset inside a character. */
   change(start: number, end: number, piece: string): void;
-  /** Another text, or other flags. */
+  /** Replaces the text and the flags. */
   replace(text: string, flags?: Flags): void;
   /** Returns the formatted text, or null if the text has a lexical error or memory runs out. */
   format(): string | null;
@@ -60,7 +60,7 @@ export declare class Document implements Iterable<Token> {
 
 export declare class WatLex {
   constructor(module: WebAssembly.Module);
-  /** A text that is edited. Each has a memory of its own, of some 20 MB or 11 times the text. */
+  /** Opens a text for editing. Each document has its own memory, of about 20 MB, or of 11 times the text if that is more. */
   open(text?: string, flags?: Flags): Document;
   lex(text: string, flags?: Flags): { tokens: Token[]; fault: Fault | null };
   /** Returns the formatted text, or null if the text has a lexical error or memory runs out. */
@@ -69,7 +69,7 @@ export declare class WatLex {
   types(text: string): Uint8Array | null;
 }
 
-/** The lexer; the module is the package's own where no other is given. */
+/** Loads the lexer, from the package's own module by default. */
 export declare function load(source?: URL | string | BufferSource): Promise<WatLex>;
-/** The same at once. In Node alone. */
+/** Loads the lexer synchronously. Available in Node only. */
 export declare function loadSync(): WatLex;

@@ -1,30 +1,30 @@
-// The package's entry where `fetch` finds the module beside it: browsers, workers, Deno.
+// The package's entry for environments in which `fetch` finds the module next to this file: browsers, workers, Deno.
 import { Document } from './document.js';
 
 export { Document } from './document.js';
 export { KINDS } from './lexer.js';
 
-// The lexer, over a module that is compiled.
+// A lexer over a compiled module.
 export class WatLex {
   #module;
-  // The text of the calls that keep none.
+  // The document of the calls that do not return one.
   #shared = null;
 
   constructor(module) { this.#module = module; }
 
-  // A text that is edited. Each has a memory of its own.
+  // Opens a text for editing. Each document has its own memory.
   open(text, flags) { return new Document(this.#module, text, flags); }
 
-  // The tokens of a text, and its fault or null.
+  // Returns the tokens of a text, and its lexical error or null.
   lex(text, flags) {
     const { tokens, fault } = this.#once(text, flags);
     return { tokens, fault };
   }
 
-  // A text laid out, or null where it has a fault.
+  // Returns the formatted text, or null if the text has a lexical error or memory runs out.
   format(text) { return this.#once(text).format(); }
 
-  // The bytes of a module of nothing but function types, or null where the text is none.
+  // Returns the binary module, or null if the text is not a module of function types alone or memory runs out.
   types(text) { return this.#once(text).types(); }
 
   #once(text, flags) {

@@ -1,14 +1,15 @@
-// The proved lexer in its memory, which is laid out here, after the module's own: the report, the text, the rows, and the message with what
-// rows its fault takes. The module allocates nothing.
-// The words of the kinds, at the numbers that the module tells: 0 is none, 12 to 15 are the kinds of floats.
+// The proved lexer over its memory. After the module's own data, the memory holds the report, the text, the rows, and the message, followed by the
+// rows that `render` writes. The module itself allocates nothing.
+//
+// The names of the kinds, by the module's codes: 0 is no kind, 12 to 15 are kinds of floats.
 export const KINDS = [null, 'LineComment', 'BlockComment', 'Whitespace', 'LParen', 'RParen', 'String', 'Id', 'Keyword', 'Annotation', 'Reserved', 'Integer', 'Float', 'Float', 'Float', 'Float'];
 const ENDINGS = ['whole', 'faulty', 'full', 'not UTF-8', 'too long'];
 
 const PAGE = 65536;
-// In bytes: room for the report of either compiler.
+// In bytes: the capacity for the report, enough for the module of either compiler.
 const REPORT = 48;
 const ROW = 8;
-// In bytes: the least room for a text, so that one that is typed seldom needs more.
+// In bytes: the smallest capacity for a text, so that a text that is typed seldom needs more.
 const LEAST = 1 << 21;
 const MESSAGE = 4096;
 export const decoder = new TextDecoder('utf-8', { ignoreBOM: true });
@@ -29,7 +30,7 @@ export class Lexer {
   constructor(instance) {
     this.#exports = instance.exports;
     const begin = this.#exports.__heap_base.value;
-    // In bytes: a `usize` of the module. By rustc it has 4; by Rattle's compiler 8, also over a memory of 32 bits.
+    // In bytes: the size of the module's `usize`. It is 4 in rustc's module, and 8 in that of Rattle's compiler, even over a 32-bit memory.
     this.#word = typeof begin === 'bigint' ? 8 : 4;
     this.#report = aligned(Number(begin));
     this.#text = this.#report + REPORT;
@@ -39,10 +40,10 @@ export class Lexer {
 
   get #rows() { return this.#text + this.capacity; }
 
-  // A token has a byte at least, so there are never more rows than bytes.
+  // A token has at least one byte, so the rows never outnumber the bytes.
   get #message() { return this.#rows + ROW * this.capacity; }
 
-  // Makes room for a text of so many bytes and its rows, and tells whether the rows are elsewhere now.
+  // Reserves capacity for a text of `length` bytes and its rows. Returns `true` if the rows have moved.
   reserve(length) {
     if (length <= this.capacity) return false;
     const capacity = aligned(length + length / 4);
@@ -51,22 +52,22 @@ export class Lexer {
     return true;
   }
 
-  // What these give holds until the memory grows, as `reserve` and `render` may have it do.
+  // These views are valid until the memory grows, as in `reserve` and `render`.
   bytes(length) { return new Uint8Array(this.#exports.memory.buffer, this.#text, length); }
   rows() { return new Uint32Array(this.#exports.memory.buffer, this.#rows, 2 * this.capacity); }
 
-  // What the module says of the text's bytes from one to another. The rows of their tokens, at most so many, are written from the row
-  // `first` on, each with two numbers: where the token ends, counted from `from`, and the number of its kind.
+  // Lexes the text's bytes from `from` to `to`. Writes the rows of at most `most` tokens, from the row `first` on. A row is two numbers: the token's
+  // end, counted from `from`, and the code of its kind.
   tell(from, to, first, most, flags) { return this.#call(from, to, this.#rows + ROW * first, most, 0, flags); }
 
-  // The same with the fault's message whole, and with the rows, at most so many, which come after it.
+  // Lexes like `tell`, and also returns the whole message of the lexical error. Writes the rows, at most `most`, after the message.
   render(from, to, most, flags) {
     const { memory } = this.#exports;
     for (let room = MESSAGE; ; room *= 4) {
       const rows = aligned(this.#message + room);
       grow(memory, rows + ROW * most);
       const found = this.#call(from, to, rows, most, room, flags);
-      // The message is whole where it leaves room.
+      // The message is whole if it does not fill its buffer.
       if (found.written < room) {
         const message = decoder.decode(new Uint8Array(memory.buffer, this.#message, found.written));
         return { ...found, message, rows: new Uint32Array(memory.buffer, rows, 2 * found.count) };
@@ -84,8 +85,8 @@ export class Lexer {
   }
 }
 
-// The rows of a part of a text that begins at a place, whose ends count from the text's start: all tokens in front of a fault, and all but the
-// last in front of the part's end, which may depend on what follows.
+// Returns the rows of a part of a text that begins at offset `from`, with ends counted from the text's start: all tokens before a lexical error, or,
+// without an error, all except the last, which may depend on the bytes after the part.
 export function rowsOfPart(lexer, part, from, flags) {
   lexer.reserve(part.length);
   lexer.bytes(part.length).set(part);

@@ -1,4 +1,4 @@
-// A text in bytes, and where its lines begin.
+// The bytes of a text, and the offsets at which its lines begin.
 import { Sums } from './sums.js';
 
 export const LINE_FEED = 10;
@@ -10,7 +10,7 @@ function inBytes(bytes, from, to) {
   return feeds;
 }
 
-// Each lane of `feeds` counts those at its place in a word.
+// Counts the line feeds of words. Each byte lane of `feeds` counts those in its lane, and must not overflow.
 function inWords(words, from, to) {
   let feeds = 0;
   for (let i = from; i < to; i += 1) {
@@ -28,30 +28,30 @@ export class Lines {
     this.#feeds = new Sums(bytes, inBytes, inWords);
   }
 
-  // The bytes as they are now.
+  // Sets the view of the text's bytes, after the memory or the length has changed.
   look(bytes) {
     this.bytes = bytes;
     this.#feeds.look(bytes);
   }
 
-  // Says that the bytes from one to another are to be replaced, before they are.
+  // Prepares for the replacement of the bytes from `from` to `to`. Must be called before it.
   cut(from, to) { this.#feeds.cut(from, to); }
 
-  // Says that so many of the bytes are new from a place on.
+  // Counts `more` new bytes from an offset on, after the replacement.
   put(from, more) { this.#feeds.put(from, more); }
 
   get count() { return this.#feeds.total + 1; }
 
-  // Where a line begins: after the line feed that ends the one before it.
+  // Returns the offset at which a line begins: after the line feed that ends the line before it.
   start(line) { return this.#feeds.placeOf(line); }
 
-  // Where the next line begins, or the text ends.
+  // Returns the offset at which the next line begins, or the length of the text.
   end(line) { return line + 1 < this.count ? this.start(line + 1) : this.bytes.length; }
 
-  // The line that a byte is in.
+  // Returns the index of the line that contains an offset.
   at(offset) { return this.#feeds.before(offset); }
 
-  // The nearest place from an offset back, or on, at which a character begins.
+  // Returns the char boundary at or before an offset; `on` returns the one at or after it.
   back(offset) {
     let at = Math.max(0, Math.min(offset, this.bytes.length));
     while (at > 0 && at < this.bytes.length && (this.bytes[at] & 0xc0) === 0x80) at -= 1;

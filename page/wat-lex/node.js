@@ -1,4 +1,4 @@
-// The package's entry in Node, which reads the module from the disk.
+// The package's entry in Node; reads the module from the disk.
 import { readFileSync } from 'node:fs';
 import { WatLex, load as loadFrom } from './index.js';
 

@@ -1,17 +1,18 @@
-// A text and what the lexer reads in it, part by part. What is read of a text that changes is little: what a token is depends on its own
-// characters and the one after it, so those that end before a change stay; and from a place on at which a token began before, after
-// the change, the tokens are those from before, moved.
+// A text and its tokens, lexed in parts. After a change little is lexed again: a token depends only on its own characters and on the next one, so the
+// tokens that end before the change stay; and from the first offset after the change at which a token also began before it, the tokens are the
+// earlier ones, shifted.
 import { LINE_FEED, Lines } from './lines.js';
 import { Rows, firstFrom } from './rows.js';
 
-// In bytes: how much is read at once, at first after a change, and of a whole text.
+// In bytes: the length of a part, directly after a change, and at most.
 const FIRST_PART = 512;
 const PART = 1 << 16;
 
-// The rows before the gap are those of the tokens that are read. Those after it are of an earlier reading and after all changes since: the first of
-// them begins so many bytes before the text's end as `#keptFrom` says. Once what is read comes to that place they are joined, and the text's too.
+// The rows before the gap are the tokens that are lexed. The rows after the gap were kept from an earlier pass and adjusted for all changes since;
+// the first of them begins `#keptFrom` bytes before the text's end. When lexing reaches that offset, they are joined, and the rest of the text is
+// known.
 export class Reader {
-  // What is counted of the text and follows its changes: its lines, and what whoever opens it adds.
+  // Counts over the text that are updated with its changes: its lines, and those that the caller of `open` adds.
   measures = [];
   #lexer;
   #flags = {};
@@ -19,7 +20,7 @@ export class Reader {
   #isJoined = false;
   #keptFrom = 0;
   #step = PART;
-  // Stretches of the text that are read elsewhere, one after another, with their rows once they are known.
+  // Stretches of the text that are lexed elsewhere, in order, with their rows once they are known.
   #ahead = [];
 
   constructor(lexer) {
@@ -27,7 +28,7 @@ export class Reader {
     this.open(new Uint8Array(), {});
   }
 
-  // A text of which nothing is read yet, or nothing ever where it is no UTF-8 or too long.
+  // Opens a text, of which nothing is lexed yet. A text that is not UTF-8, or is too long, is never lexed.
   open(given, flags) {
     this.#lexer.reserve(given.length);
     this.measures = [];
@@ -38,7 +39,7 @@ export class Reader {
     this.restart(flags);
   }
 
-  // Has the text be read again.
+  // Starts to lex the text again, with these flags.
   restart(flags) {
     this.#flags = flags;
     this.#forget();
@@ -46,7 +47,7 @@ export class Reader {
     if (found.ending === 'not UTF-8' || found.ending === 'too long') this.#end(found);
   }
 
-  // Puts a piece of text in the place of the bytes from one to another. All three are whole characters, and the text is UTF-8.
+  // Replaces the bytes from `from` to `to` by `piece`. All three must consist of whole characters, and the text must be UTF-8.
   change(from, to, piece) {
     const { length } = this.bytes;
     const more = piece.length - (to - from);
@@ -61,27 +62,27 @@ export class Reader {
     for (const measure of this.measures) measure.put(from, piece.length);
   }
 
-  // The place that the text is read to.
+  // The offset up to which the text is lexed.
   get place() { return this.#place; }
 
-  // Says that what is between two places is read elsewhere, after what is so already.
+  // Announces that the bytes between two offsets are lexed elsewhere. Stretches are announced in order.
   expect(from, to) { this.#ahead.push({ from, to, rows: null }); }
 
-  // Tells the rows of what is read elsewhere from a place on, whose first token begins there, or that nobody does.
+  // Delivers the rows of the stretch that begins at `from`, the first of which begins there, or withdraws the stretch if there are none.
   give(from, rows) {
     const at = this.#ahead.findIndex((it) => it.from === from);
     if (at < 0) return;
     if (rows?.length > 0) this.#ahead[at].rows = rows; else this.#ahead.splice(at, 1);
   }
 
-  // Whether what is at the place is read elsewhere and may be given soon.
+  // Whether the bytes at the current offset are lexed elsewhere and may be delivered soon.
   get #isAwaiting() {
     while (this.#ahead.length > 0 && this.#ahead[0].to <= this.#place) this.#ahead.shift();
     const [next] = this.#ahead;
     return next !== undefined && next.rows === null && next.from <= this.#place;
   }
 
-  // Reads on until the text or the time ends, or a part of what may be given soon is read, and answers whether the text ended.
+  // Lexes until the text or the time ends, or one part of a stretch that may be delivered soon is lexed. Returns `true` if the text has ended.
   readOn(until = Infinity) {
     while (this.ending === null) {
       const isAwaiting = this.#isAwaiting;
@@ -91,12 +92,12 @@ export class Reader {
     return true;
   }
 
-  // How many tokens are known: those of the text up to the place.
+  // The number of known tokens: those up to the current offset.
   get count() { return this.#isJoined ? this.rows.count : this.rows.front; }
 
   endOf(i) { return this.rows.end(i); }
 
-  // The memory may be another after it grew.
+  // Renews the views of the memory, which may have moved when it grew.
   #look(length) {
     this.bytes = this.#lexer.bytes(length);
     this.rows?.look(this.#lexer.rows(), length);
@@ -114,7 +115,7 @@ export class Reader {
     this.#end({ ending: null });
   }
 
-  // Keeps the tokens before a change and those after it: where there are none of this reading, those that were kept before.
+  // Keeps the tokens before a change, and those after it. If this pass has none after it, keeps those of the earlier pass.
   #keep(from, to) {
     this.#ahead = [];
     const endOf = (i) => this.endOf(i), { count, rows } = this;
@@ -134,7 +135,7 @@ export class Reader {
     this.#end({ ending: null });
   }
 
-  // Leaves off those of the kept tokens that begin before a place.
+  // Drops the kept tokens that begin before an offset.
   #leave(place) {
     const { rows } = this;
     while (rows.hasBack && this.bytes.length - this.#keptFrom < place) this.#keptFrom = rows.drop();
@@ -142,7 +143,7 @@ export class Reader {
 
   #join() { return this.#joinKept() || this.#joinAhead(); }
 
-  // Puts tokens that were read elsewhere after those that are read, where they begin there, and answers whether.
+  // Appends the tokens that were lexed elsewhere, if one of them begins at the current offset. Returns `true` if so.
   #joinAhead() {
     while (this.#ahead.length > 0 && this.#ahead[0].rows !== null) {
       const { from, rows } = this.#ahead[0];
@@ -160,7 +161,7 @@ export class Reader {
     return false;
   }
 
-  // Takes the kept tokens as those after what is read, where they begin there, and answers whether.
+  // Joins the kept tokens, if the first of them begins at the current offset. Returns `true` if so.
   #joinKept() {
     if (this.#isJoined) return false;
     this.#leave(this.#place);
@@ -170,21 +171,21 @@ export class Reader {
     return true;
   }
 
-  // Has all rows be before the gap, so that others can be put after them.
+  // Moves all rows before the gap, so that others can be appended.
   #part() {
     if (this.#isJoined) this.rows.open(this.count, this.count);
     this.#isJoined = false;
   }
 
-  // Where the part ends that is read next: soon after where something begins that was read elsewhere.
+  // Returns the end of the next part: shortly after the start of the tokens that were lexed elsewhere, if there are any.
   #partEnd() {
     const [next] = this.#ahead;
     const near = next?.rows ? Math.max(next.from, this.#place) + FIRST_PART : Infinity;
     return this.lines.back(Math.min(this.bytes.length, this.#place + this.#step, near));
   }
 
-  // Reads a part of the text. All of its tokens stay but the last one, which may depend on what follows. So may a fault, which is believed
-  // only of a part that goes to the text's end.
+  // Lexes a part of the text. Keeps all of its tokens except the last, which may depend on the bytes after the part. So may a lexical error, which is
+  // accepted only if the part extends to the text's end.
   #readPart() {
     if (this.#join()) return;
     const { length } = this.bytes;
@@ -194,13 +195,13 @@ export class Reader {
     let found = this.#lexer.tell(from, to, front, gap, this.#flags);
     let isPart = to < length;
     if (isPart && found.ending === 'whole') found.count -= 1;
-    // A token that is as long as the part or longer, or a fault.
+    // The first token is at least as long as the part, or there is a lexical error: lexes one token, up to the text's end.
     if (isPart && found.count === 0) {
       found = this.#lexer.tell(from, length, front, 1, this.#flags);
       isPart = false;
     }
     this.#step = Math.min(PART, 2 * this.#step);
-    // After tokens that are joined mostly the text ends, or its fault is there.
+    // Usually the text ends after joined tokens, or its lexical error is there. Otherwise the rows are moved, and the part is lexed again.
     if (this.#isJoined && found.count > 0) {
       this.#part();
       return;
@@ -210,7 +211,7 @@ export class Reader {
     if (found.ending === 'faulty') this.#endAt(from + found.offset);
   }
 
-  // How many of so many tokens that are written after those that are read come before one after which others may be already.
+  // Returns how many of the `count` new tokens come before the first one after which known tokens may begin.
   #aloneOf(count) {
     const [next] = this.#ahead;
     if (this.rows.hasBack) return 0;
@@ -219,7 +220,7 @@ export class Reader {
     return firstFrom(count, (i) => numbers[2 * (front + i)], next.from);
   }
 
-  // Takes so many tokens that are written after those that are read, at most until kept ones follow, and answers whether they do.
+  // Accepts `count` new tokens, or those up to the first one after which known tokens begin. Returns `true` if there are such tokens.
   #take(count, from) {
     const { rows } = this;
     rows.shift(count, from);
@@ -233,8 +234,8 @@ export class Reader {
     return false;
   }
 
-  // Ends with a fault at a place. So that its line has its number in the message, the module reads as many line feeds as stand in front of the
-  // token that the line begins in, and the text from there on.
+  // Ends the text with a lexical error at an offset. So that the message has the right line number, the module lexes as many line feeds as precede
+  // the token in which the error's line begins, and then the text from that token on.
   #endAt(offset) {
     const line = this.lines.start(this.lines.at(offset));
     const token = firstFrom(this.count, (i) => this.endOf(i), line + 1);
@@ -252,7 +253,7 @@ export class Reader {
     }
   }
 
-  // Puts bytes in the place of the text's from one on, which it takes.
+  // Swaps bytes with those of the text at an offset.
   #swap(given, at) {
     const those = this.bytes.slice(at, at + given.length);
     this.bytes.set(given, at);

@@ -1,7 +1,7 @@
-// The rows of a text's tokens: of each where it ends and the number of its kind. Those before a gap have their ends from the text's start, and those
-// after it from the text's end. So a change of the text within the gap leaves all of them as they are.
+// The rows of a text's tokens: each token's end and the code of its kind. Ends before a gap are counted from the text's start, and ends after it from
+// the text's end, so a change of the text at the gap leaves all rows as they are.
 
-// The first of `count` numbers, given by their places, that is not less; or how many there are.
+// Returns the index of the first of `count` sorted numbers that is at least `least`, or `count`. `numberAt` returns the number at an index.
 export function firstFrom(count, numberAt, least) {
   let low = 0, high = count;
   while (low < high) {
@@ -12,17 +12,17 @@ export function firstFrom(count, numberAt, least) {
 }
 
 export class Rows {
-  // How many rows are before the gap, and the first row after it.
+  // The number of rows before the gap, and the index of the first row after it.
   front = 0;
   #back;
 
-  // Two numbers a row, all of them gap, of a text of so many bytes.
+  // Creates rows over `numbers`, two numbers a row, all of them in the gap, for a text of `length` bytes.
   constructor(numbers, length) {
     this.look(numbers, length);
     this.forgetBack();
   }
 
-  // The same rows, where they are now, of a text that has so many bytes now.
+  // Sets the memory of the rows, and the length of the text in bytes.
   look(numbers, length) { Object.assign(this, { numbers, length }); }
 
   get #capacity() { return this.numbers.length / 2; }
@@ -33,10 +33,10 @@ export class Rows {
   end(i) { return i < this.front ? this.numbers[2 * i] : this.length - this.numbers[2 * (i + this.gap)]; }
   code(i) { return this.numbers[2 * (i < this.front ? i : i + this.gap) + 1]; }
 
-  // Where the last row before the gap ends.
+  // The end of the last row before the gap.
   get frontEnd() { return this.front > 0 ? this.numbers[2 * this.front - 2] : 0; }
 
-  // Has the gap be between the rows before one and those from another on, which is not before it. What is between them is left off.
+  // Moves the gap between the rows before `first` and the rows from `next` on, which must not be less. Drops the rows between.
   open(first, next) {
     if (next < this.front) {
       const moved = this.front - next;
@@ -51,25 +51,25 @@ export class Rows {
     this.front = first;
   }
 
-  // Moves rows over the gap.
+  // Moves rows across the gap, and converts their ends.
   #move(from, to, count) {
     const { numbers, length } = this;
     numbers.copyWithin(2 * to, 2 * from, 2 * (from + count));
     for (let i = to; i < to + count; i += 1) numbers[2 * i] = length - numbers[2 * i];
   }
 
-  // Adds so much to the ends of the rows that are written after those before the gap.
+  // Adds `by` to the ends of the `count` rows written at the start of the gap.
   shift(count, by) {
     for (let i = this.front; i < this.front + count; i += 1) this.numbers[2 * i] += by;
   }
 
-  // Puts rows after those before the gap.
+  // Appends rows to those before the gap.
   put(given) {
     this.numbers.set(given, 2 * this.front);
     this.front += given.length / 2;
   }
 
-  // Leaves off the first row after the gap, and answers where it ends, from the text's end.
+  // Drops the first row after the gap, and returns its end, counted from the text's end.
   drop() {
     this.#back += 1;
     return this.numbers[2 * this.#back - 2];

@@ -1,8 +1,8 @@
-// How much of something lies before each place of a text: line ends, or units of UTF-16. It is counted beforehand for blocks from the text's start
-// on, and for blocks from its end back: they meet where the text was changed last. So a change near the one before has little counted again.
+// Counts of line feeds, or of UTF-16 code units, before any offset of a text. Counts for blocks are kept from the text's start on, and from its end
+// backwards; they meet where the text was last changed. A change near the last one needs few new counts.
 const BLOCK = 512;
 
-// A list of numbers that grows.
+// A growing list of unsigned 32-bit integers.
 class Numbers {
   #numbers;
   length = 1;
@@ -22,7 +22,7 @@ class Numbers {
     this.length += 1;
   }
 
-  // The first that is not less, or how many there are.
+  // Returns the index of the first number that is at least `least`, or the length.
   firstFrom(least) {
     let low = 0, high = this.length;
     while (low < high) {
@@ -34,11 +34,11 @@ class Numbers {
 }
 
 export class Sums {
-  // What is in so many blocks from the start, and from the end.
+  // The counts of the first n blocks, by n, and of the last n blocks.
   #front;
   #back = new Numbers(0);
 
-  // The two functions answer how much is in the bytes, or in the words of four bytes, from one to another.
+  // The functions count in the bytes, or in the four-byte words, from one index to another.
   constructor(bytes, inBytes, inWords) {
     Object.assign(this, { inBytes, inWords });
     this.look(bytes);
@@ -47,13 +47,13 @@ export class Sums {
     this.total = this.before(bytes.length);
   }
 
-  // The bytes as they are now. The first is at a multiple of four in memory.
+  // Sets the view of the bytes. The first must be at a multiple of four in memory.
   look(bytes) {
     this.bytes = bytes;
     this.words = new Int32Array(bytes.buffer, bytes.byteOffset, bytes.length >>> 2);
   }
 
-  // How much is in the bytes from one to another, of which the words answer for a block at most.
+  // Counts in the bytes from one offset to another; by words if possible, at most a block at a time.
   #count(from, to) {
     if (((from | to) & 3) !== 0) return this.inBytes(this.bytes, from, to);
     let sum = 0;
@@ -61,14 +61,14 @@ export class Sums {
     return sum;
   }
 
-  // Has the blocks of the front be those up to a place.
+  // Makes the counts from the start cover exactly the blocks before an offset.
   #reachFrom(place) {
     const blocks = Math.floor(place / BLOCK) + 1;
     this.#front.length = Math.min(this.#front.length, blocks);
     for (let i = this.#front.length; i < blocks; i += 1) this.#front.push(this.#front.last + this.#count((i - 1) * BLOCK, i * BLOCK));
   }
 
-  // Has the blocks of the back be those from a place on.
+  // Makes the counts from the end cover exactly the blocks after an offset.
   #reachTo(place) {
     const { length } = this.bytes;
     const blocks = Math.floor((length - place) / BLOCK) + 1;
@@ -79,20 +79,20 @@ export class Sums {
     }
   }
 
-  // Says that the bytes from one to another are to be replaced, before they are.
+  // Prepares for the replacement of the bytes from `from` to `to`. Must be called before it.
   cut(from, to) {
     this.total -= this.before(to) - this.before(from);
     this.#reachTo(to);
     this.#reachFrom(from);
   }
 
-  // Says that so many of the bytes are new from a place on.
+  // Counts `more` new bytes from an offset on, after the replacement.
   put(from, more) {
     this.total += this.#count(from, from + more);
     this.#reachFrom(from + more);
   }
 
-  // How much lies before a place.
+  // Returns the count before an offset.
   before(place) {
     const { length } = this.bytes;
     const left = Math.floor((length - place) / BLOCK);
@@ -103,7 +103,7 @@ export class Sums {
     return this.#front.at(blocks) + this.#count(blocks * BLOCK, place);
   }
 
-  // The first place before which there is so much.
+  // Returns the first offset before which the count is at least `sum`.
   placeOf(sum) {
     let { place, sum: found } = this.#blockOf(sum);
     while (found < sum) {
@@ -113,7 +113,7 @@ export class Sums {
     return place;
   }
 
-  // Where a block begins that the first place before which there is so much is in, or is soon after, and how much lies before it.
+  // Returns the start of a block that contains the first offset with this count, or precedes it closely, and the count before it.
   #blockOf(sum) {
     if (sum > this.total - this.#back.last) {
       const blocks = this.#back.firstFrom(this.total - sum + 1);

@@ -1,4 +1,4 @@
-// The tokens of a text by their numbers: where each begins and ends, and what kind it is of.
+// The tokens of a text by index: the start, the end and the kind of each.
 import { KINDS } from './lexer.js';
 import { Rows } from './rows.js';
 
@@ -10,7 +10,7 @@ export const KEYWORD = 8;
 export const ANNOTATION = 9;
 export const AT_SIGN = 64;
 
-// The rows that the module gave in one call.
+// Returns the rows that one call of the module has written.
 function rowsOf({ rows: numbers, count }) {
   const rows = new Rows(numbers);
   rows.front = count;
@@ -20,7 +20,7 @@ function rowsOf({ rows: numbers, count }) {
 export class Tokens {
   #rows;
 
-  // Of a reader, or of what the module gave.
+  // Creates the tokens of a reader, or of the result of one call of the module.
   constructor(found) {
     this.count = found.count;
     this.#rows = found.rows instanceof Rows ? found.rows : rowsOf(found);
@@ -33,11 +33,11 @@ export class Tokens {
   code(i) { return this.#rows.code(i); }
   kind(i) { return KINDS[this.code(i)]; }
 
-  // Whether it is white space or a comment.
+  // Returns `true` if the token is whitespace or a comment.
   isBlank(i) { return this.code(i) < OPENING; }
   isParenthesis(i) { return this.code(i) === OPENING || this.code(i) === CLOSING; }
 
-  // The token that a byte belongs to, or how many there are.
+  // Returns the index of the token that contains a byte, or `count`.
   at(offset) {
     let low = 0, high = this.count;
     while (low < high) {
@@ -47,14 +47,14 @@ export class Tokens {
     return low;
   }
 
-  // The token at a place, the last one where the text ends with it, or -1.
+  // Returns the index of the token at an offset, of the last token if the text ends at this offset, or -1.
   held(place) {
     const at = this.at(place);
     if (at < this.count) return at;
     return this.isWhole && this.count > 0 && place === this.end(this.count - 1) ? this.count - 1 : -1;
   }
 
-  // The parenthesis after or before a place, and the one that it belongs to.
+  // Returns the parenthesis directly after or before an offset, and the matching one, if there are any.
   pair(place) {
     const here = this.parenthesisAt(place);
     if (here < 0) return [];
@@ -68,7 +68,7 @@ export class Tokens {
     return place > 0 && before < this.count && this.isParenthesis(before) && this.end(before) === place ? before : -1;
   }
 
-  // The parenthesis that one belongs to, or -1.
+  // Returns the index of the matching parenthesis, or -1.
   partner(here) {
     const step = this.code(here) === OPENING ? 1 : -1;
     let depth = 0;

@@ -1,14 +1,14 @@
-// Places of a text in UTF-8 bytes and in UTF-16 units, which are what JavaScript counts.
+// Conversion of offsets between UTF-8 bytes and UTF-16 code units, which JavaScript counts.
 import { Sums } from './sums.js';
 
-// In bytes: how near the place that is asked for next mostly is.
+// In bytes: the distance within which the next converted offset usually is.
 const NEAR = 512;
-// The first bit of each byte of a word.
+// The highest bit of each byte of a word.
 const FIRST_BITS = 0x80808080 | 0;
 
 const bitsOf = (firstBits) => Math.imul(firstBits >>> 7, 0x01010101) >>> 24;
 
-// What a byte counts for: the units of its character at the first byte, none at the others.
+// Counts the UTF-16 code units of a range of bytes. A character counts at its first byte, and its other bytes count 0.
 function inBytes(bytes, from, to) {
   let units = 0;
   for (let at = from; at < to; at += 1) if ((bytes[at] & 0xc0) !== 0x80) units += bytes[at] < 0xf0 ? 1 : 2;
@@ -26,7 +26,7 @@ function inWords(words, from, to) {
 
 export class Units {
   #sums;
-  // The place that was asked for last, since the next is mostly soon after it.
+  // The offset converted last, since the next one usually follows closely.
   #byte = 0;
   #units = 0;
 
@@ -35,16 +35,16 @@ export class Units {
     this.#sums = new Sums(bytes, inBytes, inWords);
   }
 
-  // The bytes as they are now.
+  // Sets the view of the text's bytes, after the memory or the length has changed.
   look(bytes) {
     this.bytes = bytes;
     this.#sums.look(bytes);
   }
 
-  // Says that the bytes from one to another are to be replaced, before they are.
+  // Prepares for the replacement of the bytes from `from` to `to`. Must be called before it.
   cut(from, to) { this.#sums.cut(from, to); }
 
-  // Says that so many of the bytes are new from a place on.
+  // Counts `more` new bytes from an offset on, after the replacement.
   put(from, more) {
     this.#sums.put(from, more);
     [this.#byte, this.#units] = [0, 0];
@@ -53,7 +53,7 @@ export class Units {
   get length() { return this.#sums.total; }
   get #isPlain() { return this.length === this.bytes.length; }
 
-  // The units before a byte.
+  // Returns the number of UTF-16 code units before a byte offset.
   at(byte) {
     if (this.#isPlain) return byte;
     const isNear = byte >= this.#byte && byte - this.#byte <= NEAR;
@@ -62,7 +62,7 @@ export class Units {
     return this.#units;
   }
 
-  // The byte at a place in units, at which a character begins or the text ends.
+  // Returns the byte offset of an offset in UTF-16 code units. Throws a `RangeError` past the end of the text and inside a character.
   byteAt(units) {
     if (!(units >= 0 && units <= this.length)) throw new RangeError(`the text has no place ${units}`);
     if (this.#isPlain) return units;

@@ -1,19 +1,19 @@
-// What the module makes of a whole text, in memory that it takes itself: its layout, and the bytes of a module of types. So its instance is none that a
-// reader lays out.
+// Results for a whole text, in memory that the module allocates itself: the formatted text, and the binary module of function types. The instance is
+// separate from that of a `Lexer`, which uses the memory without the module's allocator.
 export class Whole {
   #module;
   #exports = null;
 
   constructor(module) {
     this.#module = module;
-    // Whether the module takes memory at all: that of Rattle's compiler does not.
+    // Whether the module allocates at all; that of Rattle's compiler does not.
     this.isServed = WebAssembly.Module.exports(module).some(({ name }) => name === 'wat_page_room');
   }
 
-  // The text laid out, or null where it has a fault or there is no memory.
+  // Returns the formatted text, or null if the text has a lexical error or an allocation fails.
   layOut(bytes, { allow = false, strict = false } = {}) { return this.#make(bytes, ({ wat_page_lay_out }) => wat_page_lay_out(allow, strict)); }
 
-  // The bytes of the module of types that the text spells, or null where it spells none or there is no memory.
+  // Returns the binary module, or null if the text is not a module of function types alone or an allocation fails.
   types(bytes) { return this.#make(bytes, ({ wat_page_types }) => wat_page_types()); }
 
   #make(bytes, isMade) {
