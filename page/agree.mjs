@@ -1,7 +1,7 @@
-// Compares the module and what the page makes of its answers with the program, under node, on all stored texts and on 10 MB of generated
-// text: every token and every fault with its message; which tokens count, under several names; and the bytes of modules of types. And what is
-// read part by part, in order or ahead, of a whole text and after each of many edits, with what is read of the whole in one call. And the layouts
-// with tools/layout.py, on all joins of up to three hostile pieces, on longer ones at random, and on these texts.
+// Compares the module, and the page's use of its results, with the program, in node, on all golden texts and on 10 MB of generated text: every token,
+// and every lexical error with its message; the significant tokens under several names; the binary modules of function types. Also compares texts
+// that are lexed in parts, in order or ahead, as a whole and after each of many edits, with one call of the module. Compares formatted texts with
+// tools/layout.py: on all sequences of up to three hostile fragments, on random longer ones, and on the texts above.
 // usage: node agree.mjs PROGRAM, once build.sh has made the module
 import { spawnSync } from 'node:child_process';
 import { existsSync, readFileSync, readdirSync } from 'node:fs';
@@ -44,7 +44,7 @@ const lineOf = (tokens, i) => `${tokens.start(i)}..${tokens.end(i)} ${tokens.kin
 
 const seen = { stored: 0, tokens: 0, faults: 0, edits: 0, stretches: 0, signatures: 0, counting: 0, wrong: 0, modules: 0, refused: 0, other: [] };
 
-// What the program prints, on both streams.
+// Compares the list and the reported error with both streams of the program.
 function compareTokens(name, bytes, words) {
   const found = readWhole(bytes, flagsOf(words));
   const rows = [];
@@ -63,7 +63,7 @@ function compareTokens(name, bytes, words) {
   return list;
 }
 
-// What is read part by part, and after edits.
+// Compares a text that is lexed in parts, and after edits, with one call of the module.
 function compareParts(bytes, flags, times, chance) {
   reader.open(bytes, flags);
   reader.readOn();
@@ -73,7 +73,7 @@ function compareParts(bytes, flags, times, chance) {
   seen.edits += times;
 }
 
-// What tools/layout.py answers.
+// Compares formatted texts with those of tools/layout.py.
 function compareLayouts(files) {
   if (!whole.isServed) {
     console.log('layouts and bytes of types: left out, as the module takes no memory');
@@ -84,14 +84,14 @@ function compareLayouts(files) {
   if (its.status !== 0) seen.other.push(`layouts: ${its.stderr}`);
 }
 
-// How the program says what is wrong with an annotation, as far as that is compared: not the rendered line.
+// Returns the start of the program's report of an annotation's error, without the rendered line.
 function beginningOf({ what, offset }, bytes) {
   if (what.startsWith('unclosed')) return `${what} at byte offset ${offset}\n`;
   const line = bytes.subarray(0, offset).toString('latin1').split('\n').length;
   return `${what}\n${' '.repeat(5)}--> <anon>:${line}:`;
 }
 
-// What `sig` prints under these names.
+// Compares the significant tokens with the output of `sig` under these names.
 function compareCounts(name, bytes, words, names) {
   const found = readWhole(bytes, flagsOf(words));
   const tokens = new Tokens(found);
@@ -106,7 +106,7 @@ function compareCounts(name, bytes, words, names) {
   if (!isSame) seen.other.push(`${name}: sig ${names.join(' ')}`);
 }
 
-// What `types` writes.
+// Compares the binary module with the output of `types`.
 function compareTypes(name, bytes) {
   if (!whole.isServed) return;
   const found = readWhole(bytes, {});
@@ -122,7 +122,7 @@ const chosen = (count) => chance.below(count);
 const oneOf = (parts) => chance.oneOf(parts);
 const many = (most, make) => Array.from({ length: chosen(most + 1) }, make);
 
-// The tokens of a module of up to so many types, with what does not count between them.
+// Returns the tokens of a module of up to `most` types, each followed by trivia.
 function moduleOf(most) {
   const values = () => many(4, () => oneOf(['i32', 'i64', 'f32', 'f64']));
   const group = (word, parts) => ['(', word, ...parts, ')'];
@@ -132,7 +132,7 @@ function moduleOf(most) {
   return group('module', types.flat()).flatMap((token) => [token, oneOf([' ', '\n', '\t', ' (; a comment ;) ', ' ;; a comment\n', ' (@a (b) "c") '])]);
 }
 
-// Modules of types, and each with a token left out, doubled or in another's place, many times.
+// Yields modules of types, and many variants of each, with a token removed, doubled or replaced.
 function* modules() {
   for (let most = 0; most < 40; most += 1) {
     const parts = moduleOf(most);

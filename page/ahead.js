@@ -1,12 +1,12 @@
-// Workers that read parts of a long text ahead of the page, each with the module over a memory of its own. What they tell is believed only
-// where the reader comes to a place at which one of their tokens begins.
+// Workers that lex parts of a long text ahead of the page, each with the module over its own memory. The reader accepts their tokens only from an
+// offset that it has reached itself, and at which one of them begins.
 
-// In bytes: what a worker reads at once, how far ahead of the reader it begins, which reads some itself before it draws, and the least text for
-// which there are workers.
+// In bytes: the length of a stretch; the distance between the reader, which lexes some bytes itself before it draws, and the first stretch; and the
+// smallest text for which workers run.
 const STRETCH = 1 << 18;
 const LEAD = 1 << 20;
 const LEAST_TEXT = 1 << 21;
-// How many workers there are at most, and how many stretches each has at a time, so that none waits while the page draws.
+// The largest number of workers, and of stretches that each has at a time, so that no worker waits while the page draws.
 const MOST = 4;
 const AT_A_TIME = 4;
 
@@ -20,7 +20,7 @@ export class Ahead {
 
   constructor(module) { this.#module = module; }
 
-  // Has stretches of the text that a reader begins with be read ahead, and no others any more.
+  // Starts to lex the text of a reader ahead. Results for earlier texts are dropped.
   begin(reader, flags) {
     this.#round += 1;
     this.#reader = reader.bytes.length >= LEAST_TEXT ? reader : null;
@@ -46,7 +46,7 @@ export class Ahead {
     });
   }
 
-  // The next stretch, where one is left. A worker that is alone leaves every second one to the reader.
+  // Gives a worker the next stretch, if one is left. A single worker leaves every second stretch to the reader.
   #assign(worker) {
     const reader = this.#reader;
     if (reader?.ending !== null || worker.stretches.length === AT_A_TIME) return;
@@ -60,14 +60,14 @@ export class Ahead {
     worker.postMessage({ part, from, flags: this.#flags }, [part.buffer]);
   }
 
-  // A worker that fails is not asked again.
+  // Stops a worker that failed, and withdraws its stretches.
   #leave(worker) {
     worker.terminate();
     this.#workers = this.#workers.filter((it) => it !== worker);
     while (worker.stretches.length > 0) this.#give(worker, null);
   }
 
-  // What a worker tells of the first of its stretches.
+  // Delivers a worker's rows for the first of its stretches, unless another text has begun since.
   #give(worker, rows) {
     const { round, from } = worker.stretches.shift();
     if (round === this.#round) this.#reader?.give(from, rows);

@@ -1,4 +1,4 @@
-// Drives a headless Chromium over its debugging pipe, and checks the page that build.sh made.
+// Drives a headless Chromium over its debugging pipe, and checks the page that build.sh built.
 // usage: node browser.mjs PROGRAM [FOLDER], where FOLDER is for pictures of the light and the dark page
 import assert from 'node:assert/strict';
 import { spawn, spawnSync } from 'node:child_process';
@@ -15,10 +15,10 @@ const here = (name) => fileURLToPath(new URL(name, import.meta.url));
 const TYPES = { '.html': 'text/html', '.js': 'text/javascript', '.css': 'text/css', '.wasm': 'application/wasm' };
 const pause = (milliseconds) => new Promise((done) => setTimeout(done, milliseconds));
 
-// Whether the module takes memory, which layouts and bytes of types want.
+// Whether the module allocates, as formatted texts and binary modules need.
 const { isServed } = new Whole(new WebAssembly.Module(readFileSync(here('out/wat-lex/wat_lex.wasm'))));
 
-// What the page is handed under the name `generated`, where it asks for it.
+// The text that the server returns for the name `generated`.
 let generated = null;
 const server = createServer((request, response) => {
   try {
@@ -60,14 +60,14 @@ async function ask(expression) {
 }
 
 async function visit(address) {
-  // Another fragment alone would not load the page again.
+  // A different fragment alone would not load the page again.
   await send('Page.navigate', { url: 'about:blank' });
   await send('Page.navigate', { url: address });
   for (let i = 0; i < 200 && !(await ask("document.body?.dataset.ready === 'yes'").catch(() => false)); i += 1) await pause(50);
   assert.equal(await ask('document.body.dataset.ready'), 'yes', await ask("document.querySelector('#report')?.textContent"));
 }
 
-// What the page shows: its pieces in order, its message, its mark and its state.
+// The state of the page: its text and spans, the error's message and location, the reports, and the list.
 const SHOWN = `({
   text: [...document.querySelectorAll('#seen > .line')].map((it) => it.textContent).join(''),
   pieces: [...document.querySelectorAll('#seen > .line > span:not(.caret)')].map((it) => [it.className.split(' ')[0], it.textContent]),
@@ -87,13 +87,13 @@ const SHOWN = `({
   matched: [...document.querySelectorAll('.match')].map((it) => Number(it.dataset.from)),
 })`;
 
-// The token that the list is at once the text area's cursor is at a place.
+// Returns the range of the selected token in the list when the text area's cursor is at a position.
 const heldAt = (place) => ask(`{ const it = document.querySelector('#text'); it.focus(); it.setSelectionRange(${place}, ${place}); document.dispatchEvent(new Event('selectionchange')); } ${SHOWN}`).then((page) => page.held);
 
-// Types into the text area, which an example brings back where a text was only shown.
+// Types into the text area. Selects an example first if the text area is hidden, as it is for a text that cannot be edited.
 const type = (text) => ask(`{ const it = document.querySelector('#text'); if (it.hidden) document.querySelector('#example').dispatchEvent(new Event('change')); it.value = ${JSON.stringify(text)}; it.setSelectionRange(0, 0); it.dispatchEvent(new Event('input')); } ${SHOWN}`);
 
-// How many changes of the text are read to its end; and to wait in the page for a further one.
+// The number of changes whose text has been lexed to its end, and an expression that waits in the page for one more.
 const READ = "performance.getEntriesByName('read').length";
 const untilReadSince = (before) => `(async () => { while (${READ} === ${before}) await new Promise((done) => setTimeout(done, 4)); })()`;
 
@@ -118,7 +118,7 @@ async function key(name, options = {}) {
   await pause(20);
 }
 
-// The middle of an element's left edge, once it is in sight.
+// Scrolls an element into view, and returns the middle of its left edge.
 const spotOf = (selector) => ask(`(() => { document.querySelector('${selector}').scrollIntoView({ block: 'nearest' }); const it = document.querySelector('${selector}').getBoundingClientRect(); return [it.left + 2, it.top + it.height / 2]; })()`);
 
 async function press(selector) {
@@ -159,7 +159,7 @@ async function droppedTexts() {
   await ask("{ const it = document.querySelector('#text'); it.value += 'c'; it.dispatchEvent(new Event('input')); }");
   assert.equal((await ask(SHOWN)).text, '(a)\r\n\t(b "\u{1f600}")\r\nc');
   assert.deepEqual([await heldAt(3), await heldAt(4), await heldAt(11), await heldAt(12), await heldAt(14)], ['3..6', '3..6', '9..15', '15..16', '18..19']);
-  // What is shown once this text is, or after some seconds.
+  // Drops a file, and returns the state of the page once it has this text, or after 10 s.
   const dropped = async (size, text) => {
     await ask(`{ const given = new DataTransfer(); given.items.add(new File(['(dropped)'.repeat(${size})], 'a.wat')); document.dispatchEvent(new DragEvent('drop', { dataTransfer: given, bubbles: true, cancelable: true })); }`);
     for (let i = 0; i < 50; i += 1) {
@@ -170,7 +170,7 @@ async function droppedTexts() {
     return page;
   };
   assert.equal((await dropped(1, '(dropped)')).text, '(dropped)');
-  // A file that cannot be read leaves the text; one that there is no memory for leaves none.
+  // A file that cannot be read leaves the text unchanged. A file for which memory runs out leaves an empty text.
   for (const [refused, size, text] of [['Blob.prototype.arrayBuffer', 2, '(dropped)'], ['WebAssembly.Memory.prototype.grow', 1e6, '']]) {
     await ask(`window.kept = ${refused}; ${refused} = () => { throw new RangeError('refused'); };`);
     page = await dropped(size, text);
@@ -213,7 +213,7 @@ async function droppedTexts() {
   return { texts, faults };
 }
 
-// The cursor of the text and of the list is one, in a text that is edited and in one that is shown.
+// Checks that the text and the list share a cursor, for a text that is edited and for one that is only displayed.
 async function theCursor() {
   await type('"\u{e9}" x');
   assert.equal(await heldAt(4), '5..6');
@@ -233,7 +233,7 @@ async function theCursor() {
   assert.equal(await ask("document.querySelector('#list').getAttribute('aria-activedescendant')"), 'token-1');
   await key('End');
   assert.equal((await ask(SHOWN)).held, '13..14');
-  // A press on the colours is one on the text area over them.
+  // A press on the colored text reaches the text area over it.
   assert.equal((await press('#seen .Id')).held, '3..5');
   assert.equal(await ask('document.activeElement.id'), 'text');
 }
@@ -263,7 +263,7 @@ async function theCursorOfShownTexts() {
   assert.deepEqual([page.pieces[0][1].length < 2100, await ask("document.querySelector('#view').scrollLeft > 0")], [true, true]);
 }
 
-// The lines in sight follow the text area, and the text area the cursor.
+// Checks that the lines in sight follow the text area, and that the text area follows the cursor.
 async function scrolling() {
   await type(Array.from({ length: 300 }, (_, i) => `(line $l${i})${' '.repeat(200)};; ${i}\n`).join(''));
   await ask("document.querySelector('#text').scrollTo(150, 2000)");
@@ -287,8 +287,8 @@ async function scrolling() {
   assert.deepEqual([page.carets, page.numbers.at(-1), await ask("document.querySelector('#text').scrollTop > 0")], [0, 201, true]);
 }
 
-// The text area's own letters, and those of the colours in black: how many dark dots they have, and how many dots are bright in one of the
-// pictures and dark in the other.
+// Compares pictures of the text area's own letters and of the colored letters, painted black. Returns the number of dark pixels of the first, and the
+// number of pixels that are bright in one of the pictures and dark in the other.
 const BLACK = '#seen, #seen * { color: black !important; text-decoration: none !important; outline: 0 !important; background: none !important }';
 async function otherDots() {
   const [x, y, width, height] = await ask("(() => { const it = document.querySelector('#text').getBoundingClientRect(); return [it.left + scrollX, it.top + scrollY, document.querySelector('#text').clientWidth, document.querySelector('#text').clientHeight]; })()");
@@ -324,7 +324,7 @@ async function metrics() {
   }
 }
 
-// The menu, the fault's button, what counts, the bytes of types, and links.
+// Checks the menu, the error's button, the significant tokens, the binary modules of types, and links.
 async function examples() {
   const names = await ask("[...document.querySelectorAll('#example option')].map((it) => it.textContent)");
   assert.ok(names.length >= 5);
@@ -350,7 +350,7 @@ async function theFault() {
   assert.deepEqual([await ask("document.querySelector('#text').selectionStart"), page.fault, page.line], [104, 104, 101]);
   page = await type('(a)');
   assert.deepEqual([page.report, page.size, await ask("document.querySelector('#go').hidden")], ['No fault.', '3 tokens, 3 bytes.', true]);
-  // A browser tells in its next frame that a text area with less text has scrolled back.
+  // A text area whose text became shorter reports its new scroll position only in the next frame.
   for (let i = 0; i < 100 && !page.text; i += 1) {
     await pause(20);
     page = await ask(SHOWN);
@@ -408,7 +408,7 @@ async function links() {
 const valueOf = (id) => ask(`document.querySelector('#${id}').value`);
 const layoutBy = (text) => spawnSync('python3', [here('../tools/layout.py')], { input: text }).stdout.toString();
 
-// The button that formats the text, by mouse and by keyboard, and what undoes it.
+// Checks the button that formats the text, by mouse and by keyboard, and undo.
 async function formatting() {
   const text = '(module\n(func ( param i32 )(;\u{1f600};) nop\nif nop ;; \u{e9}\nend))\n\n\n';
   const laid = layoutBy(text);
@@ -428,7 +428,7 @@ async function formatting() {
     assert.equal(await ask("document.querySelector('#formatted').textContent"), '');
     await heldAt(text.indexOf('end') + 1);
   }
-  // Whatever is in it, the layout comes as it is, and goes again.
+  // Any text is replaced by exactly the formatted text, and undo restores it.
   for (const given of ['\n\n( a "&lt;<b>&#60;" )  ;; \t&amp; \u00a0\u2028\u000c x \n\n\n(b)\t', '( a ;; \0\n)', '\t\n', `( a )\n${'(b\n( c )\n\n\n)'.repeat(2000)}`]) {
     await type(given);
     await press('#format');
@@ -437,7 +437,7 @@ async function formatting() {
     await pause(300);
     assert.equal(await valueOf('text'), given);
   }
-  // What cannot be formatted stays as it is, and the page says why.
+  // A text that cannot be formatted stays as it is, and the page prints the reason.
   const deep = '(a\n'.repeat(25_000);
   for (const [given, answer] of [[laid, 'The text is formatted already.'], ['', 'The text is formatted already.'], ['( a "', 'A text with a fault is not formatted.'], [deep, 'Formatted it would have more than a megabyte, and is left as it is.']]) {
     await type(given);
@@ -447,14 +447,14 @@ async function formatting() {
   await drop('( a )\r');
   assert.equal((await press('#format')).text, '( a )\r');
   assert.equal(await ask("document.querySelector('#formatted').textContent"), 'A text that is only shown is not formatted.');
-  // CR LF stays so.
+  // CR LF line ends stay.
   await drop(text.replaceAll('\n', '\r\n'));
   assert.equal((await press('#format')).text, laid.replaceAll('\n', '\r\n'));
   await key('z', CONTROL);
   assert.equal((await ask(SHOWN)).text, text.replaceAll('\n', '\r\n'));
 }
 
-// Everything that the page offers, by the keyboard alone.
+// Checks every control of the page by the keyboard alone.
 async function byKeyboard() {
   await visit(origin);
   const here = () => ask('document.activeElement.id');
@@ -508,7 +508,7 @@ async function byKeyboard() {
   await visit(origin);
 }
 
-// Roles and names of all that takes the focus, and the contrast of all text in sight.
+// The roles and names of all elements that take the focus, and the contrast of all text in sight.
 const ACCESS = `(() => {
   const channel = (value) => (value / 255 <= 0.04045 ? value / 255 / 12.92 : ((value / 255 + 0.055) / 1.055) ** 2.4);
   const light = ([r, g, b]) => 0.2126 * channel(r) + 0.7152 * channel(g) + 0.0722 * channel(b);
@@ -544,10 +544,8 @@ async function access() {
   await send('Emulation.setEmulatedMedia', { features: [] });
 }
 
-// Times of the page's own work on a whole text: encoding, reading, lines, and drawing what is in sight. A megabyte is typed into, and
-// ten are opened again and again.
-// Runs in the page: edits the text area at random, and tells what then differs between what it holds, what is shown, and what is shown once
-// all of the text is read again.
+// Runs in the page: edits the text area at random. Returns the first state in which the page's text differs from the text area's, or in which the
+// page changes when the whole text is lexed again; otherwise null.
 function retypeOften(times, lineEnd, shown) {
   const PIECES = ['"', '\\', '(;', ';)', ';;', ';', '(', ')', '@', '$', 'x', '0x1', ' ', '\t', '\n', '\n\n', '\u00e9', '\u6f22', '\u{1f600}', '\u202e'];
   const it = document.querySelector('#text');
@@ -556,7 +554,7 @@ function retypeOften(times, lineEnd, shown) {
     seed = (seed * 48271) % 2147483647;
     return seed % count;
   };
-  // The next place that parts no pair of surrogates.
+  // Returns the nearest position from this one on that does not split a surrogate pair.
   const whole = (place) => (/^[\udc00-\udfff]/.test(it.value.slice(place)) ? place + 1 : place);
   for (let i = 0; i < times; i += 1) {
     at = whole(below(4) === 0 ? below(it.value.length + 1) : Math.min(at, it.value.length));
@@ -590,8 +588,8 @@ const best = (all) => {
 };
 const LAST = "['show', 'read'].map((name) => performance.getEntriesByName(name).at(-1).duration)";
 
-// Runs in the page: types a piece at a place and takes it away again, in turn. Nothing is laid out between, which for a megabyte takes a second
-// in a text area.
+// Runs in the page: inserts a piece at a position and removes it again, in turn, and returns the times that `last` reports. The browser computes no
+// layout in between, which would take a second for a text area of a megabyte.
 async function typeOften(times, place, piece, last) {
   const it = document.querySelector('#text');
   const all = [];
@@ -605,7 +603,7 @@ async function typeOften(times, place, piece, last) {
   return all;
 }
 
-// Runs in the page: the module alone, over all of what the server hands out.
+// Runs in the page: measures the module alone, on the whole text that the server returns as `generated`.
 async function readOften(times) {
   const { Lexer } = await import('./wat-lex/lexer.js');
   const module = await WebAssembly.compile(await fetch('wat-lex/wat_lex.wasm').then((it) => it.arrayBuffer()));
@@ -623,7 +621,7 @@ async function readOften(times) {
   return all;
 }
 
-// The page's own work, as it measures it: until what is in sight is drawn, and until all is read.
+// Prints the times that the page measures: until the visible part is drawn, and until the whole text is lexed.
 const tell = (bytes, name, all) => console.log(`  ${bytes.length} bytes, ${name}: ${best(all.map((it) => it[0]))}; all read ${best(all.map((it) => it[1]))}`);
 
 async function tellEach(bytes, name, times, change) {
@@ -638,7 +636,7 @@ async function tellEach(bytes, name, times, change) {
 
 const generatedText = (megabytes) => spawnSync('python3', [here('../tools/generate.py'), String(megabytes)], { maxBuffer: 2 ** 30 }).stdout;
 
-// A long text that is opened: its tokens and its fault are those of the program.
+// Opens a long text, and checks that its tokens and its error are those of the program.
 async function openLong(name, text) {
   const given = Buffer.from(text);
   const page = await drop(given);
@@ -652,7 +650,7 @@ async function openLong(name, text) {
   }
 }
 
-// Texts that workers read ahead, whatever is where a stretch begins; and one where the workers fail.
+// Checks long texts that workers lex ahead, with any token at the start of a stretch, and two texts whose workers fail.
 async function longTexts() {
   const text = generatedText(4).toString();
   const middle = text.indexOf('\n', text.length / 2);
@@ -669,7 +667,7 @@ async function longTexts() {
   await visit(origin);
 }
 
-// What is in the middle of a long text.
+// Checks the lines that are drawn in the middle of a long text.
 async function theMiddle(bytes, box) {
   await ask(`document.querySelector('${box}').scrollTop = document.querySelector('${box}').scrollHeight / 2`);
   await pause(200);
@@ -679,7 +677,7 @@ async function theMiddle(bytes, box) {
   assert.equal(shown.numbers[0], bytes.toString().slice(0, at).split('\n').length);
 }
 
-// A text that is edited.
+// Measures edits of a text of one megabyte, including the drawing of the visible part.
 async function timesOfTyping() {
   const bytes = generatedText(1);
   const page = await drop(bytes);
@@ -698,7 +696,7 @@ async function timesOfTyping() {
   await tellEach(bytes, 'opened', 5, () => drop(bytes));
 }
 
-// A long text that is opened, with workers and without, and the module alone, in turn.
+// Measures opening a text of ten megabytes, with workers and without, and the module alone, in turn.
 async function timesOfOpening() {
   generated = generatedText(10);
   const processors = await ask('navigator.hardwareConcurrency');
@@ -758,7 +756,7 @@ try {
   await typedTexts();
   const bad = events.filter((it) => it.method === 'Runtime.exceptionThrown' || (it.method === 'Runtime.consoleAPICalled' && it.params.type === 'error') || (it.method === 'Log.entryAdded' && it.params.entry.level === 'error'));
   assert.deepEqual(bad, []);
-  // What the page's policy refuses is reported in the console.
+  // Violations of the page's content security policy are reported in the console.
   for (const address of [origin, pathToFileURL(here('out/wat.html')).href]) {
     await send('Page.navigate', { url: address });
     await pause(500);

@@ -1,9 +1,9 @@
-// Where the characters of a line stand, in pixels from its start, for lines too long to be drawn whole. The font is one of fixed width;
-// what it lacks is measured, a character at a time.
+// The horizontal positions of a line's characters, in pixels from its start, for lines that are too long to be drawn whole. The font has a fixed
+// width; a character that it lacks is measured once.
 const TAB = 9;
 const STOPS = 4;
 
-// The character that begins at a byte, and the byte after it.
+// Returns the code point that begins at a byte, and the offset of the next one.
 function characterAt(bytes, at) {
   const first = bytes[at];
   if (first < 0x80) return [first, at + 1];
@@ -27,13 +27,14 @@ export class Columns {
     return this.others.get(code);
   }
 
-  // Where the character after one that is at `x` is. A tab has half a character's width at least.
+  // Returns the position after a character at `x`. A tab is at least half a character wide.
   after(x, code) {
     const stop = STOPS * this.width;
     return code === TAB ? Math.ceil((x + this.width / 2) / stop) * stop : x + this.widthOf(code);
   }
 
-  // From a byte that is at `x` on, the first that is at `wanted` or after it, or where the line ends; and where it is.
+  // Returns the offset of the first character at `wanted` or to the right of it, or the end of the line, and its position. The character at `from` is
+  // at `x`.
   reach(bytes, from, to, wanted, x = 0) {
     let at = from, here = x;
     while (at < to && here < wanted) {
@@ -44,7 +45,7 @@ export class Columns {
     return { at, x: here };
   }
 
-  // The bytes of a line between two places in pixels, and where the first of them is: so far after a stop of the tabs.
+  // Returns the range of a line's bytes between two positions, and the position of its first byte as a tab stop and the distance from it.
   part(bytes, from, to, left, right) {
     const first = this.reach(bytes, from, to, left);
     const beyond = first.x % (STOPS * this.width);

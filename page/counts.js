@@ -1,12 +1,12 @@
-// Which tokens count: no white space, no comments, and no groups `(@name ..)` whose names are not registered.
+// Significant tokens: all except whitespace, comments, and groups `(@name ..)` of unregistered names.
 import { decoder } from './wat-lex/lexer.js';
 import { nameOf } from './names.js';
 import { ANNOTATION, AT_SIGN, OPENING } from './wat-lex/tokens.js';
 
 const SHOWN = {};
 
-// What becomes of a parenthesis with `@` directly after it: it is shown, or one skips to the token after its group, or something is wrong
-// with it, and where. Where the text's fault takes the place of what follows, one skips all tokens.
+// Classifies a parenthesis that `@` follows directly. Returns `SHOWN` if it is visible, `after`, the index of the token after its group, if the group
+// is skipped, or `wrong`, an error with its offset. `after` is infinite if the text's lexical error comes before the end of the group.
 function skip(tokens, bytes, names, i) {
   const annotation = i + 1;
   if (annotation === tokens.count) return { after: Infinity };
@@ -21,7 +21,7 @@ function skip(tokens, bytes, names, i) {
   return { after: last < 0 ? Infinity : last + 1 };
 }
 
-// The numbers of the tokens that count, at most so many; and what is wrong with an annotation where they end before the text.
+// Returns the indices of the significant tokens, at most `most`, and the error of an annotation that ends them before the end of the text.
 export function whatCounts(tokens, bytes, names, most = tokens.count) {
   const numbers = new Uint32Array(Math.min(most, tokens.count));
   let count = 0, error = null;

@@ -1,4 +1,4 @@
-// Texts that are edited at random, over and over: what is read after each edit has to be what the module says of the whole text in one call.
+// Random edits of texts: after each edit, the tokens of the reader must equal those of one call of the module on the whole text.
 import assert from 'node:assert/strict';
 import { changeOf, Places } from './edits.js';
 import { rowsOfPart } from './wat-lex/lexer.js';
@@ -17,7 +17,7 @@ export class Chance {
   oneOf(parts) { return parts[this.below(parts.length)]; }
 }
 
-// What the module says of a whole text in one call.
+// Returns the result of one call of the module on a whole text.
 export function readOnce(lexer, bytes, flags) {
   lexer.reserve(bytes.length);
   lexer.bytes(bytes.length).set(bytes);
@@ -25,7 +25,7 @@ export function readOnce(lexer, bytes, flags) {
   return { ...found, bytes: lexer.bytes(bytes.length) };
 }
 
-// Whether the rows of a reader are the first of those that the module gave.
+// Returns `true` if the rows of a reader are the first rows of the module's.
 function areFirst({ rows, count }, numbers) {
   for (let i = 0; i < count; i += 1) if (rows.end(i) !== numbers[2 * i] || rows.code(i) !== numbers[2 * i + 1]) return false;
   return true;
@@ -33,7 +33,7 @@ function areFirst({ rows, count }, numbers) {
 
 const isSame = (one, other) => Buffer.from(one.slice().buffer).equals(Buffer.from(other.slice().buffer));
 
-// Whether the lines of a reader are those of its text, wherever they are looked for.
+// Checks that the lines of a reader are those of its text.
 function compareLines({ lines, bytes }) {
   const starts = [0];
   for (let at = bytes.indexOf(10); at >= 0; at = bytes.indexOf(10, at + 1)) starts.push(at + 1);
@@ -44,7 +44,7 @@ function compareLines({ lines, bytes }) {
   }
 }
 
-// Whether a reader says the same; and where it has not read all, whether what it says is the beginning.
+// Checks that a reader has the module's result, or a prefix of it if it has not lexed the whole text.
 export function compare(reader, lexer, flags) {
   const whole = readOnce(lexer, reader.bytes, flags);
   const isRead = reader.ending !== null;
@@ -53,7 +53,8 @@ export function compare(reader, lexer, flags) {
   compareLines(reader);
 }
 
-// Reads a text of which stretches are read elsewhere, wherever they begin, given in any order, and some of them not at all. Answers how many were given.
+// Lexes a text of which stretches, from any offsets, are lexed elsewhere and delivered in any order; some are never delivered. Returns the number of
+// delivered ones.
 export function readAhead(reader, lexer, bytes, flags, chance, least = 0) {
   const awaited = [];
   const size = () => 1 + least + chance.below(chance.oneOf([4000, 300, 20]));
@@ -81,7 +82,7 @@ export function readAhead(reader, lexer, bytes, flags, chance, least = 0) {
   return count;
 }
 
-// Edits, most of which are where the one before ended.
+// Random edits, most of which begin near the end of the previous one.
 export class Edits {
   constructor(chance) {
     this.chance = chance;
@@ -110,8 +111,8 @@ export class Edits {
   }
 }
 
-// Edits a text so many times. Half of the texts are those of a text area, which holds LF also where the bytes have CR LF, and finds the bytes by
-// its units, as the page does.
+// Edits a text `times` times. Half of the texts simulate a text area, which contains LF even if the bytes contain CR LF, and convert its positions to
+// byte offsets as the page does.
 export function editOften(reader, lexer, given, times, chance) {
   const encoder = new TextEncoder();
   const flags = { allow: chance.below(4) === 0, strict: chance.below(4) === 0 };
@@ -124,7 +125,7 @@ export function editOften(reader, lexer, given, times, chance) {
   const byteAt = (units) => (isTyped ? places.byteAt(reader.bytes, units) : encoder.encode(text.slice(0, units)).length);
   reader.open(bytesOf(text), flags);
   for (let i = 0; i < times; i += 1) {
-    // Now and then the next edit comes before all is read.
+    // Sometimes the next edit comes before the whole text is lexed.
     reader.readOn(chance.below(5) === 0 ? 0 : Infinity);
     compare(reader, lexer, flags);
     const next = held(edits.next(text));

@@ -1,10 +1,11 @@
-// What was typed: which part of a text is another now, and where the text area's places lie in the text's bytes, and in its layout.
+// Changes in the text area: the range that changed, and the conversion of the text area's positions to byte offsets, also in the formatted text.
 import { CARRIAGE_RETURN, LINE_FEED } from './wat-lex/lines.js';
 import { WHITE_SPACE } from './wat-lex/tokens.js';
 
 const BLANK = 32;
 
-// How many units two texts have in common from these places on, at most so many. Slices are compared since the engine does so by words.
+// Returns the number of UTF-16 code units, at most `most`, that two texts share from these offsets on. Compares slices, since an engine compares them
+// by words.
 function common(one, other, oneFrom, otherFrom, most) {
   let low = 0, high = most;
   while (low < high) {
@@ -14,7 +15,7 @@ function common(one, other, oneFrom, otherFrom, most) {
   return low;
 }
 
-// The same back from their ends.
+// Returns the number of UTF-16 code units, at most `most`, that two texts share at their ends.
 function commonAtEnd(one, other, most) {
   let low = 0, high = most;
   while (low < high) {
@@ -28,7 +29,7 @@ function commonAtEnd(one, other, most) {
 const isFirstOfPair = (unit) => unit >= 0xd800 && unit < 0xdc00;
 const isSecondOfPair = (unit) => unit >= 0xdc00 && unit < 0xe000;
 
-// The part of a text, from one unit to another, in whose place another part is in a new text. No pair of surrogates is parted.
+// Returns the range of a text, in UTF-16 code units, that a new text replaces, and the replacement. Never splits a surrogate pair.
 export function changeOf(before, after) {
   const least = Math.min(before.length, after.length);
   let from = common(before, after, 0, 0, least);
@@ -40,14 +41,14 @@ export function changeOf(before, after) {
 
 const sizeOf = (first) => (first < 0x80 ? 1 : first < 0xe0 ? 2 : first < 0xf0 ? 3 : 4);
 
-// How many UTF-16 units a character counts in a text area, by its first byte. A line end is one unit there, CR LF as well.
+// Returns the number of UTF-16 code units of a character in a text area, by its first byte. A line end is one unit there, CR LF as well.
 function unitsOf(first) {
   if (first === CARRIAGE_RETURN) return 0;
   return first < 0xf0 ? 1 : 2;
 }
 
-// The byte at a text area's place. The last one is kept, since the next is mostly near it; it holds as long as the text in
-// front of it does.
+// Converts positions of the text area to byte offsets. The last one is cached, since the next is usually near it; it stays valid as long as the text
+// before it is unchanged.
 export class Places {
   #units = 0;
   #at = 0;
@@ -74,7 +75,7 @@ export class Places {
   }
 }
 
-// Where a place of a text is in its layout: in its token, or in front of the next one.
+// Returns the offset in the formatted text of an offset in the text: in the same token, or before the next one.
 export function placeInLayout(tokens, laidOut, place) {
   let at = 0;
   for (let i = 0; i < tokens.count; i += 1) {

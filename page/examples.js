@@ -1,4 +1,4 @@
-// The texts of the menu. The first has no fault.
+// The source texts of the menu. The first has no error.
 export const EXAMPLES = [
   {
     name: 'A function',

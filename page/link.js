@@ -1,4 +1,4 @@
-// A text in a link: its bytes, compressed, in the fragment, which a browser sends to nobody.
+// A source text in a link: its bytes, compressed, in the fragment, which browsers do not send to servers.
 const LONGEST_FRAGMENT = 100_000;
 const LONGEST_TEXT = 1 << 24;
 
@@ -16,7 +16,7 @@ async function piped(bytes, stream, most = Infinity) {
 const toWord = (bytes) => btoa(Array.from(bytes, (byte) => String.fromCharCode(byte)).join('')).replaceAll('+', '-').replaceAll('/', '_').replaceAll('=', '');
 const fromWord = (word) => Uint8Array.from(atob(word.replaceAll('-', '+').replaceAll('_', '/')), (it) => it.charCodeAt(0));
 
-// The fragment of a text and of how it is read, or null where it would be too long.
+// Returns the fragment of a text and its settings, or null if it would be too long.
 export async function fragmentOf({ bytes, allow, strict, counts, names }) {
   const said = new URLSearchParams({ text: toWord(await piped(bytes, new CompressionStream('deflate-raw'))) });
   for (const [name, isSet] of Object.entries({ allow, strict, counts })) if (isSet) said.set(name, '1');
@@ -25,7 +25,7 @@ export async function fragmentOf({ bytes, allow, strict, counts, names }) {
   return fragment.length > LONGEST_FRAGMENT ? null : fragment;
 }
 
-// The same back from a fragment, or null where it has no text.
+// Returns the text and the settings of a fragment, or null if it has no text. Rejects with a `RangeError` if the text is too long.
 export async function givenBy(fragment) {
   const said = new URLSearchParams(fragment.replace(/^#/, ''));
   if (!said.has('text')) return null;

@@ -1,9 +1,9 @@
-// The names of identifiers and annotations. The lexer has read their words, so each escape is one of the format's.
+// The names of identifiers and annotations. The lexer has accepted their tokens, so each escape is valid.
 const LETTERS = { t: 9, n: 10, r: 13, '"': 34, "'": 39, '\\': 92 };
 const ESCAPES = /([^\\]+)|\\(?:u\{([\da-fA-F_]+)\}|([\da-fA-F]{2})|(.))/gsu;
 const strict = new TextDecoder('utf-8', { fatal: true, ignoreBOM: true });
 
-// The bytes that the elements of a string stand for.
+// Returns the bytes of a string's elements.
 function unescaped(elements) {
   const encoder = new TextEncoder();
   const bytes = [];
@@ -15,7 +15,7 @@ function unescaped(elements) {
   return new Uint8Array(bytes);
 }
 
-// The name in a word such as `$a` or `@"a"`, which may be empty, or null where it is not UTF-8.
+// Returns the name in a token such as `$a` or `@"a"`, which may be empty, or null if the name is not UTF-8.
 export function nameOf(word) {
   if (word[1] !== '"') return word.slice(1);
   try {

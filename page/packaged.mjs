@@ -1,5 +1,5 @@
-// Compares what the npm package answers, in places of UTF-16, with the program on all stored texts; and, after each of many edits at random, with what
-// it answers of the whole text.
+// Compares the results of the npm package, whose offsets are in UTF-16 code units, with the program on all golden texts; and, after each of many
+// random edits, with its results for the whole text.
 // usage: node packaged.mjs PROGRAM, once build.sh has made the package
 import assert from 'node:assert/strict';
 import { spawnSync } from 'node:child_process';
@@ -14,20 +14,20 @@ const program = process.argv[2];
 if (!program) throw new Error('usage: node packaged.mjs PROGRAM');
 const folder = fileURLToPath(new URL('../crates/wat_tokens/agreement/', import.meta.url));
 const EDITS = 40;
-// Whether the module takes memory, which layouts and bytes of types want.
+// Whether the module allocates, as formatted texts and binary modules need.
 const { isServed } = new Whole(new WebAssembly.Module(readFileSync(fileURLToPath(new URL('out/wat-lex/wat_lex.wasm', import.meta.url)))));
 const wat = loadSync();
 assert.deepEqual((await load()).lex('(a)'), wat.lex('(a)'));
 const document = wat.open();
 const seen = { texts: 0, tokens: 0, faults: 0, layouts: 0, types: 0, edits: 0 };
 
-// What the program prints of a text.
+// Returns the program's output for a text.
 function ran(words, input) {
   const { stdout, stderr, status } = spawnSync(program, words, { input, maxBuffer: 2 ** 30 });
   return { said: stdout.toString(), fault: stderr.toString(), status };
 }
 
-// The list and the fault of a text, as the program prints them: by bytes.
+// Formats the list and the error of a text like the program, with byte offsets.
 function printed(text, { tokens, fault }) {
   let at = 0;
   const rows = tokens.map(({ kind, start, end }) => {
@@ -90,13 +90,13 @@ for (const name of readdirSync(folder).filter((it) => existsSync(`${folder}${it}
   compareWithProgram(text, flags, words);
   compareEdited(text, flags, chance);
 }
-// Long texts of several blocks, also with characters of two, three and four bytes.
+// Longer texts of several blocks, also with characters of two, three and four bytes.
 const generated = spawnSync('python3', [fileURLToPath(new URL('../tools/generate.py', import.meta.url)), '1'], { maxBuffer: 2 ** 30 }).stdout.toString();
 for (let at = 0; at < 6; at += 1) {
   const text = generated.slice(at * 100_000, at * 100_000 + 3_000 * 4 ** (at % 3));
   compareEdited(at < 3 ? text : text.replaceAll('a', () => chance.oneOf(['a', '\u00e9', '\u6f22', '\u{1f600}'])), {}, chance);
 }
-// A text that outgrows the memory that it is opened with.
+// A text that outgrows the memory with which it was opened.
 const line = generated.indexOf('\n', 500_000), half = generated.slice(0, line);
 const growing = wat.open(`${half};; \u{1f600}\n`.repeat(5).slice(0, 2_600_000));
 growing.change(line, line, half.slice(0, 100_000));

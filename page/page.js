@@ -1,4 +1,4 @@
-// The page: a text in colours, its tokens, and one cursor in both.
+// The page: a source text in colors, its tokens, and a cursor that both share.
 import { Ahead } from './ahead.js';
 import { Columns } from './columns.js';
 import { whatCounts } from './counts.js';
@@ -12,13 +12,13 @@ import { Reader } from './wat-lex/reader.js';
 import { Tokens } from './wat-lex/tokens.js';
 import { Whole } from './wat-lex/whole.js';
 
-// In bytes: a longer text is shown, and not edited; of a line, and of a token in the list, no more than these are drawn.
+// In bytes: the largest text that can be edited, and the longest parts of a line, and of a token in the list, that are drawn.
 const EDITABLE = 1 << 20;
 const LONGEST = 2000;
 const LISTED = 120;
-// In lines of sixteen bytes.
+// In lines of sixteen bytes: the longest part of a binary module that is printed.
 const DUMPED = 256;
-// In milliseconds: how long a text is read before what is in sight is drawn, and then between other tasks.
+// In milliseconds: the time for which a text is lexed before the visible part is drawn, and then between other tasks.
 const AT_ONCE = 8;
 const $ = (id) => document.getElementById(id);
 const encoder = new TextEncoder();
@@ -27,13 +27,13 @@ const plural = (count, word) => `${count.toLocaleString('en')} ${word}${count ==
 
 let reader, ahead, whole, view, list, columns;
 let bytes, lines, tokens, cursor = 0;
-// The tokens that count, where only these are listed.
+// The significant tokens, if only these are listed.
 let counted = null;
-// The line end that the text area's own is shown for, or null where the text area is not in use.
+// The line end that each LF of the text area stands for, or null if the text area is not in use.
 let lineEnd = '\n';
-// The text area's text as it was read last, and where its places lie in the bytes.
+// The text area's text when it was last read, and the conversion of its positions to byte offsets.
 let typed = '', places = new Places();
-// Whether the cursor was not moved since a text was opened.
+// Whether the cursor has not moved since a text was opened.
 let isUntouched = false;
 
 // ---- drawing
@@ -51,10 +51,10 @@ function caret() {
   return it;
 }
 
-// Whether the cursor is drawn at a place: the text area has its own.
+// Returns `true` if the cursor is drawn at an offset. The text area draws its own.
 const isCaretAt = (place) => lineEnd === null && cursor === place;
 
-// What is drawn of a line: bytes one after another, each with a class and perhaps a mark, and the cursor between them.
+// The spans of a line: consecutive ranges of bytes, each with a class and perhaps a mark, and the cursor between them.
 class Pieces {
   all = [];
 
@@ -68,7 +68,7 @@ class Pieces {
 
   putCaret() { this.all.push({ className: 'caret', from: cursor, to: cursor, mark: '' }); }
 
-  // The character that the fault is reported at. A mark is shown for a line end, and for the text's end.
+  // Adds the character at which the error is reported, and returns its end. A mark stands for a line end, and for the end of the text.
   putFault(to) {
     const at = reader.offset;
     const end = Math.min(lines.on(at + 1), to);
@@ -78,7 +78,8 @@ class Pieces {
   }
 }
 
-// Of a long line the bytes that are drawn, and where they stand: in the text area those in sight, otherwise those about the cursor.
+// Returns the range of a line's bytes to draw, and its position. A long line is cut: in the text area to the bytes in sight, otherwise to those
+// around the cursor.
 function partOf(line, from, to) {
   if (to - from <= LONGEST) return { from, to };
   if (lineEnd !== null) return columns.part(bytes, from, to, view.left - view.width / 2, view.left + 1.5 * view.width);
@@ -88,7 +89,7 @@ function partOf(line, from, to) {
   return { from: first, to: lines.on(Math.min(to, first + LONGEST)) };
 }
 
-// The class of a token: its kind, and whether the cursor is at it or whether it is among those that do not count.
+// Returns the class of a token: its kind, or `skipped` if it is not significant, and whether the cursor is at it or at its parenthesis.
 function classOf(i, held, matched) {
   const kind = counted && !isListed(i) ? 'skipped' : tokens.kind(i);
   if (matched.includes(i)) return `${kind} ${matched.length > 1 ? 'match' : 'alone'}`;
@@ -121,7 +122,7 @@ function drawPiece({ className, from, to, mark }) {
   return it;
 }
 
-// The lines that are drawn, by what they show. One that shows the same as one before is that one, since a browser takes long for new ones.
+// The drawn lines, by their contents. A line with the contents of an earlier one reuses its element, since browsers take long to create elements.
 class DrawnLines {
   #before = new Map();
   #now = new Map();
@@ -147,7 +148,7 @@ class DrawnLines {
 
   #draw(part, [isCutBefore, isCutBehind], pieces) {
     const parent = element('div', 'line');
-    // The browser counts the stops of tabs from the padding's end.
+    // The browser counts tab stops from the end of the padding.
     if (part.stop > 0) parent.style.paddingLeft = `${part.stop}px`;
     if (part.beyond > 0) parent.style.textIndent = `${part.beyond}px`;
     if (isCutBefore) parent.append('…');
@@ -176,12 +177,12 @@ function drawView(first, last, offset) {
 
 const visible = (text) => text.replace(/\r/g, '␍').replace(/\n/g, '↵').replace(/\t/g, '⇥');
 
-// ---- what is listed: all tokens, or those that count
+// ---- the list of all tokens, or of the significant ones
 
 const listedCount = () => (counted ? counted.numbers.length : tokens.count);
 const listed = (place) => (counted ? counted.numbers[place] : place);
 
-// Where a token is in the list, or the nearest one after it.
+// Returns the index in the list of a token, or of the nearest listed one after it.
 function placeOf(token) {
   if (!counted) return token;
   let low = 0, high = counted.numbers.length;
@@ -213,7 +214,7 @@ function drawList(first, last) {
 
 // ---- the cursor
 
-// Has the list stand at the cursor's token, or the nearest one.
+// Scrolls the list to the cursor's token, or to the nearest one, and prints the cursor's location.
 function follow() {
   const held = tokens.held(cursor);
   if (listedCount() > 0) list.revealSoon(Math.min(placeOf(tokens.at(cursor)), listedCount() - 1));
@@ -231,7 +232,7 @@ function reveal() {
   if (lineEnd !== null) view.revealAcross(columns.reach(bytes, lines.start(line), cursor, Infinity).x);
 }
 
-// Scrolls sideways to the cursor that is drawn.
+// Scrolls sideways to the drawn cursor.
 function revealCaret() {
   const left = view.seen.querySelector('.caret')?.offsetLeft;
   if (left !== undefined) view.revealAcross(left);
@@ -281,7 +282,7 @@ function onViewClick(event) {
   const node = spot?.offsetNode ?? spot?.startContainer;
   const at = node?.nodeType === Node.TEXT_NODE ? node.parentElement : node;
   const span = at?.closest?.('[data-from]');
-  // Beside a line it is the line's end.
+  // A click to the right of a line selects the line's end.
   const last = [...(at?.closest?.('.line')?.querySelectorAll('[data-from]') ?? [])].at(-1);
   if (!span && !last) return;
   const before = span ? span.textContent.slice(0, spot.offset ?? spot.startOffset) : last.textContent.replace(/\r?\n$/, '');
@@ -303,9 +304,9 @@ function onListClick(event) {
   if (option) moveTo(tokens.start(Number(option.id.slice('token-'.length))), 'list');
 }
 
-// ---- what is reported
+// ---- reports
 
-// Changes what a screen reader is to hear only where it is another.
+// Sets the text of an element that screen readers announce, if the text has changed.
 function tell(id, text) {
   if ($(id).textContent !== text) $(id).textContent = text;
   $(id).hidden = text === '';
@@ -317,7 +318,7 @@ function say(text, isWrong = false) {
   $('state').className = isWrong ? 'wrong' : '';
 }
 
-// The fault's place as its message has it: the column is where the mark is.
+// Prints the error with the location of its message: the column is that of the marker.
 function sayFault() {
   const [what, place] = reader.message.split('\n');
   const [line, column] = place.split(':').slice(-2);
@@ -359,7 +360,7 @@ function showCounts() {
   list.redraw();
 }
 
-// The bytes of a module of types, which is read as the standard has it and under no names.
+// Prints the binary module of function types. The text must be lexed by the standard's rules, and without registered names.
 function showBytes() {
   const isRead = whole.isServed && reader.ending === 'whole' && !$('allow').checked;
   const module = isRead && mayBeTypes(tokens, bytes) ? whole.types(bytes) : null;
@@ -372,14 +373,14 @@ function showBytes() {
 
 const flags = () => ({ allow: $('allow').checked, strict: $('strict').checked });
 
-// Reads on for a while.
+// Lexes on for `AT_ONCE` milliseconds.
 function readOn() {
   reader.readOn(performance.now() + AT_ONCE);
   ({ bytes, lines } = reader);
   tokens = new Tokens(reader);
 }
 
-// Draws what is in sight.
+// Draws the visible part of the text and of the list.
 function draw() {
   $('numbers').style.width = `${Math.max(3, String(lines.count).length) + 2}ch`;
   view.set(lines.count);
@@ -391,8 +392,8 @@ function draw() {
   list.redraw();
 }
 
-// Draws a text that is read, or its front, after which the rest is then read. What a change of the text costs is measured from its
-// start, until what is in sight is drawn, and until the whole is read and drawn.
+// Draws a text that is lexed, whole or in part, and then lexes the rest. Measures the time from the start of a change until the visible part is
+// drawn, and until the whole text is lexed and drawn.
 function show(place, start) {
   cursor = lines.back(place);
   tell('formatted', '');
@@ -401,7 +402,7 @@ function show(place, start) {
   rest.begin(start);
 }
 
-// What is left of a text is read between the browser's other tasks.
+// Lexes the rest of a text between the browser's other tasks.
 const rest = {
   channel: new MessageChannel(),
   start: 0,
@@ -417,7 +418,7 @@ const rest = {
     this.isAwaited = true;
   },
 
-  // A change may have had the text read to its end since this was awaited.
+  // A change may have lexed the text to its end since the message was posted.
   goOn() {
     this.isAwaited = false;
     if (reader.ending !== null) return;
@@ -438,7 +439,7 @@ const rest = {
   },
 };
 
-// The one line end of a text that a text area can stand for, or null.
+// Returns the line end of a text that a text area can represent, or null if it has several kinds of line ends.
 function lineEndOf(text) {
   const returns = text.split('\r').length - 1;
   if (returns === 0) return '\n';
@@ -446,14 +447,14 @@ function lineEndOf(text) {
   return returns === feeds && text.split('\r\n').length - 1 === feeds ? '\r\n' : null;
 }
 
-// Why a text is only shown, or nothing.
+// Returns the reason why a text cannot be edited, or an empty string.
 function refusal(given) {
   if (given.length > EDITABLE) return 'A text of more than a megabyte is shown, and not edited.';
   if (reader.ending === 'not UTF-8') return 'Only a text in UTF-8 can be edited here.';
   return lineEndOf(decoder.decode(given)) ? '' : 'A text with line ends of two kinds is shown, and not edited.';
 }
 
-// Gives the text to the text area, or to the view, which then scrolls and has the focus.
+// Sets the text of the text area, or uses the view instead, which then scrolls and takes the focus.
 function lend(given) {
   const note = refusal(given);
   const text = note ? '' : decoder.decode(given);
@@ -471,7 +472,7 @@ function lend(given) {
   view.restart();
 }
 
-// A text from elsewhere. It may be edited where the text area can hold it as it is. The cursor goes to its fault, unless it was moved before.
+// Opens another text. It can be edited if the text area can represent it. The cursor moves to its error, unless the user has moved it before.
 function open(given) {
   const start = performance.now();
   reader.open(given, flags());
@@ -488,7 +489,7 @@ function onInput() {
   const { value, selectionEnd } = $('text');
   const { from, to, text } = changeOf(typed, value);
   isUntouched = false;
-  // The last place that is asked for is before the change, and so holds.
+  // The offset converted last is before the change, so the cached one stays valid.
   const end = places.byteAt(bytes, to), begin = places.byteAt(bytes, from);
   reader.change(begin, end, encoder.encode(lineEnd === '\r\n' ? text.replaceAll('\n', lineEnd) : text));
   typed = value;
@@ -499,7 +500,7 @@ function onInput() {
 function onSelect() {
   if (document.activeElement !== $('text') || lineEnd === null) return;
   const place = places.byteAt(bytes, $('text').selectionEnd);
-  // A change of the text has moved the cursor already.
+  // After a change of the text, the cursor has moved already.
   if (place !== cursor) moveTo(place, 'text');
 }
 
@@ -511,17 +512,17 @@ function onFlag() {
   show(cursor, start);
 }
 
-// ---- the layout
+// ---- formatting
 
-// Why the text is not formatted, or nothing.
+// Returns the reason why the text cannot be formatted, or an empty string.
 function unformatted() {
   if (lineEnd === null) return 'A text that is only shown is not formatted.';
   if (reader.ending === null) return 'The text is still being read.';
   return reader.ending === 'whole' ? '' : 'A text with a fault is not formatted.';
 }
 
-// Puts a piece in the place of a part of the text area's text as if it was typed, so that it can be undone, and tells whether the browser did.
-// As HTML, of which plain text is left here, Chromium takes 10,000 lines in the time of a hundred; but HTML has no NUL.
+// Replaces a range of the text area's text as if it was typed, so that it can be undone. Returns `true` if the browser did so. Chromium inserts
+// 10,000 lines of HTML in the time of a hundred lines of text, and a text area takes only the plain text of the HTML; but HTML has no NUL.
 function retype(from, to, piece) {
   $('text').focus();
   $('text').setSelectionRange(from, to);
@@ -530,7 +531,7 @@ function retype(from, to, piece) {
   return (!piece.includes('\0') && document.execCommand('insertHTML', false, html)) || document.execCommand('insertText', false, piece);
 }
 
-// Puts the layout in the place of the text. The cursor stays at its token, and line ends of CR LF stay so.
+// Replaces the text by the formatted text. The cursor stays at its token, and CR LF line ends stay.
 function format() {
   const why = unformatted();
   if (why) return tell('formatted', why);
@@ -546,7 +547,7 @@ function format() {
   return tell('formatted', 'The text is formatted.');
 }
 
-// The press on the fault that is reported.
+// Moves the cursor to the reported error.
 function goToFault() {
   moveTo(reader.offset, 'report');
   view.box.focus({ preventScroll: true });
@@ -560,7 +561,7 @@ async function openFile(file) {
     given = new Uint8Array(await file.arrayBuffer());
     open(given);
   } catch (error) {
-    // A text that there is no memory for may lie where the one before it lay.
+    // A text for which memory ran out may have overwritten the previous one.
     if (given) open(new Uint8Array());
     say(`The file could not be read: ${error}`, true);
   }
@@ -575,7 +576,7 @@ async function share() {
   return tell('shared', isCopied ? 'The link is copied.' : 'The link is the address of this page now.');
 }
 
-// Opens what the page's own address carries, and tells whether it does.
+// Opens the text of the page's address. Returns `true` if there is one.
 async function openLink() {
   try {
     const given = await givenBy(location.hash);
@@ -616,8 +617,7 @@ function listen() {
   $('list').addEventListener('click', onListClick);
 }
 
-// Reads half a megabyte, which takes some milliseconds, so that an engine compiles the module for speed before the first long text
-// comes.
+// Lexes half a megabyte, which takes some milliseconds, so that the engine compiles the module for speed before the first long text is opened.
 function warmUp(lexer) {
   const given = encoder.encode('  (func $add (param $a i32) (result i32) local.get 0 i32.const -0x1 i32.add) ;; "b"\n'.repeat(3000));
   lexer.bytes(given.length).set(given);

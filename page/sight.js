@@ -1,6 +1,6 @@
-// The items in sight of a box that scrolls, however many there are: `draw` makes those from one to another, which lie in `seen`. This
-// is in the box and scrolls with it, or, where the box is another's, beside it and is moved. Where the box is and how large it is
-// are kept here, since asking the browser would make it lay out the page at once.
+// A scrolling box of which only the items in sight are drawn, however many there are. `draw` returns the elements of the items from one index to
+// another, which become the children of `seen`. If `seen` is inside the box it scrolls with it; otherwise it is next to the box and is moved. The
+// box's position and size are cached, since a query would make the browser compute the page's layout at once.
 export class Sight {
   static HEIGHT = 20;
   static MOST = 8_000_000;
@@ -18,7 +18,7 @@ export class Sight {
     this.use(boxes[0]);
   }
 
-  // Takes this box from now on. The one before it may hold the items of this one, and is to stand at its start.
+  // Switches to another box. The previous box scrolls back to its start, since it may contain the items of the new one.
   use(box) {
     if (box === this.box) return;
     this.box?.scrollTo(0, 0);
@@ -35,7 +35,7 @@ export class Sight {
     this.left = this.box.scrollLeft;
   }
 
-  // Goes back to the first item.
+  // Scrolls back to the first item.
   restart() {
     if (this.top > 0 || this.left > 0) this.box.scrollTo(0, 0);
     this.top = 0;
@@ -49,7 +49,7 @@ export class Sight {
     this.redraw();
   }
 
-  // How far the items move for a pixel of the box.
+  // The distance that the items move for each pixel of the box, in pixels.
   get scale() {
     const free = Math.min(this.count * Sight.HEIGHT, Sight.MOST) - this.height;
     return free > 0 ? Math.max(1, (this.count * Sight.HEIGHT - this.height) / free) : 1;
@@ -77,7 +77,7 @@ export class Sight {
     this.#replace(this.draw(first, last, offset));
   }
 
-  // Those that were drawn before stay where they are.
+  // Replaces the drawn items. Elements that were drawn before keep their position in the document.
   #replace(items) {
     const isDrawn = new Set(items);
     for (const it of [...this.seen.childNodes]) if (!isDrawn.has(it)) it.remove();
@@ -87,7 +87,7 @@ export class Sight {
     }
   }
 
-  // Where the box is once an item is in sight.
+  // Returns the scroll position of the box from which an item is in sight.
   #topFor(item) {
     const top = this.top * this.scale;
     const low = item * Sight.HEIGHT, high = low + Sight.HEIGHT;
@@ -103,8 +103,8 @@ export class Sight {
     this.top = this.box.scrollTop;
   }
 
-  // Has an item be drawn in sight now, and the box scroll to it with the next frame: at once the browser would have to lay out all of the
-  // page, a text area of a megabyte as well.
+  // Draws an item in sight now, and scrolls the box in the next frame. Scrolling at once would make the browser compute the layout of the whole page,
+  // including a text area of a megabyte.
   revealSoon(item) {
     const top = this.#topFor(item);
     if (top === this.top) return;
@@ -116,7 +116,7 @@ export class Sight {
     });
   }
 
-  // The same for what is so many pixels after the line's start.
+  // Scrolls sideways until the pixel `x` of a line is in sight.
   revealAcross(x) {
     if (x >= this.left + 16 && x <= this.left + this.width - 16) return;
     this.box.scrollLeft = Math.max(0, x - this.width / 2);

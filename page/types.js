@@ -1,8 +1,8 @@
-// The bytes of a module that holds nothing but function types, as the page shows them.
+// The binary module of function types, as the page prints it.
 import { whatCounts } from './counts.js';
 import { decoder } from './wat-lex/lexer.js';
 
-// Whether a text can be such a module, by its first four tokens that count.
+// Returns `true` if a text may be a module of function types alone, by its first four significant tokens.
 export function mayBeTypes(tokens, bytes) {
   const { numbers } = whatCounts(tokens, bytes, new Set(), 4);
   const words = Array.from(numbers, (i) => decoder.decode(bytes.subarray(tokens.start(i), tokens.end(i))));
@@ -11,7 +11,7 @@ export function mayBeTypes(tokens, bytes) {
 
 const hex = (number, digits) => number.toString(16).padStart(digits, '0');
 
-// Lines of sixteen bytes, each after the place of its first, at most so many.
+// Formats the bytes as at most `most` lines of sixteen bytes, each after the offset of its first byte.
 export function dumped(bytes, most) {
   const lines = [];
   for (let at = 0; at < bytes.length && lines.length < most; at += 16) {

@@ -1,4 +1,4 @@
-// Reads parts of a text for the page.
+// A worker that lexes parts of a text for the page.
 import { Lexer, rowsOfPart } from './wat-lex/lexer.js';
 
 let lexer;
