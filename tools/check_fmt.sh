@@ -47,7 +47,7 @@ can_be_plain() {
     }
 }
 
-# run_plain STATUS ARGUMENT..: like run, as that user
+# run_plain STATUS ARGUMENT..: runs the program like `run`, as that user
 run_plain() {
     user=("${plain_user[@]}")
     run "$@"
