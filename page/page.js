@@ -521,8 +521,9 @@ function unformatted() {
   return reader.ending === 'whole' ? '' : 'A text with a fault is not formatted.';
 }
 
-// Replaces a range of the text area's text as if it was typed, so that it can be undone. Returns `true` if the browser did so. Chromium inserts
-// 10,000 lines of HTML in the time of a hundred lines of text, and a text area takes only the plain text of the HTML; but HTML has no NUL.
+// Replaces a range of the text area's text as if it was typed, so that it can be undone. Returns `true` if the browser did so. The text is inserted
+// as HTML, of which a text area keeps only the plain text: Chromium inserts 10,000 lines of HTML in the time of a hundred lines of text. A text with
+// a NUL is inserted as text, since HTML has none.
 function retype(from, to, piece) {
   $('text').focus();
   $('text').setSelectionRange(from, to);

@@ -126,7 +126,7 @@ rm busy.wat_tokens to_busy
 run 0 fmt --write busy
 expect 'and is written without it' '(a)' "$(cat busy)"
 
-# A full disk: 40 KB do not suffice for the formatted text, and the file must stay as it was.
+# A full disk, and a limit of 40 KiB for files that the formatted text exceeds: the file must stay as it was.
 if [ -w /dev/full ]; then
     status=0
     "$program" fmt messy > /dev/full 2> err || status=$?

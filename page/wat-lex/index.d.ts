@@ -25,6 +25,7 @@ export interface Fault {
   printed: string;
 }
 
+/** The settings of the lexer, which are off by default. */
 export interface Flags {
   /** Allows U+202A, U+202B, U+202D, U+202E, U+2066 to U+2069 and U+206C, which change how a text is displayed, in comments and strings. */
   allowConfusingUnicode?: boolean;
@@ -34,34 +35,48 @@ export interface Flags {
 
 /** A source text that is edited. Its tokens, which include whitespace and comments, cover the text from 0 to its end or its error without gaps. */
 export declare class Document implements Iterable<Token> {
+  /** Opens a text over a new instance of the module. Throws a `RangeError` if the text is too long. */
   constructor(module: WebAssembly.Module, text?: string, flags?: Flags);
+  /** The current text. */
   readonly text: string;
   /** The number of tokens. */
   readonly count: number;
   /** All tokens, in a new array. */
   readonly tokens: Token[];
+  /** The lexical error that ends the tokens, or null. */
   readonly fault: Fault | null;
+  /** Returns the kind of a token. Throws a `RangeError` if there is no token `i`. */
   kind(i: number): Kind;
+  /** Returns the offset at which a token begins. Throws a `RangeError` if there is no token `i`. */
   start(i: number): number;
+  /** Returns the offset at which a token ends. Throws a `RangeError` if there is no token `i`. */
   end(i: number): number;
+  /** Returns a token. Throws a `RangeError` if there is no token `i`. */
   token(i: number): Token;
   /** Returns the index of the token that contains an offset, or `count` after the last. */
   at(place: number): number;
-  /** Replaces the text between two offsets, and lexes again only what the change affects. Throws a `RangeError` for an offset inside a character. */
+  /**
+   * Replaces the text from `start` to `end`, and lexes again only what the change affects. Throws a `RangeError` if `end` is less than `start`, if an
+   * offset is past the end of the text or inside a character, or if the text becomes too long.
+   */
   change(start: number, end: number, piece: string): void;
-  /** Replaces the text and the flags. */
+  /** Replaces the text and the flags. Throws a `RangeError` if the text is too long. */
   replace(text: string, flags?: Flags): void;
   /** Returns the formatted text, or null if the text has a lexical error or memory runs out. */
   format(): string | null;
   /** Returns the binary module, or null if the text is not a module of function types alone or memory runs out. */
   types(): Uint8Array | null;
+  /** Iterates over all tokens. */
   [Symbol.iterator](): Iterator<Token>;
 }
 
+/** A lexer over a compiled module. */
 export declare class WatLex {
+  /** Creates a lexer over a module, such as the package's `wat_lex.wasm`. */
   constructor(module: WebAssembly.Module);
   /** Opens a text for editing. Each document has its own memory, of about 20 MB, or of 11 times the text if that is more. */
   open(text?: string, flags?: Flags): Document;
+  /** Returns the tokens of a text, and its lexical error or null. */
   lex(text: string, flags?: Flags): { tokens: Token[]; fault: Fault | null };
   /** Returns the formatted text, or null if the text has a lexical error or memory runs out. */
   format(text: string): string | null;
