@@ -1,6 +1,6 @@
 // A text and its tokens, lexed in parts. After a change little is lexed again: a token depends only on its own characters and on the next one, so the
-// tokens that end before the change stay; and from the first offset after the change at which a token also began before it, the tokens are the
-// earlier ones, shifted.
+// tokens that end before the change stay. From the first offset after the changed bytes at which a token begins, and began before the change, the
+// tokens are the earlier ones, shifted.
 import { LINE_FEED, Lines } from './lines.js';
 import { Rows, firstFrom } from './rows.js';
 
