@@ -1,7 +1,7 @@
 #!/usr/bin/env bash
-# Tests the Rust packages for targets whose `usize` has 32 bits. All tests of all packages run for i686, on Linux for x86-64. For WebAssembly, node runs
-# tests of wat-lex, wat-parser, wat-modules, wat-format and wat-tokens that start neither threads nor processes. Debug assertions and overflow checks
-# are on. The proofs are for a `usize` of 64 bits.
+# Tests the Rust packages for targets whose `usize` has 32 bits. All tests of all packages run for i686, on Linux for x86-64. For WebAssembly, node
+# runs tests of wat-lex, wat-parser, wat-modules, wat-format and wat-tokens that start neither threads nor processes. Debug assertions and overflow
+# checks are on. The proofs are for a `usize` of 64 bits.
 #
 #   CARGO_32=COMMAND      a cargo for both targets; default: tools/cargo_with_std.sh, which lists its Debian packages
 #   CRATES_FOLDER=FOLDER  as for tools/cargo_with_std.sh
