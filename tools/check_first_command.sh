@@ -1,6 +1,6 @@
 #!/usr/bin/env bash
-# Runs the first command of README.md in a fresh clone, as users with different tools would: with cargo and a folder of crates, with Rattle's
-# toolchain and no cargo, and with neither. The first two must print what README says; the last must say what to install. Prints the seconds of each.
+# Runs the first command of README.md in a fresh clone three times: with cargo and its crates, with Rattle's toolchain and no cargo, and with
+# neither. The first two must print what README says; the last must fail and say what to install. Prints the seconds of the first two.
 #
 # usage: [CRATES_FOLDER=FOLDER] tools/check_first_command.sh
 set -euo pipefail

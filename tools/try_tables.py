@@ -2,10 +2,10 @@
 """Runs the test cases of `tests/answers.txt` and `tests/requests.txt` with the Rattle toolchain alone, unproved: `rt try` compiles the program in
 tests/by_rattle, in a temporary repository, and runs it.
 
-A call of a parser runs over both kinds of its buffer. The call of `requests.txt` with the most allocations of its kind, or each with --every, runs
-once more to count its allocations, and once for each of them, which then fails: the call must return the result of the table or the allocation
-failure. In a further run the last allocation before the call fails, so that the count is that of the call alone. Test cases that cannot run here are
-reported, and the check fails. A run with an allocation that fails takes 0.6 seconds, hence the sample.
+Calls of a parser run over both kinds of its buffer. Of each kind of call in `requests.txt`, the test case with the most allocations, or each with
+--every, has more runs. One counts its allocations. In one for each of them this allocation fails: the call must return the result of the table or the
+allocation failure. In the last the allocation before them fails: that must be one of the preparation, not of the call. A test case that cannot run here
+is reported as a failure. A run with a failed allocation takes 0.6 seconds, so the default is a sample.
 
 Not checked, unlike with cargo: the bytes of `requests.txt`, the bytes that are held after a call, and the failure of all allocations from one on.
 
