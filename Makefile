@@ -20,7 +20,7 @@
 ## make parts            lists the parts of CI: group, name, command
 ## make part OF=NAME     runs one part or one group; .ci/run runs all of them
 ## make edits OF=NAME    tries the mutants of a function, of a crate, or the mutant of this name
-## make readme           runs the commands of README.md and docs/COMMAND-LINE.md
+## make readme           runs the commands of README.md and docs/cli.md
 
 PREFIX ?= /usr/local
 OUT ?= dist

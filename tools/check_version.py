@@ -20,7 +20,7 @@ TEXTS = [
     ("rust/wat-tokens/Cargo.toml", r'^wat-(?:format|lex|modules|parser) = \{ version = "=([^"]*)"'),
     ("page/wat-lex/package.json", r'^  "version": "(.*)",$'),
     ("include/wat.h", r'^#define WAT_VERSION_TEXT "(.*)"$'),
-    ("docs/RELEASE.md", r"\bwat-(\d+\.\d+\.\d+)"),
+    ("docs/releasing.md", r"\bwat-(\d+\.\d+\.\d+)"),
     ("rust/wat-lex/README.md", IN_RELEASE),
     ("rust/wat-parser/README.md", IN_RELEASE),
     ("rust/wat-modules/README.md", IN_RELEASE),

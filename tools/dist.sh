@@ -1,7 +1,7 @@
 #!/usr/bin/env bash
 # Writes a release of HEAD to a folder, from committed files alone: the packages for Rust, the program and the C library for this machine, the npm
 # package, the page, the guides, and a report of the sources and the compiler of each file. A second run writes the same bytes. A part that can't be
-# built here is skipped, and the report states the reason. docs/RELEASE.md describes the folder.
+# built here is skipped, and the report states the reason. docs/releasing.md describes the folder.
 #
 #   CRATES_FOLDER=FOLDER  the crates that cargo needs, one folder each, if no registry is available
 #   WASM_CARGO=COMMAND    as for page/build.sh

@@ -1,5 +1,5 @@
 #!/usr/bin/env python3
-"""Writes the files of crates/wat_sums and the lemmas about readings into docs/A-TYPE-OF-ONES-OWN.md, and lines of the examples for C and Rust into
+"""Writes the files of crates/wat_sums and the lemmas about readings into docs/tutorial.md, and lines of the examples for C and Rust into
 README.md and the README of wat-c.
 
 usage: tools/make_quick_start.py [--check | --self-test]
@@ -16,8 +16,8 @@ import sys
 import textwrap
 
 ROOT = pathlib.Path(__file__).resolve().parent.parent
-PAGES = ["README.md", "docs/A-TYPE-OF-ONES-OWN.md", "rust/wat-c/README.md"]
-CRATE, ITS_PAGE = "crates/wat_sums", "docs/A-TYPE-OF-ONES-OWN.md"
+PAGES = ["README.md", "docs/tutorial.md", "rust/wat-c/README.md"]
+CRATE, ITS_PAGE = "crates/wat_sums", "docs/tutorial.md"
 LAWS = ROOT / "crates/wat_lexer_parser/specs/lemmas"
 PART = re.compile(r"<!-- (file (?P<path>\S+)( (?P<first>\d+)-(?P<last>\d+))?|files (?P<folder>\S+)|laws) -->\n(?P<body>.*?)<!-- end -->\n", re.S)
 LAW = re.compile(r"^pub (?P<name>advances_\w+) : (.* → )?Advances \(?(?P<word>\w+)[^→\n]*$", re.M)

@@ -1,7 +1,7 @@
 #!/usr/bin/env bash
 # Measures the memory of the commands `list`, `sig`, `blank` and `play` of the program wat_tokens on source texts, and of `types` on 100,000 types:
 # the peak resident memory, and the smallest address space, in MiB, with which the command still writes the same output. With less, the command must
-# report the allocation failure as docs/COMMAND-LINE.md says: one line on standard error, no output, status 2. Prints a Markdown table;
+# report the allocation failure as docs/cli.md says: one line on standard error, no output, status 2. Prints a Markdown table;
 # docs/speed/older.tsv has an earlier one.
 #
 # usage: tools/measure_memory.sh PROGRAM TEXT..     such as crates/wat_tokens/out/wat_tokens and texts that tools/measure.sh leaves

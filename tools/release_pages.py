@@ -4,7 +4,7 @@
 usage: tools/release_pages.py write DIST TARGET VERSION
        tools/release_pages.py check DIST
 
-`write` copies docs/RELEASE.md to README.md, with TARGET, the version and the sizes of the release's files filled in, and the guides to `docs`. A
+`write` copies docs/releasing.md to README.md, with TARGET, the version and the sizes of the release's files filled in, and the guides to `docs`. A
 link to a file that the release has leads to that file; any other link becomes plain text. `check` prints each link that leads to no file or heading
 of the release, and exits with status 1 if there is one. Third-party documents in `rust/vendor` are not read.
 """
@@ -14,10 +14,10 @@ import re
 import sys
 
 ROOT = pathlib.Path(__file__).resolve().parent.parent
-README = "docs/RELEASE.md"
+README = "docs/releasing.md"
 # Patterns of the paths in the release of files that have a different path in the repository, empty for a file that the release does not have.
 MOVED = {README: "README.md", "README.md": "", "include/wat.h": "c/*/include/wat.h", "tools/c/identifiers.c": "c/identifiers.c"}
-GUIDES = ["COMMAND-LINE", "FORMAT", "FROM-C-AND-RUST", "PAGE", "compatibility", "ERASURE", "verification"]
+GUIDES = ["cli", "formatter", "FROM-C-AND-RUST", "PAGE", "compatibility", "erasure", "verification"]
 IMAGES = ["page-light.png", "page-dark.png"]
 LINK = re.compile(r"(?P<image>!?)\[(?P<text>[^]]*)\]\((?!https?:)(?P<path>[^)#\s]*)(?P<anchor>#[^)\s]+)?\)")
 CODE = re.compile(r"^```.*?^```$", re.S | re.M)

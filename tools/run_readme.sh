@@ -1,5 +1,5 @@
 #!/usr/bin/env bash
-# Runs the commands of README.md and docs/COMMAND-LINE.md in a clone, and compares their output. A command is a block ```sh, run from the top of the
+# Runs the commands of README.md and docs/cli.md in a clone, and compares their output. A command is a block ```sh, run from the top of the
 # clone. Its status must be 0, and its standard output must equal the following block ```text, if there is one. A block after the line `<!-- slow -->`
 # runs proofs; --quick skips it. A block after `<!-- built -->` runs the proved program, and is skipped if the clone does not contain it. If BUILT is
 # set, the program of this repository is copied to the clone. Each block is reported, whether it ran or was skipped.
@@ -62,7 +62,7 @@ run() {
     fi
 }
 
-for document in README.md docs/COMMAND-LINE.md; do
+for document in README.md docs/cli.md; do
     rm -rf "$room/blocks"
     mkdir "$room/blocks"
     blocks "$clone/$document"

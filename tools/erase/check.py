@@ -1,6 +1,6 @@
 #!/usr/bin/env python3
 """Checks the output of tools/erase/erase.py by independent means: it walks over the tokens of a source and of the file that is generated from it in
-parallel, and explains each difference by a rule of docs/ERASURE.md. A difference that no rule explains is a fault. It has its own scanner and its own
+parallel, and explains each difference by a rule of docs/erasure.md. A difference that no rule explains is a fault. It has its own scanner and its own
 list, and uses from the tool only the output to check and the names of the files.
 
 usage: tools/erase/check.py               checks the tool's current output for each source

@@ -1,5 +1,5 @@
 #!/usr/bin/env python3
-"""Generates Rust from the proved sources: it erases ghost code, and rewrites a closed list of tokens. docs/ERASURE.md says what is erased, what is
+"""Generates Rust from the proved sources: it erases ghost code, and rewrites a closed list of tokens. docs/erasure.md says what is erased, what is
 rewritten, and what is trusted.
 
 It writes the modules of the packages below rust/ that MODULES names, formatted by rustfmt: for each crate the file `generated/CRATE.rs` and the files
