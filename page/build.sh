@@ -49,7 +49,7 @@ by() {
     elif [ "${BY:-rattle}" = rattle ] && command -v rt > /dev/null && command -v wasm-opt > /dev/null; then
         echo rattle
     else
-        echo "page/build.sh: no cargo for $target is here (docs/PAGE.md)" >&2
+        echo "page/build.sh: no cargo for $target is here (docs/page.md)" >&2
         return 1
     fi
 }

@@ -17,7 +17,7 @@ ROOT = pathlib.Path(__file__).resolve().parent.parent
 README = "docs/releasing.md"
 # Patterns of the paths in the release of files that have a different path in the repository, empty for a file that the release does not have.
 MOVED = {README: "README.md", "README.md": "", "include/wat.h": "c/*/include/wat.h", "tools/c/identifiers.c": "c/identifiers.c"}
-GUIDES = ["cli", "formatter", "PAGE", "compatibility", "erasure", "verification"]
+GUIDES = ["cli", "formatter", "page", "compatibility", "erasure", "verification"]
 IMAGES = ["page-light.png", "page-dark.png"]
 LINK = re.compile(r"(?P<image>!?)\[(?P<text>[^]]*)\]\((?!https?:)(?P<path>[^)#\s]*)(?P<anchor>#[^)\s]+)?\)")
 CODE = re.compile(r"^```.*?^```$", re.S | re.M)
