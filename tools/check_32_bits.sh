@@ -34,10 +34,12 @@ i686() {
     run i686 test --locked --workspace --target i686-unknown-linux-gnu
 }
 
-# wasm: runs tests of five packages that start neither threads nor processes
+# wasm: compiles all packages, and runs the tests of five that start neither threads nor processes
 wasm() {
     : "${CARGO_TARGET_WASM32_WASIP1_RUNNER:=node --no-warnings $PWD/tools/wasi.mjs}"
     export CARGO_TARGET_WASM32_WASIP1_RUNNER
+    (cd rust && "${cargo[@]}" check --locked --quiet --workspace --target wasm32-wasip1)
+    echo 'check_32_bits.sh: wasm: all packages compile'
     local test=(test --locked --target wasm32-wasip1)
     run wasm "${test[@]}" -p wat-lex --lib --test agreement --test stored --test random --test shim --test traits --test refusals "${without_threads[@]}"
     run wasm "${test[@]}" -p wat-parser --lib --test answers --test floats
