@@ -36,11 +36,11 @@ crates_folder() {
 }
 
 # joined FOLDER: prints a folder of links to the crates of FOLDER and to those of the standard library. Its name depends only on these crates, so that
-# cargo builds them once.
+# cargo builds them once. It is outside the repository, in which `rt ci` rejects links.
 joined() {
-    local crates=("$library"/vendor/* "$1"/*) target=${CARGO_TARGET_DIR:-$(dirname "$0")/../rust/target} folder
-    mkdir -p "$target"
-    folder=$(realpath "$target")/crates-$(printf '%s\n' "${crates[@]}" | cksum | cut -d ' ' -f 1)
+    local crates=("$library"/vendor/* "$1"/*) cache=${XDG_CACHE_HOME:-$HOME/.cache}/wat folder
+    mkdir -p "$cache"
+    folder=$cache/crates-$(printf '%s\n' "${crates[@]}" | cksum | cut -d ' ' -f 1)
     if [ ! -d "$folder" ]; then
         mkdir "$folder.$$"
         ln -sf "${crates[@]}" "$folder.$$/"

@@ -1,4 +1,5 @@
 //! Allocation-failure injection: every failed allocation is an error.
+#![cfg(feature = "std")]
 
 #[path = "../../wat-lex/tests/refusing/mod.rs"]
 mod refusing;

@@ -1,4 +1,5 @@
 //! The errors of each function, and the output before an error.
+#![cfg(feature = "std")]
 
 use std::error::Error;
 use std::{fmt, io};

@@ -1,4 +1,5 @@
 //! Formats texts with each of the three functions.
+#![cfg(feature = "std")]
 
 #[path = "../../wat-parser/tests/answers/pictures.rs"]
 mod pictures;

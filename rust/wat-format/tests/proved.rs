@@ -1,4 +1,5 @@
 //! The verified functions: formatted texts in a string and in a sink, and their errors.
+#![cfg(feature = "std")]
 
 #[path = "../../wat-parser/tests/answers/pictures.rs"]
 mod pictures;
