@@ -11,14 +11,14 @@ _wat_tokens() {
     case $command in
         '') words="$options list sig play blank fmt module types help" ;;
         fmt) words="$options --check --diff --write" ;;
-        module) words="$options -o" ;;
+        module | types) words="$options -o --output" ;;
         play) words='look take comment reg= unreg= parens=' ;;
         sig | help) words= ;;
         *) words=$options ;;
     esac
     COMPREPLY=()
     case $previous in
-        --file | -o) ;;
+        --file | -o | --output) ;;
         *) mapfile -t COMPREPLY < <(compgen -W "$words" -- "$current") ;;
     esac
     # (without a match here, -o default completes names of files)

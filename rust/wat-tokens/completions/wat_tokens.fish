@@ -13,7 +13,7 @@ complete -c wat_tokens -n "not __fish_seen_subcommand_from $commands" -a help -d
 complete -c wat_tokens -n '__fish_seen_subcommand_from fmt' -l check -d 'List files that are not formatted'
 complete -c wat_tokens -n '__fish_seen_subcommand_from fmt' -l diff -d 'Write the lines that differ'
 complete -c wat_tokens -n '__fish_seen_subcommand_from fmt' -l write -d 'Rewrite the files'
-complete -c wat_tokens -n '__fish_seen_subcommand_from module' -s o -r -F -d 'Write the binary to this file'
+complete -c wat_tokens -n '__fish_seen_subcommand_from module types' -s o -l output -r -F -d 'Write the binary to this file'
 complete -c wat_tokens -n '__fish_seen_subcommand_from play' -f -a 'look take comment reg= unreg= parens='
 
 complete -c wat_tokens -l json -d 'Write tokens and errors as lines of JSON'
