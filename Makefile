@@ -13,13 +13,13 @@
 ## make install          both, wat.h, and the files for pkg-config and CMake (PREFIX, DESTDIR; BY=rattle: built by Rattle's own compilers)
 ## make program          the program and the language server, in rust/target/release
 ## make install-program  both, with a manual page and completions for bash, zsh and fish (PREFIX, DESTDIR)
-## make dist             a release, as a folder (OUT; GATE_LOG=FILE; BY=rattle: also archives built by Rattle's compilers)
+## make dist             a release, as a folder (OUT; PROOF_LOG=FILE; BY=rattle: also archives built by Rattle's compilers)
 ## make tests            the tests of the Rust packages
 ## make checks           the checks that take a minute or two: mutants apply, documents, names, version, generated Rust
-## make gate             rt ci: proves every crate, kills mutants, runs tests and programs (LOG=FILE: also writes its log, for make dist)
+## make proof-check      rt ci: proves every crate, kills mutants, runs tests and programs (LOG=FILE: also writes its log, for make dist)
 ## make parts            lists the parts of CI: group, name, command
 ## make part OF=NAME     runs one part or one group; .ci/run runs all of them
-## make edits OF=NAME    tries the mutants of a function, of a crate, or the mutant of this name
+## make mutants OF=NAME  tries the mutants of a function, of a crate, or the mutant of this name
 ## make readme           runs the commands of README.md and docs/cli.md
 
 PREFIX ?= /usr/local
@@ -36,33 +36,33 @@ libraries := $(DESTDIR)$(PREFIX)/lib
 programs := $(DESTDIR)$(BINDIR)
 share := $(DESTDIR)$(PREFIX)/share
 
-.PHONY: all install install-shared install-descriptions install-program help program dist tests checks parts part gate edits readme
+.PHONY: all install install-shared install-descriptions install-program help program dist tests checks parts part proof-check mutants readme
 ifeq ($(BY),rattle)
 
-folder := crates/wat_parser_c/out
+folder := crates/wat_c/out
 archive := $(folder)/libwat.a
 all: $(archive)
 
 # Merges both archives into one, so that a program links one file.
 $(archive):
-	tools/build_c.sh
-	cd $(folder) && rm -f libwat.a && printf 'create libwat.a\naddlib libwat_parser_c.a\naddlib liblibc_c.a\nsave\nend\n' | ar -M
+	tools/release/build_c_library.sh
+	cd $(folder) && rm -f libwat.a && printf 'create libwat.a\naddlib libwat_c.a\naddlib liblibc_c.a\nsave\nend\n' | ar -M
 
 install-shared:
 
 else
 
 folder := $(CARGO_TARGET_DIR)/release
-archive := $(folder)/libwat_parser_c.a
+archive := $(folder)/libwat_c.a
 # The system libraries that the archive needs, as rustc prints them, except -lgcc_s: a C compiler adds it itself, under another name with -static.
-PRIVATE = $(filter-out -lgcc_s,$(shell cat $(folder)/libwat_parser_c.libs))
+PRIVATE = $(filter-out -lgcc_s,$(shell cat $(folder)/libwat_c.libs))
 ifeq ($(shell uname -s),Darwin)
-built := libwat_parser_c.dylib
+built := libwat_c.dylib
 shared := libwat.dylib
 named := libwat.$(major).dylib
 name_flag = -Wl,-install_name,$(PREFIX)/lib/$(named)
 else
-built := libwat_parser_c.so
+built := libwat_c.so
 shared := libwat.so
 named := $(shared).$(major)
 name_flag = -Wl,-soname,$(named)
@@ -70,7 +70,7 @@ endif
 
 all:
 	cd rust && $(CARGO) rustc --locked --release --package wat-c -- \
-	    -C link-arg=$(name_flag) --print native-static-libs=$(folder)/libwat_parser_c.libs
+	    -C link-arg=$(name_flag) --print native-static-libs=$(folder)/libwat_c.libs
 
 install-shared: all
 	install -d $(libraries)
@@ -119,7 +119,7 @@ install-program: program
 	install -m 644 rust/wat-tokens/completions/wat_tokens.fish $(share)/fish/vendor_completions.d/
 
 dist:
-	tools/dist.sh $(OUT)
+	tools/release/dist.sh $(OUT)
 
 tests:
 	cd rust && $(CARGO) test --locked --workspace
@@ -133,11 +133,11 @@ parts:
 part:
 	.ci/run $(OF)
 
-gate:
-	$(if $(LOG),tools/gate.sh $(LOG),rt ci)
+proof-check:
+	$(if $(LOG),tools/release/proof_check.sh $(LOG),rt ci)
 
-edits:
-	tools/edits.py try $(OF)
+mutants:
+	tools/mutants/mutants.py try $(OF)
 
 readme:
-	tools/run_readme.sh --quick
+	tools/test/readme.sh --quick

@@ -1,7 +1,7 @@
 // Compares the module, and the page's use of its results, with the program, in node, on all golden texts and on 10 MB of generated text: every token,
 // and every lexical error with its message; the significant tokens under several names; the binary modules of function types. Also compares texts
 // that are lexed in parts, in order or ahead, as a whole and after each of many edits, with one call of the module. Compares formatted texts with
-// tools/layout.py: on all sequences of up to three hostile fragments, on random longer ones, and on the texts above.
+// tools/differential/reference_formatter.py: on all sequences of up to three hostile fragments, on random longer ones, and on the texts above.
 // usage: node agree.mjs PROGRAM, once build.sh has made the module
 import { spawnSync } from 'node:child_process';
 import { existsSync, readFileSync, readdirSync } from 'node:fs';
@@ -73,13 +73,13 @@ function compareParts(bytes, flags, times, chance) {
   seen.edits += times;
 }
 
-// Compares formatted texts with those of tools/layout.py.
+// Compares formatted texts with those of tools/differential/reference_formatter.py.
 function compareLayouts(files) {
   if (!whole.isServed) {
     console.log('layouts and bytes of types: left out, as the module takes no memory');
     return;
   }
-  const its = spawnSync('python3', [here('../tools/compare_layouts.py'), '--alone', here('laid.mjs'), ...files], { maxBuffer: 2 ** 30 });
+  const its = spawnSync('python3', [here('../tools/differential/compare_formatters.py'), '--alone', here('laid.mjs'), ...files], { maxBuffer: 2 ** 30 });
   console.log(its.stdout.toString().trim());
   if (its.status !== 0) seen.other.push(`layouts: ${its.stderr}`);
 }
@@ -166,7 +166,7 @@ for (const text of modules()) {
   compareTypes(text, bytes);
   compareCounts(text, bytes, [], []);
 }
-const generated = spawnSync('python3', [here('../tools/generate.py'), '10'], { maxBuffer: 2 ** 30 });
+const generated = spawnSync('python3', [here('../tools/lib/generate_text.py'), '10'], { maxBuffer: 2 ** 30 });
 if (generated.error) throw generated.error;
 const text = generated.stdout;
 compareTokens('generated', text, []);

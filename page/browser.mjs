@@ -406,7 +406,7 @@ async function links() {
 }
 
 const valueOf = (id) => ask(`document.querySelector('#${id}').value`);
-const layoutBy = (text) => spawnSync('python3', [here('../tools/layout.py')], { input: text }).stdout.toString();
+const layoutBy = (text) => spawnSync('python3', [here('../tools/differential/reference_formatter.py')], { input: text }).stdout.toString();
 
 // Checks the button that formats the text, by mouse and by keyboard, and undo.
 async function formatting() {
@@ -634,7 +634,7 @@ async function tellEach(bytes, name, times, change) {
   tell(bytes, name, all);
 }
 
-const generatedText = (megabytes) => spawnSync('python3', [here('../tools/generate.py'), String(megabytes)], { maxBuffer: 2 ** 30 }).stdout;
+const generatedText = (megabytes) => spawnSync('python3', [here('../tools/lib/generate_text.py'), String(megabytes)], { maxBuffer: 2 ** 30 }).stdout;
 
 // Opens a long text, and checks that its tokens and its error are those of the program.
 async function openLong(name, text) {

@@ -1,7 +1,7 @@
 #!/usr/bin/env bash
 # Builds the npm package, page/out/wat-lex, and the page over it: the folder page/out, for a server, and page/out/wat.html, one file that opens
 # without a server. cargo builds the module from rust/wat-page: rustup's, if its rustc has the target wasm32-unknown-unknown, otherwise Debian's, with
-# tools/cargo_with_std.sh. If neither is available, or with BY=rattle, Rattle's compiler builds it from the proved sources, without `format` and
+# tools/lib/cargo_with_std.sh. If neither is available, or with BY=rattle, Rattle's compiler builds it from the proved sources, without `format` and
 # `types`, and binaryen's wasm-opt lowers its memory to 32 bits. With BY=cargo, a missing cargo is an error. Needs python3.
 #
 #   WASM_CARGO=COMMAND  another cargo whose rustc has the target
@@ -24,11 +24,11 @@ by_cargo() {
 by_rattle() {
     local kit
     kit=$(dirname "$(rt doc)")
-    (cd ../crates/wat_page && rt lib --target wasm64-unknown-unknown) >&2
-    "$kit/bin/rattle-link" --target wasm64-unknown-unknown --toolchain "$kit/toolchain" -o out/wide.wasm ../crates/wat_page/out/libwat_page.a
+    (cd ../crates/wat_wasm && rt lib --target wasm64-unknown-unknown) >&2
+    "$kit/bin/rattle-link" --target wasm64-unknown-unknown --toolchain "$kit/toolchain" -o out/wide.wasm ../crates/wat_wasm/out/libwat_wasm.a
     wasm-opt --enable-memory64 --enable-bulk-memory --memory64-lowering -O3 -o out/wat-lex/wat_lex.wasm out/wide.wasm
     rm out/wide.wasm
-    echo "of crates/wat_page by Rattle's compiler, $(rt version), and $(wasm-opt --version)"
+    echo "of crates/wat_wasm by Rattle's compiler, $(rt version), and $(wasm-opt --version)"
 }
 
 # wasm_cargo: prints a cargo for the target, or nothing if there is none
@@ -37,8 +37,8 @@ wasm_cargo() {
         echo "$WASM_CARGO"
     elif [ -d "$(rustc --print target-libdir --target "$target" 2> /dev/null)" ]; then
         echo cargo
-    elif ../tools/cargo_with_std.sh --is-here 2> /dev/null; then
-        echo "$PWD/../tools/cargo_with_std.sh"
+    elif ../tools/lib/cargo_with_std.sh --is-here 2> /dev/null; then
+        echo "$PWD/../tools/lib/cargo_with_std.sh"
     fi
 }
 
@@ -49,7 +49,7 @@ by() {
     elif [ "${BY:-rattle}" = rattle ] && command -v rt > /dev/null && command -v wasm-opt > /dev/null; then
         echo rattle
     else
-        echo "page/build.sh: no cargo for $target is here (docs/page.md)" >&2
+        echo "page/build.sh: no cargo for $target is here (page/README.md)" >&2
         return 1
     fi
 }

@@ -1,7 +1,7 @@
 #!/usr/bin/env node
 // Prints the formatted text of each line of standard input as a line, or `fault`, like rust/wat-tokens/examples/layouts.rs, so that
-// tools/compare_layouts.py also compares the module's formatted texts. In a line, `\n`, `\r`, `\t` and `\\` are escapes for line feed, carriage
-// return, tab and backslash.
+// tools/differential/compare_formatters.py also compares the module's formatted texts. In a line, `\n`, `\r`, `\t` and `\\` are escapes for line
+// feed, carriage return, tab and backslash.
 // usage: laid.mjs < TEXTS, once build.sh has made the module
 import { readFileSync } from 'node:fs';
 import { decoder } from './wat-lex/lexer.js';

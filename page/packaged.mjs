@@ -91,7 +91,7 @@ for (const name of readdirSync(folder).filter((it) => existsSync(`${folder}${it}
   compareEdited(text, flags, chance);
 }
 // Longer texts of several blocks, also with characters of two, three and four bytes.
-const generated = spawnSync('python3', [fileURLToPath(new URL('../tools/generate.py', import.meta.url)), '1'], { maxBuffer: 2 ** 30 }).stdout.toString();
+const generated = spawnSync('python3', [fileURLToPath(new URL('../tools/lib/generate_text.py', import.meta.url)), '1'], { maxBuffer: 2 ** 30 }).stdout.toString();
 for (let at = 0; at < 6; at += 1) {
   const text = generated.slice(at * 100_000, at * 100_000 + 3_000 * 4 ** (at % 3));
   compareEdited(at < 3 ? text : text.replaceAll('a', () => chance.oneOf(['a', '\u00e9', '\u6f22', '\u{1f600}'])), {}, chance);

@@ -29,7 +29,7 @@ let reader, ahead, whole, view, list, columns;
 let bytes, lines, tokens, cursor = 0;
 // The significant tokens, if only these are listed.
 let counted = null;
-// The line end that each LF of the text area stands for, or null if the text area is not in use.
+// The line end that each LF of the text area represents, or null if the text area is not in use.
 let lineEnd = '\n';
 // The text area's text when it was last read, and the conversion of its positions to byte offsets.
 let typed = '', places = new Places();
@@ -68,7 +68,7 @@ class Pieces {
 
   putCaret() { this.all.push({ className: 'caret', from: cursor, to: cursor, mark: '' }); }
 
-  // Adds the character at which the error is reported, and returns its end. A mark stands for a line end, and for the end of the text.
+  // Adds the character at which the error is reported, and returns its end. A mark represents a line end, or the end of the text.
   putFault(to) {
     const at = reader.offset;
     const end = Math.min(lines.on(at + 1), to);

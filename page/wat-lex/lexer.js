@@ -1,7 +1,7 @@
 // The proved lexer over its memory. After the module's own data, the memory holds the report, the text, the rows, and the message, followed by the
 // rows that `render` writes. The module itself allocates nothing.
 //
-// The names of the kinds, by the module's codes: 0 is no kind, 12 to 15 are kinds of floats.
+// The names of the kinds, by the module's codes: 0 means none, 12 to 15 are kinds of floats.
 export const KINDS = [null, 'LineComment', 'BlockComment', 'Whitespace', 'LParen', 'RParen', 'String', 'Id', 'Keyword', 'Annotation', 'Reserved', 'Integer', 'Float', 'Float', 'Float', 'Float'];
 const ENDINGS = ['whole', 'faulty', 'full', 'not UTF-8', 'too long'];
 

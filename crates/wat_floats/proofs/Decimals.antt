@@ -1,4 +1,4 @@
--- The kit's numeral at the front of a decimal, part by part.
+-- The `Numeral` that `fast_float` scans is that of the definition, part by part.
 use Rattle.std.proofs.Common.{◌≡◌, ℕ, zero, suc, ◌+◌, ◌-◌, ◌*◌, ◌^◌, Bool, true, false, cond, ◌&&◌, ◌||◌, ◌==◌, if◌then◌else◌, List, [], ◌∷◌, ◌++◌, length, get_or, take, drop, refl, sym, ap, ◌∙◌, inl, inr, arith, pow-add, eqb, to_bits}
 use Rattle.std.specs.Prelude.{slice_index}
 use Rattle.std.specs.Char.{is_ascii_digit}
@@ -11,9 +11,9 @@ use borrow.Author.Tests.{eqb-true, eqb-false, ne_eqb}
 use lib.Ieee.{Float, Format, inf, is_nan, round, units, odd, prec, low}
 use lib.Ieee.Fits.{round_is}
 use Rattle.wat_lex.specs.grammar.Numbers.{is_exponent_letter}
-use Rattle.wat_floats.specs.Literals.{digits, after_digits, fraction, after_fraction, exponent, raised, lowered, numerator, denominator, nearest}
+use Rattle.wat_floats.specs.Literals.{digits, after_digits, fraction, after_fraction, exponent, up_power, down_power, numerator, denominator, nearest}
 
--- ---- an exponent, at b and in the text s from b on
+-- ---- The exponent, at `b`, and in the text `s` from `b` on
 
 abbrev is_letter : List ℕ → Bool
 is_letter s = slice_index s 0 == 101 || slice_index s 0 == 69
@@ -63,12 +63,12 @@ module _ (t : List ℕ) (b : ℕ) where
   negative_is : (has_exponent t b && slice_index t (b + 1) == 45) ≡ negative (drop b t)
   negative_is = λ i. has_is i && at_one i == 45
 
--- the digits after a sign, or none: as many where it is asked first whether there is one
+-- The digits at the start of a text have the same value whether or not the scan first tests for a digit.
 few : (ds : List ℕ) → digits_value 10 (if is_ascii_digit (slice_index ds 0) then take (digits_len ds) ds else []) ≡ digits_value 10 (digits false ds)
 few [] = refl
 few (d ∷ ds) = elim (cases_Bool (is_ascii_digit d)) [ inl e ↦ rw e refl | inr e ↦ rw e refl ]
 
--- by which the number is multiplied and divided
+-- The exponent of the power that multiplies, and of the one that divides.
 abbrev ups : List ℕ → ℕ
 ups s = if negative s then 0 else digits_value 10 (written s)
 
@@ -106,7 +106,7 @@ letter_is c = rw (turned 101 c, turned 69 c) (by (eqb c 101) (eqb c 69))
     by false false = refl
 
 module _ (x : ℕ) (letter : (x == 101 || x == 69) ≡ true) where
-  up_after : (s : List ℕ) → ups (x ∷ s) ≡ raised s
+  up_after : (s : List ℕ) → ups (x ∷ s) ≡ up_power s
   up_after [] = rw letter refl
   up_after (y ∷ s) =
       elim (cases_Bool (y == 45)) [
@@ -117,7 +117,7 @@ module _ (x : ℕ) (letter : (x == 101 || x == 69) ≡ true) where
         ]
       ]
 
-  down_after : (s : List ℕ) → downs (x ∷ s) ≡ lowered s
+  down_after : (s : List ℕ) → downs (x ∷ s) ≡ down_power s
   down_after [] = rw letter refl
   down_after (y ∷ s) =
       elim (cases_Bool (y == 45)) [
@@ -128,15 +128,15 @@ module _ (x : ℕ) (letter : (x == 101 || x == 69) ≡ true) where
         ]
       ]
 
-raised_is : (s : List ℕ) → ups s ≡ raised (exponent false s)
+raised_is : (s : List ℕ) → ups s ≡ up_power (exponent false s)
 raised_is [] = refl
 raised_is (x ∷ s) = elim (cases_Bool (x == 101 || x == 69)) [ inl e ↦ rw (letter_is x ∙ e) (up_after x e s) | inr e ↦ rw (letter_is x ∙ e) (rw e refl) ]
 
-lowered_is : (s : List ℕ) → downs s ≡ lowered (exponent false s)
+lowered_is : (s : List ℕ) → downs s ≡ down_power (exponent false s)
 lowered_is [] = refl
 lowered_is (x ∷ s) = elim (cases_Bool (x == 101 || x == 69)) [ inl e ↦ rw (letter_is x ∙ e) (down_after x e s) | inr e ↦ rw (letter_is x ∙ e) (rw e refl) ]
 
--- ---- the parts before it
+-- ---- The parts before the exponent
 
 fraction_is : (r : List ℕ) → (if slice_index r 0 == 46 then take (digits_len (drop 1 r)) (drop 1 r) else []) ≡ fraction false r
 fraction_is [] = refl
@@ -193,11 +193,11 @@ module _ (t : List ℕ) where
       let fr : (if point then slice_range t (a + 1) b else []) ≡ fraction false (after_digits false t) = fraction_at ∙ ap (fraction false) r in
       let s : drop b t ≡ after_fraction false (after_digits false t) = after_at ∙ ap (after_fraction false) r in
       let u : (if has_exponent t b && slice_index t (b + 1) == 45 then 0 else digits_value 10 (if has_exponent t b then slice_range t (exponent_start t b) (digits_end t (exponent_start t b)) else []))
-      ≡ raised (exponent false (after_fraction false (after_digits false t))) =
-      (λ i. if negative_is t b i then 0 else digits_value 10 (written_is t b i)) ∙ raised_is (drop b t) ∙ ap (λ x. raised (exponent false x)) s in
+      ≡ up_power (exponent false (after_fraction false (after_digits false t))) =
+      (λ i. if negative_is t b i then 0 else digits_value 10 (written_is t b i)) ∙ raised_is (drop b t) ∙ ap (λ x. up_power (exponent false x)) s in
       let d : (if has_exponent t b && slice_index t (b + 1) == 45 then digits_value 10 (if has_exponent t b then slice_range t (exponent_start t b) (digits_end t (exponent_start t b)) else []) else 0)
-      ≡ lowered (exponent false (after_fraction false (after_digits false t))) =
-      (λ i. if negative_is t b i then digits_value 10 (written_is t b i) else 0) ∙ lowered_is (drop b t) ∙ ap (λ x. lowered (exponent false x)) s in
+      ≡ down_power (exponent false (after_fraction false (after_digits false t))) =
+      (λ i. if negative_is t b i then digits_value 10 (written_is t b i) else 0) ∙ lowered_is (drop b t) ∙ ap (λ x. down_power (exponent false x)) s in
       (λ i. round f false (digits_value 10 (w i ++ fr i) * 10 ^ u i) (10 ^ (length (fr i) + d i)))
       ∙ ap (λ x. round f false (numerator false t) x) (pow-add 10 _ _)
 
@@ -205,7 +205,7 @@ pub nearest_is : (f : Format) (t : List ℕ) → to_bits f (nearest_float f fals
 unfolding nearest
 nearest_is f t = ap (to_bits f) (number_at t f)
 
--- no rounded number is a NaN
+-- A rounded number is not a NaN.
 cond_number : (b : Bool) (x y : Float) → is_nan x ≡ false → is_nan y ≡ false → is_nan (cond b x y) ≡ false
 cond_number true x y p q = p
 cond_number false x y p q = q

@@ -1,4 +1,4 @@
--- Digits one after the other.
+-- The value of digits, one digit after another.
 use Rattle.std.proofs.Common.{◌≡◌, ℕ, zero, suc, ◌+◌, ◌-◌, ◌*◌, ◌^◌, ◌<◌, ◌≤◌, Bool, true, false, not, nat_eq, List, [], ◌∷◌, ◌++◌, length, get_or, take, refl, sym, ap, ◌∙◌, inl, inr, arith, true≢false, pow-add, take-suc, add-one, eqb-true, le-ltb, lt-ltb}
 use Rattle.std.specs.Char.{digit_value, is_ascii_digit}
 use Rattle.std.specs.Str.Parse.{digits_value, digits_value_after}
@@ -7,7 +7,7 @@ use Rattle.core.proofs.dec2flt.DigitsLemmas.{digit_range}
 use Rattle.wat_floats.specs.Rounding.{IsLeading, IsCapped}
 
 module _ (n c : ℕ) (more : Bool) (d : ℕ) (digit : d < 16) where
-  -- a digit more while there is room
+  -- The next digit is kept, as the count has capacity for it.
   first : IsLeading n c 0 more → IsLeading (n * 16 + d) (c * 16 + d) 0 more
   first is =
       let f : c * 1 ≤ n = is.from in
@@ -24,7 +24,7 @@ module _ (n c : ℕ) (more : Bool) (d : ℕ) (digit : d < 16) where
   kept zero is h = first is
   kept (suc k) is h = absurd (omega (arith, is.full (omega arith)))
 
-  -- a digit more that is dropped
+  -- The next digit is dropped.
   module _ (dropped : ℕ) (is : IsLeading n c dropped more) (full : 2 ^ 60 ≤ c) where
     abbrev p : ℕ
     p = 16 ^ dropped
@@ -68,7 +68,7 @@ module _ (n c : ℕ) (more : Bool) (d : ℕ) (digit : d < 16) where
 pub none_yet : IsLeading 0 0 0 false
 none_yet = record { from = omega arith; below = omega arith; exact = λ _. refl; strict = λ m. absurd (true≢false (sym m)); full = λ z. absurd (omega arith) }
 
--- numbers of digits that are pushed and appended
+-- The value of digits after one digit or several are appended.
 pub push : (radix n : ℕ) (ds : List ℕ) (c : ℕ) → digits_value_after radix n (ds ++ (c ∷ [])) ≡ digits_value_after radix n ds * radix + digit_value c
 push radix n [] c = refl
 push radix n (d ∷ ds) c = push radix (n * radix + digit_value d) ds c
@@ -85,7 +85,7 @@ digit_is c e =
     let r = digit_range c e in
     rw (le-ltb c 48 (omega arith)) (rw (lt-ltb c 58 (omega arith)) refl)
 
--- a decimal digit after a number that is capped, or is large enough without it
+-- The next decimal digit, after a value that is capped or large enough without it.
 module _ (text : List ℕ) (i n : ℕ) (within : i < length text) (digit : is_ascii_digit (get_or text i 0) ≡ true) (is : IsCapped (digits_value 10 (take i text)) n) where
   value : digits_value 10 (take (i + 1) text) ≡ digits_value 10 (take i text) * 10 + (get_or text i 0 - 48)
   value = one_more 10 0 text i within ∙ ap (λ x. digits_value 10 (take i text) * 10 + x) (digit_is (get_or text i 0) digit)

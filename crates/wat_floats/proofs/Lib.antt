@@ -1,6 +1,6 @@
-pub mod Decimals
-pub mod Digits
-pub mod HexadecimalParts
-pub mod Rounds
-pub mod Scaling
-pub mod Underscores
+mod Decimals
+mod Digits
+mod HexadecimalParts
+mod Rounds
+mod Scaling
+mod Underscores

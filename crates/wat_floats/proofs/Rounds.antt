@@ -1,4 +1,4 @@
--- From a count and a power of two to the bits of the float nearest to their product.
+-- The bits of the float nearest to a count times a power of 2.
 use Rattle.std.proofs.Common.{◌≡◌, ℕ, suc, ◌+◌, ◌-◌, ◌*◌, ◌/◌, ◌%◌, ◌^◌, ◌<◌, ◌≤◌, ◌⊎◌, Bool, true, false, refl, sym, ap, ◌∙◌, subst, inl, inr, arith}
 use Rattle.std.specs.Prelude.{not, ◌&&◌, ◌||◌, ◌==◌, if◌then◌else◌}
 use Rattle.std.proofs.Common.{w64}
@@ -14,9 +14,9 @@ use Rattle.core.specs.Dec2flt.Rounding.{scaled_bits, IsNearestBits, IsJustAbove,
 use Rattle.core.proofs.dec2flt.Patterns.{shape}
 use Rattle.core.proofs.dec2flt.RoundingLemmas.{nearest_above, nearest_tie}
 use Rattle.core.proofs.dec2flt.Settle.{rounds_down, rounds_up, lies_above, significand_of}
-use Rattle.wat_floats.specs.Rounding.{IsScaled, goes_up, settled}
+use Rattle.wat_floats.specs.Rounding.{IsScaled, goes_up, rounded_bits}
 
--- a * 2 ^ u / 2 ^ v beside num / den, in units of 2 ^ k / 2 ^ d least floats
+-- `a * 2 ^ u / 2 ^ v` compared with `num / den`, in units of `2 ^ k / 2 ^ d` times the least positive float.
 module _ (a num den u v l d k : ℕ) (E : u + l + d ≡ k + v) where
   powers : 2 ^ k * 2 ^ v ≡ 2 ^ u * (2 ^ l * 2 ^ d)
   powers = sym (pow-add 2 k v) ∙ ap (λ x. 2 ^ x) (sym E) ∙ pow-add 2 (u + l) d ∙ ap (λ x. x * 2 ^ d) (pow-add 2 u l) ∙ regroup (2 ^ u) (2 ^ l) (2 ^ d)
@@ -48,7 +48,7 @@ module _ (a num den u v l d k : ℕ) (E : u + l + d ≡ k + v) where
   eq_there : a * 2 ^ u * den ≡ num * 2 ^ v → a * (den * 2 ^ k) ≡ num * 2 ^ l * 2 ^ d
   eq_there h = eq_of_mul-eq-mul_right (2 ^ v) (pow_pos v) _ _ (left ∙ ap (λ x. x * (2 ^ l * 2 ^ d)) h ∙ sym right)
 
--- a count that is half a unit above m
+-- A count that exceeds `m` units by half a unit.
 module _ (m c h x y : ℕ) (is : c ≡ m * (2 * h) + h) (H : 0 < h) where
   twice : (2 * m + 1) * x * h ≡ c * x
   twice = let e : (2 * m + 1) * x * h ≡ (m * (2 * h) + h) * x = grind arith in e ∙ ap (λ z. z * x) (sym is)
@@ -65,7 +65,7 @@ module _ (m c h x y : ℕ) (is : c ≡ m * (2 * h) + h) (H : 0 < h) where
 odd_or_even : (n : ℕ) → (n % 2 ≡ 0) ⊎ (n % 2 ≡ 1)
 odd_or_even n = elim (eq-zero-or-pos (n % 2)) [ inl e ↦ inl e | inr p ↦ (let l : n % 2 < 2 = mod-lt n (lit< tt) in inr (omega arith)) ]
 
--- the test of `goes_up`: a is the half bit, l what is below it, n the lowest bit that is kept
+-- The test of `goes_up`: `a` is the bit worth half, `l` the bits below it, and `n` the lowest kept bit.
 abbrev up : ℕ → Bool → ℕ → ℕ → Bool
 up a more l n = a == 1 && (more || not (l == 0) || n == 1)
 
@@ -108,7 +108,7 @@ module _ (f : Format) (num den c : ℕ) (more : Bool) (u v k d : ℕ) (D : 0 < d
   parts : c % 2 ^ d ≡ (c / 2 ^ (d - 1) % 2) * 2 ^ (d - 1) + c % 2 ^ (d - 1)
   parts = let p = positive in let e : 1 + (d - 1) ≡ d = omega arith in subst (λ x. c % 2 ^ x ≡ (c / 2 ^ (d - 1) % 2) * 2 ^ (d - 1) + c % 2 ^ (d - 1)) e (mod-pow-add c 1 (d - 1))
 
-  -- what is kept, and the half of its lowest bit
+  -- The kept bits, and half of the lowest kept bit.
   abbrev kept : ℕ
   kept = c / 2 ^ d
 
@@ -118,10 +118,10 @@ module _ (f : Format) (num den c : ℕ) (more : Bool) (u v k d : ℕ) (D : 0 < d
   wide : 1 ≤ h
   wide = pow_pos (d - 1)
 
-  at : (b : Bool) → goes_up c more d ≡ b → IsNearestBits f num den (scaled_bits f (if b then kept + 1 else kept) k) → IsNearestBits f num den (settled f c more d k)
+  at : (b : Bool) → goes_up c more d ≡ b → IsNearestBits f num den (scaled_bits f (if b then kept + 1 else kept) k) → IsNearestBits f num den (rounded_bits f c more d k)
   at b e p = subst (λ (x : Bool). IsNearestBits f num den (scaled_bits f (if x then kept + 1 else kept) k)) (sym e) p
 
-  below_half : c / h % 2 ≡ 0 → IsNearestBits f num den (settled f c more d k)
+  below_half : c / h % 2 ≡ 0 → IsNearestBits f num den (rounded_bits f c more d k)
   below_half e =
       let l : c % h < h = mod-lt c wide in
       let r : c % 2 ^ d ≡ c % h = parts ∙ rw e (omega arith) in
@@ -131,7 +131,7 @@ module _ (f : Format) (num den c : ℕ) (more : Bool) (u v k d : ℕ) (D : 0 < d
     rest : c % 2 ^ d ≡ h + c % h
     rest = parts ∙ rw e (omega arith)
 
-    above_half : 0 < c % h → IsNearestBits f num den (settled f c more d k)
+    above_half : 0 < c % h → IsNearestBits f num den (rounded_bits f c more d k)
     above_half p = let r = rest in let w = wide in at true (up_above _ more _ _ e p) (rounds_up significand cut D within (omega arith) (omega arith))
 
     module _ (z : c % h ≡ 0) where
@@ -141,18 +141,18 @@ module _ (f : Format) (num den c : ℕ) (more : Bool) (u v k d : ℕ) (D : 0 < d
       next : IsJustAbove f num den kept k
       next = let r = rest in let w = wide in lies_above significand cut D within (omega arith) (omega arith)
 
-      sticky : more ≡ true → IsNearestBits f num den (settled f c more d k)
+      sticky : more ≡ true → IsNearestBits f num den (rounded_bits f c more d k)
       sticky m =
           let l : c * (den * 2 ^ k) < num * 2 ^ low f * (2 * h) = rw half (lt_there c num den u v (low f) d k E (is.strict m)) in
           at true (up_more _ more _ _ e m) (nearest_above f num den kept k D next (half_lt kept c h (den * 2 ^ k) (num * 2 ^ low f) whole wide l))
 
-      tie : more ≡ false → IsNearestBits f num den (settled f c more d k)
+      tie : more ≡ false → IsNearestBits f num den (rounded_bits f c more d k)
       tie m =
           let l : c * (den * 2 ^ k) ≡ num * 2 ^ low f * (2 * h) = rw half (eq_there c num den u v (low f) d k E (is.exact m)) in
           at (kept % 2 == 1) (up_tie _ more _ _ e m z)
           (subst (λ x. IsNearestBits f num den (scaled_bits f x k)) (sym (to_even kept)) (nearest_tie f num den kept k D next (half_eq kept c h (den * 2 ^ k) (num * 2 ^ low f) whole wide l)))
 
-  pub rounds : IsNearestBits f num den (settled f c more d k)
+  pub rounds : IsNearestBits f num den (rounded_bits f c more d k)
   rounds =
       elim (odd_or_even (c / h)) [
         | inl e ↦ below_half e
@@ -162,7 +162,7 @@ module _ (f : Format) (num den c : ℕ) (more : Bool) (u v k d : ℕ) (D : 0 < d
         ]
       ]
 
--- far above the greatest number, and far below the least
+-- Numbers far above the greatest float, and far below the least.
 module _ (f : Format) (num den c : ℕ) (more : Bool) (u v : ℕ) (D : 0 < den) (j : ℕ) (many : 60 ≤ j) (lo : 2 ^ j ≤ c) (hi : c < 2 ^ (j + 1)) (is : IsScaled num den c more u v) where
   pub too_large : v + 2047 ≤ u + low f + (j + 1 - prec f) → IsNearestBits f num den (ones f * hid f)
   too_large big =
@@ -170,7 +170,7 @@ module _ (f : Format) (num den c : ℕ) (more : Bool) (u v : ℕ) (D : 0 < den) 
       let d = j + 1 - prec f in
       let k = u + low f + d - v in
       let most : ones f * hid f ≤ k * hid f = mul-le-mul_right (hid f) (omega arith) in
-      let all : settled f c more d k ≡ ones f * hid f = omega arith in
+      let all : rounded_bits f c more d k ≡ ones f * hid f = omega arith in
       subst (IsNearestBits f num den) all (rounds f num den c more u v k d D j many lo hi is (omega arith) (omega arith) (λ _. omega arith))
 
   pub too_small : u + low f + (j + 1) < v → IsNearestBits f num den 0
@@ -180,10 +180,10 @@ module _ (f : Format) (num den c : ℕ) (more : Bool) (u v : ℕ) (D : 0 < den) 
       let room : 2 ^ (j + 1) ≤ 2 ^ (d - 1) = pow_mono {i = j + 1} {j = d - 1} (omega arith) in
       let more_room : 2 ^ (j + 1) ≤ 2 ^ d = pow_mono {i = j + 1} {j = d} (omega arith) in
       let half_none : c / 2 ^ (d - 1) % 2 ≡ 0 = rw (div-eq_of_lt (lt_of_lt_of_le hi room)) refl in
-      let none : settled f c more d 0 ≡ 0 = rw (half_none, div-eq_of_lt (lt_of_lt_of_le hi more_room)) (omega arith) in
+      let none : rounded_bits f c more d 0 ≡ 0 = rw (half_none, div-eq_of_lt (lt_of_lt_of_le hi more_room)) (omega arith) in
       subst (IsNearestBits f num den) none (rounds f num den c more u v 0 d D j many lo hi is (omega arith) (omega arith) (λ z. absurd (omega arith)))
 
--- the highest bit of a count
+-- The highest bit of a count.
 pub top_bit : (c : ℕ) → 2 ^ 60 ≤ c → c < 2 ^ 64 → (j : ℕ) × (60 ≤ j) × (leading_zeros w64 c + (j + 1) ≡ 64) × (2 ^ j ≤ c) × (c < 2 ^ (j + 1))
 top_bit c lo hi =
     let t = leading_top 64 c (omega arith) hi in

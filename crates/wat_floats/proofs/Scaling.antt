@@ -1,4 +1,4 @@
--- From digits, places and powers to a count and a power of two.
+-- Digits, a fraction and an exponent as a count times a power of 2.
 use Rattle.std.proofs.Common.{◌≡◌, ◌⊎◌, ℕ, zero, suc, ◌+◌, ◌*◌, ◌%◌, ◌^◌, ◌<◌, ◌≤◌, Bool, false, not, T, refl, sym, ap, ◌∙◌, subst, inl, inr, arith, true≢false, pow_pos, pow-add, w64, le-ltb, le_of_eq, mod-eq_of_lt}
 use Rattle.std.specs.Prelude.{to_bits, is_nan}
 use Rattle.std.specs.Int.{leading_zeros}
@@ -11,7 +11,7 @@ use Rattle.core.specs.Dec2flt.Rounding.{IsNearestBits}
 use Rattle.core.proofs.dec2flt.Extremes.{nearest_of_zero}
 use Rattle.wat_floats.specs.Rounding.{IsLeading, IsScaled, IsCapped, AreCapped}
 
--- the bits of the nearest float are those of the rounded number
+-- The bits of the nearest float are those of the rounded number.
 pub bits_of : (f : Format) (num den b : ℕ) → IsNearestBits f num den b → b ≡ to_bits f (round f false num den)
 bits_of f num den b near =
     let below : ones f * hid f < top f = elim f as (λ g. ones g * hid g < top g) [ binary32 ↦ lit< tt | binary64 ↦ lit< tt ] in
@@ -27,7 +27,7 @@ sixteen (suc k) =
     let b : suc k * 4 ≡ k * 4 + 4 = omega arith in
     ap (λ x. 16 ^ x) a ∙ pow-add 16 k 1 ∙ ap (λ x. x * 16) (sixteen k) ∙ sym (pow-add 2 (k * 4) 4) ∙ ap (λ x. 2 ^ x) (sym b)
 
--- n * 2 ^ r / (16 ^ places * 2 ^ l)
+-- `n * 2 ^ r / (16 ^ places * 2 ^ l)`, the value of a literal.
 module _ (n r l places : ℕ) where
   abbrev num : ℕ
   num = n * 2 ^ r
@@ -44,7 +44,7 @@ module _ (n r l places : ℕ) where
   common : ℕ
   common = 2 ^ r * den
 
-  -- both sides with what they share taken out
+  -- Both sides without their common factor.
   module _ (c dropped : ℕ) where
     left : c * 2 ^ (dropped * 4 + r) * den ≡ c * 16 ^ dropped * (2 ^ r * den)
     left =
@@ -66,7 +66,7 @@ module _ (n r l places : ℕ) where
     strict = λ m. rw (left c dropped, right c dropped) (mul-lt-mul_of_pos_right (is.strict m) unit);
   }
 
-  -- without dropped digits the count is the number
+  -- Without dropped digits the count is the value.
   pub whole : (c : ℕ) (more : Bool) → IsLeading n c 0 more → c ≡ n
   whole c more is = let f : c * 1 ≤ n = is.from in let b : n < (c + 1) * 1 = is.below in omega arith
 
@@ -78,10 +78,10 @@ module _ (n r l places : ℕ) where
       let u = unit in
       record { from = le_of_eq e; below = rw g (omega arith); exact = λ _. e; strict = λ m. absurd (true≢false (sym m)) }
 
--- caps that are large enough
-pub capped : (r l raised lowered a b u v up down : ℕ) → IsCapped r raised → IsCapped l lowered → (r ≡ 0) ⊎ (l ≡ 0) → a ≤ 2 ^ 90 → b ≤ 2 ^ 90
-    → (u ≡ a + r) × (up ≡ a + raised) → (v ≡ b + l) × (down ≡ b + lowered) → AreCapped u v up down
-capped r l raised lowered a b u v up down p q one A B e g = record {
+-- The caps are large enough.
+pub capped : (r l up_power down_power a b u v up down : ℕ) → IsCapped r up_power → IsCapped l down_power → (r ≡ 0) ⊎ (l ≡ 0) → a ≤ 2 ^ 90 → b ≤ 2 ^ 90
+    → (u ≡ a + r) × (up ≡ a + up_power) → (v ≡ b + l) × (down ≡ b + down_power) → AreCapped u v up down
+capped r l up_power down_power a b u v up down p q one A B e g = record {
   up_most = omega (arith, p.most);
   down_most = omega (arith, q.most);
   up_same = λ h. elim one [ inl z ↦ omega (arith, p.most) | inr z ↦ omega (arith, q.most, p.same) ];
@@ -95,12 +95,12 @@ moved n r l places c zero more up is h small =
     subst (λ x. IsScaled (n * 2 ^ r) (16 ^ places * 2 ^ l) x false r (up + (places * 4 + l))) (sym e) (without_dropped n r l places up)
 moved n r l places c (suc k) more up is h small = absurd (omega arith)
 
--- no digit but 0
+-- Digits with the count 0 have the value 0.
 pub zero_is : (n dropped : ℕ) (more : Bool) → IsLeading n 0 dropped more → n ≡ 0
 zero_is n zero more is = let b : n < (0 + 1) * 1 = is.below in omega arith
 zero_is n (suc k) more is = absurd (omega (arith, is.full (omega arith)))
 
--- a count moved up to the highest bit
+-- A count that is shifted up to the highest bit.
 pub moved_up : (c : ℕ) → 0 < c → c < 2 ^ 64 → (c * 2 ^ leading_zeros w64 c < 2 ^ 64) × (2 ^ 60 ≤ c * 2 ^ leading_zeros w64 c)
 moved_up c p h =
     let t = leading_top 64 c p h in
@@ -113,7 +113,7 @@ moved_up c p h =
     let hi : c * 2 ^ z < 2 ^ suc t.0 * 2 ^ z = mul-lt-mul_of_pos_right t.3 (pow_pos z) in
     (rw (s2, e2) at hi, omega (arith, rw (s, e) at lo))
 
--- a whole number
+-- An integer.
 pub whole_leading : (n : ℕ) → IsLeading n n 0 false
 whole_leading n = record { from = omega arith; below = omega arith; exact = λ _. omega arith; strict = λ m. absurd (true≢false (sym m)); full = λ z. absurd (omega arith) }
 

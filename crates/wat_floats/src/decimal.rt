@@ -1,4 +1,4 @@
-//! Decimal numbers.
+//! Conversion of decimal literals.
 ghost use Rattle.std.specs.Prelude.{◌≡◌, false};
 ghost use Rattle.wat_floats.specs.Literals.{nearest};
 ghost use Rattle.wat_floats.specs.Rounding.{format};
@@ -6,7 +6,7 @@ ghost use Rattle.wat_floats.specs.Rounding.{format};
 use crate::precision::Precision;
 use fast_float::Numeral;
 
-/// The bits of the number nearest to a decimal one.
+/// Returns the bits of the number nearest to a decimal literal without sign and underscores.
 pub(crate) fn decimal(precision: Precision, text: &[u8]) -> u64
     ensures { result ≡ nearest (format precision) false text.now }
 {

@@ -1,22 +1,22 @@
-//! Exponents, of any number of digits.
+//! Exponents of hexadecimal literals, with any number of digits.
 ghost use Rattle.std.specs.Prelude.{◌≡◌, ◌^◌, ◌<◌, true, false};
 ghost use Rattle.std.specs.Str.Parse.{digits_value};
 ghost use Rattle.wat_lex.specs.grammar.Numbers.{is_digit, is_exponent_letter, unsigned, is_negative};
-ghost use Rattle.wat_floats.specs.Literals.{digits, exponent, size, raised, lowered};
+ghost use Rattle.wat_floats.specs.Literals.{digits, exponent, size, up_power, down_power};
 ghost use Rattle.wat_floats.specs.Rounding.{IsCapped};
 
-/// A power by which a number is multiplied, and one by which it is divided. Beyond `LARGE` they may
-/// be less than what is written.
+/// A power of 2: 2^`up_power` / 2^`down_power`. If one of them is `LARGE` or more, it may be less
+/// than the one that was parsed.
 #[derive(Clone, Copy)]
 pub(crate) struct Power {
-    pub(crate) raised: u128,
-    pub(crate) lowered: u128,
+    pub(crate) up_power: u128,
+    pub(crate) down_power: u128,
 }
 
-/// More than what the digits of a text can make up for.
+/// An exponent that is too large for the digits of any text to compensate for it.
 const LARGE: u128 = 1 << 100;
 
-/// A word without its sign.
+/// Returns the word without its sign.
 pub(crate) fn unsigned(word: &[u8]) -> &[u8]
     ensures { result.now ≡ unsigned word.now }
 {
@@ -26,7 +26,7 @@ pub(crate) fn unsigned(word: &[u8]) -> &[u8]
     }
 }
 
-/// Whether a word begins with `-`.
+/// Returns `true` if the word begins with `-`.
 pub(crate) fn is_negative(word: &[u8]) -> bool
     ensures { result ≡ is_negative word.now }
 {
@@ -36,7 +36,7 @@ pub(crate) fn is_negative(word: &[u8]) -> bool
     }
 }
 
-/// What comes after the letter of an exponent.
+/// Returns the part of an exponent after its letter, or an empty text without an exponent.
 fn after_letter(text: &[u8]) -> &[u8]
     ensures { result.now ≡ exponent true text.now }
 {
@@ -46,7 +46,8 @@ fn after_letter(text: &[u8]) -> &[u8]
     }
 }
 
-/// The number that decimal digits write, or a lesser one that is large.
+/// Returns the value of the decimal digits at the start of the text. Instead of a value above
+/// `LARGE`, it may return a smaller one that is at least `LARGE`.
 fn size_of(text: &[u8]) -> u128
     ensures capped { IsCapped (digits_value 10 (digits false text.now)) result }
     ensures most { result < 2 ^ 110 }
@@ -64,33 +65,33 @@ fn size_of(text: &[u8]) -> u128
 }
 
 impl Power {
-    /// Neither.
+    /// Returns the power 1.
     pub(crate) fn none() -> Power
-        ensures { (result.raised ≡ 0) × (result.lowered ≡ 0) }
+        ensures { (result.up_power ≡ 0) × (result.down_power ≡ 0) }
     {
         Power {
-            raised: 0,
-            lowered: 0,
+            up_power: 0,
+            down_power: 0,
         }
     }
 
-    /// The power of two that an exponent writes.
+    /// Parses the exponent at the start of the text as a power of 2.
     pub(crate) fn read(text: &[u8]) -> Power
-        ensures raised { IsCapped (raised (exponent true text.now)) result.raised }
-        ensures lowered { IsCapped (lowered (exponent true text.now)) result.lowered }
-        ensures most { (result.raised < 2 ^ 110) × (result.lowered < 2 ^ 110) }
+        ensures up_power { IsCapped (up_power (exponent true text.now)) result.up_power }
+        ensures down_power { IsCapped (down_power (exponent true text.now)) result.down_power }
+        ensures most { (result.up_power < 2 ^ 110) × (result.down_power < 2 ^ 110) }
     {
         let written = after_letter(text);
         let size = size_of(unsigned(written));
         if is_negative(written) {
             Power {
-                raised: 0,
-                lowered: size,
+                up_power: 0,
+                down_power: size,
             }
         } else {
             Power {
-                raised: size,
-                lowered: 0,
+                up_power: size,
+                down_power: 0,
             }
         }
     }

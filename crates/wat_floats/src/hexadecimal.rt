@@ -1,4 +1,4 @@
-//! Hexadecimal numbers.
+//! Conversion of hexadecimal literals.
 ghost use Rattle.std.specs.Prelude.{◌≡◌, ℕ, ◌+◌, ◌*◌, ◌^◌, ◌<◌, ◌≤◌, false, true};
 ghost use Rattle.std.specs.Float.Ieee.{round};
 ghost use Rattle.std.specs.Prelude.{◌⊎◌, to_bits, length, IfSome, IfNone};
@@ -7,15 +7,15 @@ ghost use Rattle.std.specs.Str.Parse.{digits_value_after};
 ghost use Rattle.core.specs.Dec2flt.Rounding.{IsNearestBits};
 ghost use Rattle.wat_lex.specs.grammar.Numbers.{is_digit};
 ghost use Rattle.wat_floats.specs.Literals.{after_digits, after_fraction, digits, fraction};
-ghost use Rattle.wat_floats.specs.Literals.{exponent, nearest, raised, lowered};
+ghost use Rattle.wat_floats.specs.Literals.{exponent, nearest, up_power, down_power};
 ghost use Rattle.wat_floats.specs.Rounding.{format, IsCapped, IsLeading};
 
 use crate::exponent::Power;
 use crate::precision::Precision;
-use crate::rounding::rounded;
+use crate::rounding::nearest_of_scaled;
 
-/// The digits read so far: `count` times 16 to `dropped`, and something less than one of these more
-/// where `more` is set.
+/// The digits parsed so far. Their value is `count` * 16^`dropped`; if `more` is set, it exceeds
+/// this by less than 16^`dropped`.
 #[derive(Clone, Copy)]
 pub(crate) struct Leading {
     pub(crate) count: u64,
@@ -23,9 +23,10 @@ pub(crate) struct Leading {
     pub(crate) more: bool,
 }
 
-/// What a digit stands for.
+/// Returns the value of a hexadecimal digit, or `None` for any other byte.
 fn hex_digit(byte: u8) -> Option<u64>
-    ensures some { IfSome result (λ d. (is_digit true byte ≡ true) × (d ≡ digit_value byte) × (d < 16)) }
+    ensures some { IfSome result
+        (λ d. (is_digit true byte ≡ true) × (d ≡ digit_value byte) × (d < 16)) }
     ensures none { IfNone result (is_digit true byte ≡ false) }
 {
     match byte {
@@ -37,7 +38,7 @@ fn hex_digit(byte: u8) -> Option<u64>
 }
 
 impl Leading {
-    /// No digits.
+    /// Returns the value 0, before the first digit.
     pub(crate) fn none() -> Leading
         ensures value { IsLeading 0 result.count result.dropped result.more }
         ensures dropped { result.dropped ≡ 0 }
@@ -49,7 +50,7 @@ impl Leading {
         }
     }
 
-    /// The same with a digit after them.
+    /// Appends a digit.
     fn with_digit(self, digit: u64) -> Leading
         requires digit { digit < 16 }
         requires room { self.dropped < 2 ^ 100 }
@@ -73,11 +74,12 @@ impl Leading {
     }
 }
 
-/// The digits that a text begins with, after those read so far, and the rest of the text.
+/// Appends the digits at the start of the text, and returns the text after them.
 pub(crate) fn with_digits<'t>(leading: Leading, text: &'t [u8]) -> (Leading, &'t [u8])
     requires room { leading.dropped ≤ 2 ^ 70 }
     ensures value { (n : ℕ) → IsLeading n leading.count leading.dropped leading.more
-        → IsLeading (digits_value_after 16 n (digits true text.now)) result.0.count result.0.dropped result.0.more }
+        → IsLeading (digits_value_after 16 n (digits true text.now))
+        result.0.count result.0.dropped result.0.more }
     ensures dropped { result.0.dropped ≤ leading.dropped + length text.now }
     ensures rest { result.1.now ≡ after_digits true text.now }
 {
@@ -93,11 +95,13 @@ pub(crate) fn with_digits<'t>(leading: Leading, text: &'t [u8]) -> (Leading, &'t
     (leading, &text[text.len()..])
 }
 
-/// The same with the digits after a dot, how many these are, and the rest.
+/// Appends the digits of the fraction at the start of the text, and returns their number and the
+/// text after the fraction.
 fn with_fraction<'t>(leading: Leading, text: &'t [u8]) -> (Leading, usize, &'t [u8])
     requires room { leading.dropped ≤ 2 ^ 70 }
     ensures value { (n : ℕ) → IsLeading n leading.count leading.dropped leading.more
-        → IsLeading (digits_value_after 16 n (fraction true text.now)) result.0.count result.0.dropped result.0.more }
+        → IsLeading (digits_value_after 16 n (fraction true text.now))
+        result.0.count result.0.dropped result.0.more }
     ensures dropped { result.0.dropped ≤ leading.dropped + length text.now }
     ensures places { result.1 ≡ length (fraction true text.now) }
     ensures rest { result.2.now ≡ after_fraction true text.now }
@@ -111,7 +115,7 @@ fn with_fraction<'t>(leading: Leading, text: &'t [u8]) -> (Leading, usize, &'t [
     }
 }
 
-/// The bits of the number nearest to a hexadecimal one, from the text after its `0x`.
+/// Returns the bits of the number nearest to a hexadecimal literal, given its text after `0x`.
 pub(crate) fn hexadecimal(precision: Precision, text: &[u8]) -> u64
     ensures { result ≡ nearest (format precision) true text.now }
 {
@@ -123,35 +127,37 @@ pub(crate) fn hexadecimal(precision: Precision, text: &[u8]) -> u64
     scaled(precision, leading, places, Power::read(rest))
 }
 
-/// The bits of the number nearest to digits, so many of which are after the dot, times a power.
+/// Returns the bits of the number nearest to the digits times the power, if `places` of the digits
+/// follow the dot.
 fn scaled(precision: Precision, leading: Leading, places: usize, power: Power) -> u64
     requires count { (0 < leading.count) × (0 < leading.dropped → 2 ^ 60 ≤ leading.count) }
     requires room { leading.dropped ≤ 2 ^ 80 }
-    requires power { (power.raised < 2 ^ 110) × (power.lowered < 2 ^ 110) }
-    ensures { (n r l : ℕ) → IsLeading n leading.count leading.dropped leading.more → IsCapped r power.raised → IsCapped l power.lowered
-        → ((r ≡ 0) ⊎ (l ≡ 0)) → IsNearestBits (format precision) (n * 2 ^ r) (16 ^ places * 2 ^ l) result }
+    requires power { (power.up_power < 2 ^ 110) × (power.down_power < 2 ^ 110) }
+    ensures { (n r l : ℕ) → IsLeading n leading.count leading.dropped leading.more
+        → IsCapped r power.up_power → IsCapped l power.down_power → ((r ≡ 0) ⊎ (l ≡ 0))
+        → IsNearestBits (format precision) (n * 2 ^ r) (16 ^ places * 2 ^ l) result }
 {
-    let places = places as u128 * 4 + power.lowered;
+    let places = places as u128 * 4 + power.down_power;
     if leading.dropped > 0 {
-        return rounded(
+        return nearest_of_scaled(
             precision,
             leading.count,
             leading.more,
-            leading.dropped * 4 + power.raised,
+            leading.dropped * 4 + power.up_power,
             places,
         );
     }
     let shift = leading.count.leading_zeros();
-    rounded(
+    nearest_of_scaled(
         precision,
         leading.count << shift,
         false,
-        power.raised,
+        power.up_power,
         u128::from(shift) + places,
     )
 }
 
-/// The bits of the number nearest to a whole one.
+/// Returns the bits of the number nearest to an integer.
 pub(crate) fn whole(precision: Precision, number: u64) -> u64
     ensures { result ≡ to_bits (format precision) (round (format precision) false number 1) }
 {

@@ -1,7 +1,7 @@
-//! What the definition computes to.
+//! A theorem about the definition of literals.
 ghost use Rattle.wat_floats.specs.Samples.{Samples};
 
-/// Literals whose bits are known from elsewhere. The function does nothing: its contract says it.
+/// Theorem: the definition gives the known bits of each literal in `Samples`.
 pub fn samples()
     ensures { Samples }
 {}

@@ -1,5 +1,6 @@
-//! Floating-point literals of WebAssembly text, to the bits of a number of 32 or 64 bits. They are
-//! rounded to the nearest number of the format, of two equally near to the even one.
+//! Conversion of the floats and integers of the WebAssembly text format to the bits of an `f32` or
+//! `f64`. The result is the nearest number of the format, or of two equally near ones the one whose
+//! significand is even.
 #![tactic(auto)]
 
 ghost use Rattle.std.specs.Prelude.{◌≡◌, false, IfOk, IsOk};
@@ -20,9 +21,13 @@ mod tests;
 use crate::precision::Precision;
 use std::alloc::{AllocError, Global};
 
-/// The bits of a number of 32 bits that the word of a float or of an integer denotes. None where it
-/// rounds to infinity, and where the payload of a NaN is 0 or too large. Only for a word with
-/// underscores memory is asked for.
+/// Returns the bits of the `f32` that a float or integer literal denotes, or `None` if the literal
+/// rounds to infinity, or is a NaN whose payload is 0 or has more than 23 bits. For any other word
+/// the result has no meaning. Allocates only if the word has underscores.
+///
+/// # Errors
+///
+/// Fails with `AllocError` if the allocation fails.
 pub fn f32_bits(alloc: Global, word: &str) -> Result<Option<u32>, AllocError>
     ensures value { IfOk result (λ bits. bits ≡ literal binary32 word.now) }
     ensures free { has_underscores word.now ≡ false → IsOk result }
@@ -33,7 +38,8 @@ pub fn f32_bits(alloc: Global, word: &str) -> Result<Option<u32>, AllocError>
     }
 }
 
-/// The bits of an integer as a number of 32 bits, by its sign and its size.
+/// Returns the bits of the `f32` nearest to an integer with this sign and absolute value. The
+/// result is `None` if the number rounds to infinity, which no `u64` does.
 pub fn f32_of_integer(negative: bool, size: u64) -> Option<u32>
     ensures { result ≡ of_integer binary32 negative size }
 {
@@ -43,14 +49,21 @@ pub fn f32_of_integer(negative: bool, size: u64) -> Option<u32>
     }
 }
 
-/// The same of 64 bits.
+/// Returns the bits of the `f64` nearest to an integer with this sign and absolute value. The
+/// result is `None` if the number rounds to infinity, which no `u64` does.
 pub fn f64_of_integer(negative: bool, size: u64) -> Option<u64>
     ensures { result ≡ of_integer binary64 negative size }
 {
     literal::of_integer(Precision::Double, negative, size)
 }
 
-/// As [`f32_bits`], of a number of 64 bits.
+/// Returns the bits of the `f64` that a float or integer literal denotes, or `None` if the literal
+/// rounds to infinity, or is a NaN whose payload is 0 or has more than 52 bits. For any other word
+/// the result has no meaning. Allocates only if the word has underscores.
+///
+/// # Errors
+///
+/// Fails with `AllocError` if the allocation fails.
 pub fn f64_bits(alloc: Global, word: &str) -> Result<Option<u64>, AllocError>
     ensures value { IfOk result (λ bits. bits ≡ literal binary64 word.now) }
     ensures free { has_underscores word.now ≡ false → IsOk result }

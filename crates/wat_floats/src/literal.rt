@@ -1,4 +1,4 @@
-//! Words of numbers.
+//! Conversion of literals: their sign, underscores, base and special values.
 ghost use Rattle.std.specs.Prelude.{◌≡◌, ◌<◌, ◌*◌, false, true, None, Some, IfOk, IfSome, IsOk, MatchOption};
 ghost use Rattle.std.specs.Str.Parse.{digits_value};
 ghost use Rattle.wat_lex.specs.grammar.Numbers.{has_underscores};
@@ -13,7 +13,7 @@ use crate::hexadecimal::{Leading, hexadecimal, whole, with_digits};
 use crate::precision::Precision;
 use std::alloc::{AllocError, Global};
 
-/// Bits that are not those of infinity.
+/// Returns the bits if they are less than those of infinity.
 fn finite(precision: Precision, bits: u64) -> Option<u64>
     ensures { result ≡ literals.finite (format precision) bits }
 {
@@ -24,9 +24,11 @@ fn finite(precision: Precision, bits: u64) -> Option<u64>
     }
 }
 
-/// The bits of a NaN whose payload the hexadecimal digits write that a text begins with.
+/// Returns the bits of the NaN whose payload is the hexadecimal digits at the start of the text, or
+/// `None` if the payload is 0 or too large.
 fn payload(precision: Precision, text: &[u8]) -> Option<u64>
-    ensures { result ≡ literals.payload (format precision) (digits_value 16 (digits true text.now)) }
+    ensures { result
+        ≡ literals.payload (format precision) (digits_value 16 (digits true text.now)) }
 {
     let (payload, _) = with_digits(Leading::none(), text);
     if 0 < payload.count && payload.count < precision.exponent_bit() {
@@ -36,7 +38,7 @@ fn payload(precision: Precision, text: &[u8]) -> Option<u64>
     }
 }
 
-/// What comes after a prefix.
+/// Returns the part of the word after the prefix, or `None` if the word does not begin with it.
 fn after<'w>(prefix: &[u8], word: &'w [u8]) -> Option<&'w [u8]>
     ensures { MatchOption result (literals.after prefix.now word.now ≡ None)
         (λ r. literals.after prefix.now word.now ≡ Some r.now) }
@@ -44,7 +46,7 @@ fn after<'w>(prefix: &[u8], word: &'w [u8]) -> Option<&'w [u8]>
     word.strip_prefix(prefix)
 }
 
-/// The bits that a word without sign and underscores denotes.
+/// Returns the bits of a literal without sign and underscores.
 fn magnitude(precision: Precision, word: &[u8]) -> Option<u64>
     ensures { result ≡ literals.magnitude (format precision) word.now }
 {
@@ -63,13 +65,14 @@ fn magnitude(precision: Precision, word: &[u8]) -> Option<u64>
     }
 }
 
-/// The same of a word with underscores, for which memory is asked for.
+/// Returns the bits of a literal without sign. Allocates a copy without underscores if it has any.
 fn joined_magnitude(
     alloc: Global,
     precision: Precision,
     word: &[u8],
 ) -> Result<Option<u64>, AllocError>
-    ensures value { IfOk result (λ bits. bits ≡ literals.magnitude (format precision) (joined word.now)) }
+    ensures value { IfOk result
+        (λ bits. bits ≡ literals.magnitude (format precision) (joined word.now)) }
     ensures free { has_underscores word.now ≡ false → IsOk result }
 {
     if !word.contains(&b'_') {
@@ -84,7 +87,7 @@ fn joined_magnitude(
     Ok(magnitude(precision, &joined))
 }
 
-/// The bits that the word of a number denotes.
+/// Returns the bits of a literal. Allocates only if it has underscores.
 pub(crate) fn literal(
     alloc: Global,
     precision: Precision,
@@ -98,7 +101,7 @@ pub(crate) fn literal(
     Ok(signed(precision, is_negative(word), magnitude))
 }
 
-/// The bits with a sign.
+/// Returns the bits with the sign bit, which is set if `negative` is.
 fn signed(precision: Precision, negative: bool, magnitude: Option<u64>) -> Option<u64>
     requires { IfSome magnitude (λ b. b < sign_bit (format precision)) }
     ensures value { result ≡ literals.signed (format precision) negative magnitude }
@@ -111,7 +114,8 @@ fn signed(precision: Precision, negative: bool, magnitude: Option<u64>) -> Optio
     }
 }
 
-/// The bits that an integer denotes as a float.
+/// Returns the bits of the number nearest to an integer with this sign and absolute value, or
+/// `None` if the number rounds to infinity.
 pub(crate) fn of_integer(precision: Precision, negative: bool, size: u64) -> Option<u64>
     ensures value { result ≡ literals.of_integer (format precision) negative size }
     ensures small { IfSome result (λ b. b < sign_bit (format precision) * 2) }

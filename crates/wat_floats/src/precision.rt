@@ -1,10 +1,10 @@
-//! The two formats of floating-point numbers.
+//! The two floating-point formats.
 ghost use Rattle.std.specs.Prelude.{◌≡◌};
 ghost use Rattle.std.specs.Float.Ieee.{prec, low, hid};
 ghost use Rattle.wat_floats.specs.Literals.{infinity, sign_bit};
 ghost use Rattle.wat_floats.specs.Rounding.{format};
 
-/// The format of 32 or of 64 bits.
+/// A floating-point format: `f32` or `f64`.
 #[derive(Clone, Copy, Debug, PartialEq)]
 pub(crate) enum Precision {
     Single,
@@ -12,7 +12,7 @@ pub(crate) enum Precision {
 }
 
 impl Precision {
-    /// How many binary digits a significand has.
+    /// Returns the number of binary digits of a significand, including the one that is not stored.
     pub(crate) fn digits(self) -> u64
         ensures { result ≡ prec (format self) }
     {
@@ -22,7 +22,7 @@ impl Precision {
         }
     }
 
-    /// The least number above 0 is 1 over 2 to this.
+    /// Returns the exponent `n` for which the least positive number is 2^-`n`.
     pub(crate) fn least(self) -> u64
         ensures { result ≡ low (format self) }
     {
@@ -32,7 +32,7 @@ impl Precision {
         }
     }
 
-    /// The bit above those of the significand that are stored: one of the exponent.
+    /// Returns the lowest bit of the exponent, which is the one above the stored significand.
     pub(crate) fn exponent_bit(self) -> u64
         ensures { result ≡ hid (format self) }
     {
@@ -42,7 +42,7 @@ impl Precision {
         }
     }
 
-    /// The bits of infinity.
+    /// Returns the bits of positive infinity.
     pub(crate) fn infinity(self) -> u64
         ensures { result ≡ infinity (format self) }
     {
@@ -52,7 +52,7 @@ impl Precision {
         }
     }
 
-    /// The bit of the sign.
+    /// Returns the sign bit.
     pub(crate) fn sign_bit(self) -> u64
         ensures { result ≡ sign_bit (format self) }
     {

@@ -1,12 +1,12 @@
-//! A number times a power of two, rounded.
+//! Rounding of an integer times a power of 2.
 ghost use Rattle.std.specs.Prelude.{◌≡◌, ℕ, ◌+◌, ◌/◌, ◌^◌, ◌<◌, ◌≤◌};
 ghost use Rattle.std.specs.Float.Ieee.{prec};
 ghost use Rattle.core.specs.Dec2flt.Rounding.{IsNearestBits};
-ghost use Rattle.wat_floats.specs.Rounding.{format, goes_up, settled, AreCapped, IsScaled};
+ghost use Rattle.wat_floats.specs.Rounding.{format, goes_up, rounded_bits, AreCapped, IsScaled};
 
 use crate::precision::Precision;
 
-/// The number without its lowest bits.
+/// Returns `count` without its `dropped` lowest bits.
 fn without_lowest(count: u64, dropped: u64) -> u64
     requires dropped { (0 < dropped) × (dropped ≤ 64) }
     ensures { result ≡ count / 2 ^ dropped }
@@ -14,8 +14,9 @@ fn without_lowest(count: u64, dropped: u64) -> u64
     (count >> (dropped - 1)) >> 1
 }
 
-/// Whether what is dropped is more than half of the lowest bit that is kept, or half of it, and
-/// that bit is set.
+/// Returns `true` if rounding away the `dropped` lowest bits goes up. The dropped part, to which
+/// `more` adds something below 1, must be more than half of the lowest kept bit, or exactly half of
+/// it if that bit is set.
 fn goes_up(count: u64, more: bool, dropped: u64) -> bool
     requires dropped { (0 < dropped) × (dropped ≤ 64) }
     ensures { result ≡ goes_up count more dropped }
@@ -25,13 +26,13 @@ fn goes_up(count: u64, more: bool, dropped: u64) -> bool
         && (more || count % (1 << (dropped - 1)) != 0 || without_lowest(count, dropped) % 2 == 1)
 }
 
-/// The bits of the nearest number where `dropped` bits are dropped, and the lowest bit that is kept
-/// is worth 2 to `exponent` of the least numbers.
-fn settled(precision: Precision, count: u64, more: bool, dropped: u64, exponent: u64) -> u64
+/// Returns the bits of the number that results from rounding away the `dropped` lowest bits. The
+/// lowest kept bit is worth 2^`exponent` times the least positive number.
+fn rounded_bits(precision: Precision, count: u64, more: bool, dropped: u64, exponent: u64) -> u64
     requires dropped { (0 < dropped) × (dropped ≤ 64) }
     requires significand { count / 2 ^ dropped < 2 ^ prec (format precision) }
     requires exponent { exponent < 2047 }
-    ensures { result ≡ settled (format precision) count more dropped exponent }
+    ensures { result ≡ rounded_bits (format precision) count more dropped exponent }
 {
     let kept = without_lowest(count, dropped);
     let significand = if goes_up(count, more, dropped) {
@@ -42,9 +43,15 @@ fn settled(precision: Precision, count: u64, more: bool, dropped: u64, exponent:
     (exponent * precision.exponent_bit() + significand).min(precision.infinity())
 }
 
-/// The bits of the number nearest to `count` times 2 to `up` over 2 to `down`, with something less
-/// than one of these more where `more` is set.
-pub(crate) fn rounded(precision: Precision, count: u64, more: bool, up: u128, down: u128) -> u64
+/// Returns the bits of the number nearest to `count` * 2^`up` / 2^`down`. If `more` is set, the
+/// exact value exceeds this by less than 2^`up` / 2^`down`.
+pub(crate) fn nearest_of_scaled(
+    precision: Precision,
+    count: u64,
+    more: bool,
+    up: u128,
+    down: u128,
+) -> u64
     requires count { 2 ^ 60 ≤ count }
     requires sizes { (up < 2 ^ 120) × (down < 2 ^ 120) }
     ensures { (num den u v : ℕ) → 0 < den → IsScaled num den count more u v → AreCapped u v up down
@@ -61,7 +68,7 @@ pub(crate) fn rounded(precision: Precision, count: u64, more: bool, up: u128, do
         return 0;
     }
     let dropped = surplus + below as u64;
-    settled(
+    rounded_bits(
         precision,
         count,
         more,

@@ -1,4 +1,4 @@
-//! Literals with their bits, and refused memory.
+//! Literals with their known bits.
 use crate::{f32_bits, f64_bits};
 use std::test::Fail;
 

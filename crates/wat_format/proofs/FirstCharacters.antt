@@ -1,4 +1,4 @@
--- What words begin with.
+-- The first characters of lexemes.
 use Rattle.std.proofs.Common.{◌≡◌, ◌≢◌, ℕ, Bool, true, false, ◌||◌, eqb, List, [], ◌∷◌, refl, sym, subst, inl, inr, arith}
 use Rattle.std.proofs.lemmas.Bool.{false≢true}
 use Rattle.std.proofs.lemmas.Bool.Decides.{nat_tests}
@@ -12,7 +12,7 @@ use Rattle.wat_lex.specs.declared.lexer.kinds.TokenKind.{TokenKind}
 use Rattle.wat_lex.specs.declared.lexer.kinds.TokenKind.TheVariants.{LineComment, BlockComment, Whitespace, LParen, RParen, String, Id, Keyword, Annotation, Reserved, Integer, Float}
 use Rattle.wat_format.specs.Layout.{is_white}
 
--- white space is one of four characters
+-- Whitespace is one of four characters.
 pub white_cases : (c : ℕ) → IsTrue (is_whitespace c) → (c ≡ 32) ⊎ ((c ≡ 10) ⊎ ((c ≡ 13) ⊎ (c ≡ 9)))
 white_cases c h = grind (arith, nat_tests)
 
@@ -55,7 +55,7 @@ commented_first (Commented.opened {t = t} h) = (t, refl)
 line_first : {w : List ℕ} → CommentedLine w → (t : List ℕ) × (w ≡ semicolon ∷ t)
 line_first (CommentedLine.begun {t = t} h) = (semicolon ∷ t, refl)
 
--- what a word of this kind, other than white space, begins with
+-- The first character of a lexeme of this kind, except whitespace.
 abbrev pub IsFirst : TokenKind → List ℕ → ℕ → Type 0
 IsFirst LineComment w c = c ≡ semicolon
 IsFirst BlockComment w c = c ≡ open_paren

@@ -1,4 +1,4 @@
--- What may follow a word, in a layout.
+-- What may follow a token in a formatted text.
 use Rattle.std.proofs.Common.{◌≡◌, ◌≢◌, ℕ, Bool, true, false, eqb, List, [], ◌∷◌, refl, sym, ◌∙◌, subst, inl, inr}
 use Rattle.std.proofs.lemmas.Bool.{false≢true}
 use Rattle.std.specs.Prelude.{IsTrue, Option, Some, if◌then◌else◌}
@@ -14,7 +14,7 @@ use Rattle.wat_format.specs.declared.gap.Gap.TheVariants.{Touching, Blanks, Line
 use Rattle.wat_format.specs.declared.sort.Sort.{Sort}
 use Rattle.wat_format.specs.declared.sort.Sort.TheVariants.{Open, Close, Comment, Mark, At, Begins as BeginsBlock, Ends, Parts, Other}
 
--- a character that goes on with no word but a line comment
+-- A character that continues no lexeme except a line comment.
 pub record GoesOnWithNone (c : ℕ) : Type 0 where
   pub no_run : is_run_char c ≡ false
   pub no_semicolon : eqb c semicolon ≡ false
@@ -22,7 +22,7 @@ pub record GoesOnWithNone (c : ℕ) : Type 0 where
 not_true : {b : Bool} → b ≡ false → IsTrue b → ⊥
 not_true e h = false≢true (sym e ∙ h)
 
--- such a character may follow any word but white space and line comments
+-- Such a character may follow every token except whitespace and line comments.
 pub ends_words : (kind : TokenKind) (w rest : List ℕ) (c : ℕ) → is_white kind ≡ false → kind ≢ LineComment → GoesOnWithNone c → MayFollow kind w (c ∷ rest)
 ends_words LineComment w rest c e n g = absurd (n refl)
 ends_words BlockComment w rest c e n g = tt
@@ -78,7 +78,7 @@ abbrev pub NoComment : Sort → Type 0
 NoComment Comment = ⊥
 NoComment x = Unit {0}
 
--- where two tokens are written touching
+-- Gaps that are written as no bytes.
 pub data Touches : Sort → Sort → Gap → Type 0 where
   stayed : {x y : Sort} → Touches x y Touching
   opened : {y : Sort} {g : Gap} → NoSemicolon y → Touches Open y g

@@ -10,11 +10,11 @@ use Rattle.wat_lex.specs.declared.lexer.faults.LexFault.{LexFault}
 use Rattle.wat_lex.specs.declared.lexer.kinds.Token.{Token}
 use Rattle.wat_format.specs.Formatting.{Formatted, Refuses}
 use Rattle.wat_format.specs.Layout.{State, start, laid, layout}
-use Rattle.wat_format.specs.inside.Steps.{Lays, EndsSo, Formats}
+use Rattle.wat_format.specs.inside.Steps.{Lays, EndsWithError, Formats}
 use Rattle.wat_format.specs.declared.error.Error.{Error}
 use Rattle.wat_format.specs.declared.error.Error.TheVariants.{Memory, Fault, TooLong}
 
--- the places after a token
+-- The char boundary after a token.
 pub boundary_after : (s : Setting) (pos : ℕ) (t : Token) → TokenAt s pos t → IsCharBoundary s.text (pos + t.len) → IsCharBoundary s.text (t.offset + t.len)
 boundary_after s pos t k b = subst (λ p. IsCharBoundary s.text (p + t.len)) (sym k.offset) b
 
@@ -52,7 +52,7 @@ too_long_later s pos state out h e long =
     (layout s.text w.all, record { tokens = w.all; tiling = w.tiling; laid = refl }, omega arith)
 
 -- what was written is too long already
-pub refused_later : (s : Setting) (pos : ℕ) (state : State) (out : List ℕ) (e : Error) → Formats s pos state out → 2 ^ 32 ≤ length out → EndsSo s pos e → Refuses s e
+pub refused_later : (s : Setting) (pos : ℕ) (state : State) (out : List ℕ) (e : Error) → Formats s pos state out → 2 ^ 32 ≤ length out → EndsWithError s pos e → Refuses s e
 refused_later s pos state out (Memory r) h long e = tt
 refused_later s pos state out (Fault f) h long e = let w = h e.tokens (Some f) e.tiling in (w.all, w.tiling)
 refused_later s pos state out TooLong h long e = too_long_later s pos state out h e long

@@ -1,10 +1,10 @@
--- The laws of layouts, from their pieces.
+-- The theorems about formatted texts, derived from their pieces.
 use Rattle.std.proofs.Common.{◌≡◌, ◌≢◌, ◌*◌, ℕ, zero, suc, Bool, true, false, List, [], ◌∷◌, length, replicate, refl, sym, ap, ◌∙◌, subst, inl, inr, arith}
 use Rattle.std.proofs.lemmas.Str.{IsCharBoundary-start}
 use Rattle.std.specs.Prelude.{◌⊎◌, Option, Some, None, is_some, if◌then◌else◌}
 use Rattle.std.specs.Str.{IsUtf8}
 use Rattle.wat_lex.specs.grammar.Classes.{line_feed}
-use Rattle.wat_lex.specs.tokens.EverySetting.{TokensEndAtBoundaries, TilingsAreOne, EachPlaceIsTiled}
+use Rattle.wat_lex.specs.tokens.EverySetting.{TokensEndAtBoundaries, TilingsAreUnique, EachBoundaryHasTiling}
 use Rattle.wat_lex.specs.tokens.ReadableTokens.{token_text}
 use Rattle.wat_lex.specs.tokens.Setting.{Setting}
 use Rattle.wat_lex.specs.tokens.Tiling.{MaximalTiling}
@@ -26,7 +26,7 @@ use Rattle.wat_format.proofs.LaidPieces.{gapped, laid_pieces, bool_cases, joined
 use Rattle.wat_format.proofs.LaidIsAt.{begins}
 use Rattle.wat_format.proofs.Marks.{marks_laid, marks_of_text, marks_placed}
 
--- blanks are no line end
+-- Spaces are not line ends.
 no_feed : (n : ℕ) (back : List ℕ) → replicate n 32 ≢ line_feed ∷ back
 no_feed zero back e = cc
 no_feed (suc n) back e = let h : ◌≡◌ {A = ℕ} 32 line_feed = cc in omega arith
@@ -88,7 +88,7 @@ words_of_pieces text (t ∷ ts) =
     let h = words_of_pieces text ts in
     elim (is_white t.kind) as (λ b. (if b then words text ts else (t.kind, w) ∷ words text ts) ≡ (if b then no_white (pieces text ts) else (t.kind, w) ∷ no_white (pieces text ts))) [ true ↦ h | false ↦ ap (λ x. (t.kind, w) ∷ x) h ]
 
--- the layout of these tokens, as pieces
+-- The formatted text of these tokens, as pieces.
 module _ (bounds : TokensEndAtBoundaries) (s : Setting) (ts : List Token) (utf8 : IsUtf8 s.text) (m : MaximalTiling s 0 ts None) where
   abbrev answer : List ℕ
   answer = layout s.text ts
@@ -126,12 +126,12 @@ module _ (bounds : TokensEndAtBoundaries) (s : Setting) (ts : List Token) (utf8 
     white = white_of_pieces answer (placed 0 out) (subst AllWritten (sym pieces_of) (written_laid start (pieces s.text ts)));
   }
 
-  pub kept : TilingsAreOne → (us : List Token) (e : Option LexFault) → MaximalTiling (over s answer) 0 us e → KeepsTokens s ts us e
+  pub kept : TilingsAreUnique → (us : List Token) (e : Option LexFault) → MaximalTiling (over s answer) 0 us e → KeepsTokens s ts us e
   kept one us e n =
       let k = one (over s answer) 0 (placed 0 out) us None e tiling n in
       subst (λ x. KeepsTokens s ts us x) k.1 (subst (λ x. KeepsTokens s ts x None) k.0 keeps)
 
-pub layouts_keep : TokensEndAtBoundaries → TilingsAreOne → LayoutsKeepTokens
+pub layouts_keep : TokensEndAtBoundaries → TilingsAreUnique → LayoutsKeepTokens
 layouts_keep bounds one s ts us e u m n = kept bounds s ts u m one us e n
 
 pub layouts_utf8 : TokensEndAtBoundaries → LayoutsAreUtf8
@@ -145,11 +145,11 @@ answered : (s : Setting) (ts : List Token) (e : Option LexFault) → MaximalTili
 answered s ts None m = inl (layout s.text ts, record { tokens = ts; tiling = m; laid = refl })
 answered s ts (Some f) m = inr (f, (ts, m))
 
-pub each_answered : EachPlaceIsTiled → EachTextIsAnswered
+pub each_answered : EachBoundaryHasTiling → EachTextIsAnswered
 each_answered tiled s u = let h = tiled s 0 u (IsCharBoundary-start s.text u) in answered s h.0 h.1 h.2
 
-pub layouts_one : TilingsAreOne → LayoutsAreOne
+pub layouts_one : TilingsAreUnique → LayoutsAreOne
 layouts_one one s a b f g = let k = one s 0 f.tokens g.tokens None None f.tiling g.tiling in f.laid ∙ ap (λ ts. layout s.text ts) k.0 ∙ sym g.laid
 
-pub no_fault : TilingsAreOne → LayoutsHaveNoFault
+pub no_fault : TilingsAreUnique → LayoutsHaveNoFault
 no_fault one s a f g h = let k = one s 0 g.tokens h.0 None (Some f) g.tiling h.1 in let e = k.1 in absurd cc

@@ -1,4 +1,4 @@
--- The pieces of a layout follow each other.
+-- The pieces of a formatted text follow each other.
 use Rattle.std.proofs.Common.{◌≡◌, ◌≢◌, ◌<◌, ℕ, zero, suc, Bool, true, false, eqb, ◌*◌, List, [], ◌∷◌, ◌++◌, replicate, refl, sym, ap, ◌∙◌, subst, inl, inr, arith}
 use Rattle.std.proofs.lemmas.Bool.{false≢true}
 use Rattle.std.proofs.lemmas.Bool.Decides.{nat_tests}
@@ -57,7 +57,7 @@ no_semicolon before Annotation bytes c u h n = run_no_semicolon c h
 no_semicolon before (Integer i) bytes c u h n = run_no_semicolon c h
 no_semicolon before (Float f) bytes c u h n = run_no_semicolon c h
 
--- a word that touches the one before it
+-- A token that touches the one before it.
 touching_follows : (kind : TokenKind) (w r r' : List ℕ) (c : ℕ) (x y : Sort) (g : Gap) → is_white kind ≡ false → (g ≡ Touching → MayFollow kind w (c ∷ r)) → (x ≡ Open → kind ≡ LParen) → (NoComment x → kind ≢ LineComment) → (NoSemicolon y → eqb c semicolon ≡ false)
     → (y ≡ Close → c ≡ close_paren) → Touches x y g → MayFollow kind w (c ∷ r')
 touching_follows kind w r r' c x y g e direct opens comment semi close Touches.stayed = same_first kind w r r' c (direct refl)
@@ -66,14 +66,14 @@ touching_follows kind w r r' c x y g e direct opens comment semi close (Touches.
 touching_follows kind w r r' c x y g e direct opens comment semi close (Touches.closed n) =
     subst (λ d. MayFollow kind w (d ∷ r')) (sym (close refl)) (ends_words kind w r' close_paren e (comment n) (record { no_run = refl; no_semicolon = refl }))
 
--- the piece before, which is a word
+-- The piece before, which is not whitespace.
 pub record After (x : Piece) (s : State) : Type 0 where
   pub before : Option Sort
   pub sort : s.before ≡ Some (sort_of before x.0 x.1)
   pub word : is_white x.0 ≡ false
   pub filled : Filled s.gap
 
--- the pieces from here may follow it, or white space did that is between
+-- The pieces from here may follow it directly, or after whitespace between them.
 pub data Prior : Piece → State → List Piece → Type 0 where
   direct : {x : Piece} {s : State} {ps : List Piece} → s.gap ≡ Touching → MayFollow x.0 (chars x.1) (chars (joined ps)) → Prior x s ps
   apart : {x : Piece} {s : State} {ps : List Piece} → (s.gap ≡ Touching → ⊥) → (x.0 ≡ LineComment → is_break s.gap ≡ true) → (Begins is_whitespace (chars (joined ps)) → ⊥) → Prior x s ps
@@ -107,7 +107,8 @@ laid_end s x e = rw e refl
 pub line_end_is_white : (c : ℕ) → IsTrue (is_line_end c) → IsTrue (is_whitespace c)
 line_end_is_white c h = elim (line_end_cases c h) [ inl e ↦ subst (λ x. is_whitespace x ≡ true) (sym e) refl | inr e ↦ subst (λ x. is_whitespace x ≡ true) (sym e) refl ]
 
--- What is written of a word p after the word x, where these pieces follow it in the text, and those in the layout.
+-- The text that is written for a token `p` after the token `x`, if these pieces follow it in the text, and those in the
+-- formatted text.
 module _ (flags : Settings) (x p : Piece) (ps rest : List Piece) (s : State) (b : After x s) (legal : IsAt flags p.0 p.1 (joined ps)) (word : is_white p.0 ≡ false) (all : AllLegal flags ps) (all' : AllLegal flags rest) (ends : MayFollow p.0 (chars p.1) (chars (joined rest))) where
   abbrev f : First p.0 (chars p.1)
   f = first_of_word p.0 (chars p.1) flags word legal.word
@@ -172,7 +173,7 @@ module _ (flags : Settings) (x p : Piece) (ps rest : List Piece) (s : State) (b 
     follows_gap pr l (gap_before y s) (sym (ap (λ z. gap_after z y s.gap) b.sort)),
   )
 
--- white space after a word
+-- Whitespace after a token.
 apart_by : (x : Piece) (s : State) (bytes : List ℕ) (ps : List Piece) → IsUtf8 (joined ps) → chars bytes ≢ [] → chars bytes ≡ bytes → Each is_whitespace bytes → (Begins is_whitespace (chars (joined ps)) → ⊥) → Prior x s ((Whitespace, bytes) ∷ ps) → Prior x (record s { gap = gap_of bytes }) ps
 apart_by x s [] ps u n e h k pr = absurd (n e)
 apart_by x s (c ∷ w) ps u n e h k (Prior.direct g m) =
@@ -212,7 +213,7 @@ follows flags x s (p ∷ ps) b pr h =
 laid_none : (s : State) → s.before ≡ None → laid_pieces s [] ≡ []
 laid_none s e = rw e refl
 
--- before the first word nothing is written
+-- Nothing is written before the first token.
 pub begins : (flags : Settings) (s : State) (ps : List Piece) → s.before ≡ None → AllLegal flags ps → AllLegal flags (laid_pieces s ps)
 begins flags s [] n h = subst (λ q. AllLegal flags q) (sym (laid_none s n)) tt
 begins flags s (p ∷ ps) n h =

@@ -1,4 +1,5 @@
--- A layout as pieces: they follow each other, but for white space they are those of the text, and laid out again they are the same.
+-- A formatted text as pieces: they follow each other. Except for whitespace they are those of the text, and formatting
+-- them again returns the same pieces.
 use Rattle.std.proofs.Common.{◌≡◌, ◌<◌, ℕ, zero, suc, Bool, true, false, List, [], ◌∷◌, ◌++◌, refl, sym, ap, ◌∙◌, inl, inr, arith, append_assoc}
 use Rattle.std.specs.Prelude.{◌⊎◌, Option, Some, None, is_some, if◌then◌else◌}
 use Rattle.wat_lex.specs.grammar.Classes.{line_feed}
@@ -15,7 +16,7 @@ use Rattle.wat_format.proofs.Follows.{settled_again}
 use Rattle.wat_format.proofs.Pieces.{Piece, pieces, joined}
 use Rattle.wat_format.proofs.WhiteSpace.{Filled, gap_filled, settled_filled, gap_again}
 
--- pieces after white space, or after none
+-- Pieces after whitespace, which may be empty.
 abbrev pub gapped : List ℕ → List Piece → List Piece
 gapped [] ps = ps
 gapped (c ∷ w) ps = (Whitespace, c ∷ w) ∷ ps
@@ -37,7 +38,7 @@ pub joined_gapped : (w : List ℕ) (ps : List Piece) → joined (gapped w ps) �
 joined_gapped [] ps = refl
 joined_gapped (c ∷ w) ps = refl
 
--- they are the layout
+-- The joined pieces are the formatted text.
 pub joined_laid : (text : List ℕ) (s : State) (ts : List Token) → joined (laid_pieces s (pieces text ts)) ≡ laid text s ts
 joined_laid text s [] = elim (is_some s.before) as (λ b. joined (if b then (Whitespace, line_feed ∷ []) ∷ [] else []) ≡ (if b then line_feed ∷ [] else [])) [ true ↦ refl | false ↦ refl ]
 joined_laid text s (t ∷ ts) =
@@ -59,7 +60,7 @@ pub laid_word : (s : State) (p : Piece) (ps : List Piece) → is_white p.0 ≡ f
     (let y = sort_of s.before p.0 p.1 in let g = gap_before y s in let l = line_level y g s in gapped (gap_text g l) (p ∷ laid_pieces (after y l s) ps))
 laid_word s p ps e = rw e refl
 
--- the words alone
+-- The pieces that are not whitespace.
 abbrev pub no_white : List Piece → List Piece
 no_white [] = []
 no_white (p ∷ ps) = if is_white p.0 then no_white ps else p ∷ no_white ps

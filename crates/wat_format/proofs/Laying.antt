@@ -1,4 +1,4 @@
--- What one token adds to a layout.
+-- The text that one token adds to a formatted text.
 use Rattle.std.proofs.Common.{◌≡◌, ◌+◌, ◌-◌, ◌≤◌, ◌<◌, ℕ, false, List, [], ◌∷◌, ◌++◌, take, drop, refl, sym, ap, ◌∙◌, subst, arith, append_assoc}
 use Rattle.std.proofs.lemmas.List.Elements.{All-weaker, All-cons, All-head, All-tail, All-nil}
 use Rattle.std.specs.Prelude.{Result, Ok, Err, OnOk}

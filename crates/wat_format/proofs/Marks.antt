@@ -1,4 +1,4 @@
--- What is marked stays marked: `@` comes directly after a `(` of a layout exactly where it did in the text.
+-- In a formatted text, a `(` is followed immediately by `@` if and only if it is in the text.
 use Rattle.std.proofs.Common.{◌≡◌, ◌≢◌, ◌+◌, ◌<◌, ℕ, zero, suc, Bool, true, false, eqb, List, [], ◌∷◌, ◌++◌, length, drop, refl, sym, ap, ◌∙◌, subst, inl, inr, arith}
 use Rattle.std.proofs.lemmas.Bool.{false≢true}
 use Rattle.std.proofs.lemmas.Bool.Decides.{nat_tests}
@@ -47,7 +47,7 @@ run_at t (Run.none) n e h = n refl
 run_at t (Run.idchar {c = c} {ps = ps} i k) n e h = let f : c ≡ at_sign = cc in run_kind_at ps (subst (λ x. RunKind (Idchar x ∷ ps) Keyword) f h)
 run_at t (Run.string i k) n e h = let f : ◌≡◌ {A = ℕ} quote at_sign = cc in omega arith
 
--- the first byte of a word that may touch the `(` before it
+-- The first byte of a token that may touch the `(` before it.
 pub first_byte : (b c : ℕ) (bytes others : List ℕ) → IsUtf8 (b ∷ bytes) → chars (b ∷ bytes) ≡ c ∷ others → b < 128 → c ≡ b
 first_byte b c bytes others u e lt = char_from_byte (b ∷ bytes) (encode_utf8_all others) c (sym (encodes-chars (b ∷ bytes) u) ∙ ap encode_utf8_all e) lt (omega arith)
 
@@ -93,7 +93,7 @@ white_is_no_at c h = elim (white_cases c h) [
   ]
 ]
 
--- white space is apart, and begins with no `@`
+-- Whitespace is not an empty gap, and does not begin with `@`.
 pub record White (bytes : List ℕ) : Type 0 where
   pub apart : gap_of bytes ≡ Touching → ⊥
   pub no_at : (r : List ℕ) → begins_at (bytes ++ r) ≡ false
@@ -123,7 +123,7 @@ gap_no_at (Blanks (suc m)) l r h n = refl
 gap_no_at LineEnd l r h n = refl
 gap_no_at EmptyLine l r h n = refl
 
--- in a layout after a `(`
+-- The bytes of a formatted text after a `(`.
 pub record AfterOpen (s : State) (ps : List Piece) : Type 0 where
   pub touching : s.gap ≡ Touching → begins_at (joined (laid_pieces s ps)) ≡ begins_at (joined ps)
   pub apart : (s.gap ≡ Touching → ⊥) → begins_at (joined (laid_pieces s ps)) ≡ false
@@ -206,7 +206,7 @@ marks_laid flags s (p ∷ ps) h =
           ]
     ]
 
--- the marks of a text's tokens, and those of the tokens of pieces
+-- The parentheses of a text that are followed immediately by `@`, and those of its pieces, are the same.
 pub marks_of_text : (s : Setting) → IsUtf8 s.text → TokensEndAtBoundaries → (p to : ℕ) (ts : List Token) → IsCharBoundary s.text p → Tiling s p to ts → to ≡ length s.text → marks s.text ts ≡ mark_list (pieces s.text ts)
 marks_of_text s u bounds p to [] b h e = refl
 marks_of_text s u bounds p to (t ∷ ts) b h e =

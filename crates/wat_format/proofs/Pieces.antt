@@ -25,7 +25,7 @@ abbrev pub joined : List Piece → List ℕ
 joined [] = []
 joined (p ∷ ps) = p.1 ++ joined ps
 
--- the bytes are a word of the kind, which may come before these
+-- The bytes are a lexeme of the kind, which may precede these bytes.
 pub record IsAt (flags : Settings) (kind : TokenKind) (bytes rest : List ℕ) : Type 0 where
   pub utf8 : IsUtf8 bytes
   pub word : Word kind (chars bytes) flags
@@ -80,7 +80,7 @@ module _ (s : Setting) (utf8 : IsUtf8 s.text) (bounds : TokensEndAtBoundaries) w
   cut_text p to [] b h e = record { whole = sym (ap (λ n. drop n s.text) (h ∙ e) ∙ drop-length s.text); legal = tt }
   cut_text p to (t ∷ ts) b h e = cut_one p t ts b h.0 (cut_text (t.offset + t.len) to ts (bounds s p t utf8 b h.0) h.1 e)
 
--- the tokens of pieces from a place on
+-- The tokens of pieces from an offset on.
 abbrev pub placed : ℕ → List Piece → List Token
 placed p [] = []
 placed p (q ∷ qs) = record { offset = p; len = length q.1; kind = q.0 } ∷ placed (p + length q.1) qs

@@ -1,4 +1,4 @@
--- Words with white space between them, as pieces.
+-- Tokens with whitespace between them, as pieces.
 use Rattle.std.proofs.Common.{◌≡◌, ◌≢◌, ℕ, true, false, List, [], ◌∷◌, ◌++◌, length, refl, sym, ap, ◌∙◌, subst, inl, inr, arith}
 use Rattle.std.proofs.lemmas.Bool.{false≢true}
 use Rattle.std.proofs.lemmas.Str.{IsCharBoundary-start, IsUtf8-append, IsUtf8-nil, chars-nil}
@@ -37,7 +37,7 @@ no_white_spread flags (x ∷ xs) h =
     let rest : List Piece = gapped x.white (to_pieces xs) in
     ap (λ b. if b then no_white rest else (x.kind, x.bytes) ∷ no_white rest) h.0.no_white ∙ ap (λ v. (x.kind, x.bytes) ∷ v) (no_white_gapped x.white (to_pieces xs) ∙ no_white_spread flags xs h.1)
 
--- the first byte of a word
+-- The first byte of a lexeme.
 pub record FirstByte (bytes : List ℕ) : Type 0 where
   pub byte : ℕ
   pub others : List ℕ
@@ -64,7 +64,7 @@ kind_of_white : (k : TokenKind) → is_white k ≡ true → k ≡ Whitespace
 kind_of_white Whitespace e = refl
 kind_of_white k e = absurd (false≢true e)
 
--- a word and the white space after it come before these pieces
+-- A token and the whitespace after it precede these pieces.
 put : (flags : Settings) (k : TokenKind) (bytes white : List ℕ) (ps : List Piece) → is_white k ≡ false → IsUtf8 bytes → Word k (chars bytes) flags → Each is_whitespace white → AllLegal flags ps → (Begins is_whitespace (chars (joined ps)) → ⊥)
     → (white ≡ [] → MayFollow k (chars bytes) (chars (joined ps))) → (white ≢ [] → k ≡ LineComment → Begins is_line_end white) → AllLegal flags ((k, bytes) ∷ gapped white ps)
 put flags k bytes [] ps e u w h a n direct ended = (record { utf8 = u; word = w; ends = direct refl }, a)
@@ -94,7 +94,7 @@ tail_is_at : (flags : Settings) (white : List ℕ) (ps : List Piece) → AllLega
 tail_is_at flags [] ps a = a
 tail_is_at flags (c ∷ w) ps a = a.1
 
--- legal words may follow each other
+-- Tokens with legal gaps may follow each other.
 legal : (flags : Settings) (xs : List Spaced) → AreSpaced flags xs → AreLegal xs → AllLegal flags (to_pieces xs)
 legal flags [] h l = tt
 legal flags (x ∷ []) h l =
@@ -110,7 +110,7 @@ legal flags (x ∷ y ∷ ys) h l =
     (touch_in x.kind (chars x.bytes) y.kind (chars y.bytes) g.others (g.others ++ chars (joined (gapped y.white (to_pieces ys)))) g.char h.0.no_white (λ k. subst (Begins is_line_end) e (l.0.ended k)) g.cut g.is (l.0.apart e)))
     (λ n e. l.0.ended e)
 
--- words whose pieces are legal are legal
+-- Tokens whose pieces are legal have legal gaps.
 white_ended : (flags : Settings) (v white : List ℕ) (ps : List Piece) → Each is_whitespace white → IsUtf8 (joined ps) → white ≢ [] → MayFollow LineComment v (chars (joined (gapped white ps))) → Begins is_line_end white
 white_ended flags v [] ps h u n m = absurd (n refl)
 white_ended flags v (c ∷ w) ps h u n m =
@@ -145,7 +145,7 @@ words_legal flags (x ∷ y ∷ ys) h a =
       words_legal flags (y ∷ ys) h.1 all,
     )
 
--- Pieces with these words, joined to this text, are these.
+-- Pieces that join to this text, with these tokens, are those of the tokens.
 abbrev first_of : ℕ → List ℕ → ℕ
 first_of d [] = d
 first_of d (x ∷ xs) = x
@@ -171,7 +171,7 @@ spread_no_white : (flags : Settings) (xs : List Spaced) → AreSpaced flags xs �
 spread_no_white flags [] h b = b
 spread_no_white flags (x ∷ xs) h b = no_white_word flags x.kind x.bytes (x.white ++ spread xs) h.0.no_white h.0.utf8 h.0.word b
 
--- white space as it is
+-- A piece of whitespace.
 pub record White (bytes rest : List ℕ) : Type 0 where
   pub some : bytes ≢ []
   pub each : Each is_whitespace bytes
@@ -211,7 +211,7 @@ rest_pieces [] = []
 rest_pieces (p ∷ ps) = ps
 
 module _ (flags : Settings) where
-  -- white space in front is the white space in front
+  -- The first piece of whitespace is the whitespace in front.
   cut_white : (p : Piece) (ps : List Piece) (w : List ℕ) (xs : List Spaced) → is_white p.0 ≡ true → IsAt flags p.0 p.1 (joined ps) → AllLegal flags ps → p.1 ++ joined ps ≡ w ++ spread xs → Each is_whitespace w → AreSpaced flags xs
       → (p.1 ≡ w) × (joined ps ≡ spread xs)
   cut_white p ps w xs e a all j h k =

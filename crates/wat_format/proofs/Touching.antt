@@ -1,4 +1,4 @@
--- Which words may touch, by the first character of the second.
+-- Tokens that may touch, by the first character of the second one.
 use Rattle.std.proofs.Common.{◌≡◌, ◌≢◌, ℕ, true, false, eqb, ◌||◌, List, [], ◌∷◌, refl, sym, ap, ◌∙◌, subst, inl, inr, arith}
 use Rattle.std.proofs.lemmas.Bool.{false≢true, eqb-true}
 use Rattle.std.proofs.lemmas.Bool.Decides.{nat_tests}
@@ -79,7 +79,7 @@ first_run Annotation w others c e h b = tt
 first_run (Integer i) w others c e h b = tt
 first_run (Float f) w others c e h b = tt
 
--- where words do not join, the second may come directly after the first
+-- If tokens do not join, the second one may follow the first one directly.
 pub touch_in : (j : TokenKind) (v : List ℕ) (k : TokenKind) (w others r : List ℕ) (c : ℕ) → is_white j ≡ false → j ≢ LineComment → w ≡ c ∷ others → IsFirst k w c → (Joins j v k w → ⊥) → MayFollow j v (c ∷ r)
 touch_in LineComment v k w others r c e n f h apart = absurd (n refl)
 touch_in BlockComment v k w others r c e n f h apart = tt
@@ -131,7 +131,7 @@ semicolon_begins LineComment w others c e h s = is_semicolon c h
 semicolon_begins Reserved w others c e h s = is_semicolon c (ap (head_of c) (sym e ∙ s))
 semicolon_begins k w others c e h s = absurd s
 
--- where the second comes directly after the first, they do not join
+-- If the second one follows the first one directly, they do not join.
 pub touch_out : (j : TokenKind) (v : List ℕ) (k : TokenKind) (w others r : List ℕ) (c : ℕ) → w ≡ c ∷ others → IsFirst k w c → MayFollow j v (c ∷ r) → Joins j v k w → ⊥
 touch_out j v k w others r c e h m (one_run p q) = run_goes_on j v r c p m (run_begins k w c h q)
 touch_out j v k w others r c e h m (block_comment i s) = (subst (λ x. MayFollow x v (c ∷ r)) i m) (semicolon_begins k w others c e h s)
@@ -160,14 +160,14 @@ white_goes_on c h = elim (white_cases c h) [
   ]
 ]
 
--- white space may follow each word, after a line comment with a line end
+-- Whitespace may follow each token. After a line comment, it must begin with a line end.
 pub white_follows : (j : TokenKind) (v r : List ℕ) (c : ℕ) → is_white j ≡ false → IsTrue (is_whitespace c) → (j ≡ LineComment → IsTrue (is_line_end c)) → MayFollow j v (c ∷ r)
 white_follows j v r c e h f = elim (line_or_not j) [
   | inl k ↦ subst (λ x. MayFollow x v (c ∷ r)) (sym k) (inr (f k))
   | inr n ↦ ends_words j v r c e n (white_goes_on c h)
 ]
 
--- the text's end may follow each word
+-- The end of the text may follow each token.
 pub end_follows : (j : TokenKind) (v : List ℕ) → is_white j ≡ false → MayFollow j v []
 end_follows LineComment v e = inl refl
 end_follows BlockComment v e = tt

@@ -34,7 +34,7 @@ white_utf8 w h = IsUtf8-from_ascii w (ascii_at w h)
 pub white_chars : (w : List ℕ) → Each is_whitespace w → chars w ≡ w
 white_chars w h = sym (chars_from_encodes w w (white_utf8 w h) (encodes-IsAscii w (ascii_at w h)))
 
--- bytes whose characters are white space are these
+-- Bytes whose characters are whitespace are these characters.
 pub white_bytes : (w : List ℕ) → IsUtf8 w → Each is_whitespace (chars w) → chars w ≡ w
 white_bytes w u h = sym (encodes-IsAscii (chars w) (ascii_at (chars w) h)) ∙ encodes-chars w u
 
@@ -48,7 +48,7 @@ each_gap (Blanks n) l = each_blank n
 each_gap LineEnd l = (refl, each_blank (2 * l))
 each_gap EmptyLine l = (refl, (refl, each_blank (2 * l)))
 
--- a gap of blanks has one
+-- A gap of spaces has at least one.
 abbrev pub Filled : Gap → Type 0
 Filled (Blanks n) = 0 < n
 Filled g = Unit {0}
@@ -100,13 +100,13 @@ choice_touching false false zero h = refl
 choice_touching false false (suc n) h =
     let k : Blanks (suc n) ≡ Touching = subst (λ b. (if b then Touching else Blanks (suc n)) ≡ Touching) (not_zero n) h in absurd cc
 
--- white space is no touching
+-- Whitespace is not an empty gap.
 pub white_is_apart : (c : ℕ) (w : List ℕ) → gap_of (c ∷ w) ≡ Touching → ⊥
 white_is_apart c w h =
     let e : length (c ∷ w) ≡ 0 = choice_touching (nat_lt 1 (line_ends 0 (c ∷ w))) (eqb (line_ends 0 (c ∷ w)) 1) (length (c ∷ w)) h in
     omega arith
 
--- white space that begins with a line end is a break
+-- Whitespace that begins with a line end is a line break.
 choice_break : (n m : ℕ) → is_break (if nat_lt 1 (1 + n) then EmptyLine else if eqb (1 + n) 1 then LineEnd else if eqb m 0 then Touching else Blanks m) ≡ true
 choice_break zero m = refl
 choice_break (suc n) m = rw (above_one n) refl

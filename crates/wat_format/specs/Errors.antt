@@ -1,4 +1,4 @@
--- What the errors of formatting print. No part of the standard.
+-- The texts that the errors of formatting display. They are not part of the standard.
 use Rattle.std.specs.Prelude.{ℕ, List, ◌++◌, codes, decimal}
 use Rattle.wat_lex.specs.errors.Messages.{message}
 use Rattle.wat_lex.specs.declared.lexer.faults.LexFault.{LexFault}

@@ -1,4 +1,5 @@
--- What is between two tokens, and what is written in its place: the two tokens decide. No part of the standard.
+-- The gap between two tokens, and the gap with which the formatter replaces it, which depends on the sorts of the two
+-- tokens. Gaps are not part of the standard.
 use Rattle.std.specs.Prelude.{ℕ, ◌+◌, ◌*◌, replicate, Bool, true, false, not, ◌&&◌, ◌||◌, ◌==◌, nat_lt, List, [], ◌∷◌, length, if◌then◌else◌}
 use Rattle.wat_lex.specs.grammar.Classes.{line_feed, carriage_return}
 use Rattle.wat_format.specs.declared.gap.Gap.{Gap}
@@ -6,12 +7,13 @@ use Rattle.wat_format.specs.declared.gap.Gap.TheVariants.{Touching, Blanks, Line
 use Rattle.wat_format.specs.declared.sort.Sort.{Sort}
 use Rattle.wat_format.specs.declared.sort.Sort.TheVariants.{Open, Close, Comment, Mark, At}
 
--- the line ends in white space after the byte p: each LF and each CR, but CR LF is one
+-- `line_ends p w` is the number of line ends in the whitespace `w` after byte `p`: each LF and each CR, but CR LF is
+-- one line end.
 abbrev pub line_ends : ℕ → List ℕ → ℕ
 line_ends p [] = 0
 line_ends p (c ∷ w) = (if c == carriage_return || (c == line_feed && not (p == carriage_return)) then 1 else 0) + line_ends c w
 
--- the gap of the white space between two tokens: how many bytes it has, a line end, or more than one
+-- `gap_of w` is the gap of the whitespace between two tokens: its number of bytes, a line end, or several line ends.
 abbrev pub gap_of : List ℕ → Gap
 gap_of w =
     if nat_lt 1 (line_ends 0 w) then EmptyLine
@@ -28,7 +30,8 @@ abbrev pub kept : Gap → Gap
 kept Touching = Touching
 kept g = Blanks 1
 
--- the gap that is written between two tokens, by the first line that fits
+-- `settled before after gap` is the gap that replaces this one between tokens of these sorts. The first equation that
+-- matches applies.
 abbrev pub settled : Sort → Sort → Gap → Gap
 settled Comment Close g = LineEnd
 settled Comment y g = g
@@ -47,7 +50,7 @@ settled x Mark g = kept g
 settled x Close g = Touching
 settled x y g = Blanks 1
 
--- a gap as it is written before a line of this level
+-- `gap_text gap l` is the text of a gap before a line of level `l`.
 abbrev pub gap_text : Gap → ℕ → List ℕ
 gap_text Touching l = []
 gap_text (Blanks n) l = replicate n 32

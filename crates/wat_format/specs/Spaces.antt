@@ -1,5 +1,6 @@
--- WebAssembly specification, text format, lexical format: tokens, white space, comments. Where white space may go or come between words, which are
--- the tokens other than white space, so that they stay as they are. Each token is the longest that can be there: some words that touch are others.
+-- WebAssembly 2.0, 6.2.2 (tokens), 6.2.3 (whitespace) and 6.2.4 (comments): between which tokens whitespace may be
+-- added or removed, so that the other tokens remain the same. As each token is the longest possible, some tokens
+-- without whitespace between them would be lexed as other tokens.
 use Rattle.std.specs.Prelude.{◌≡◌, ◌⊎◌, ◌↔◌, ℕ, Bool, false, IsFalse, List, [], ◌∷◌, ◌++◌, None, if◌then◌else◌}
 use Rattle.std.specs.Str.{IsUtf8, chars}
 use Rattle.wat_lex.specs.grammar.Classes.{Begins, Each, is_line_end, is_whitespace, semicolon}
@@ -13,7 +14,7 @@ use Rattle.wat_lex.specs.declared.lexer.settings.Settings.{Settings}
 use Rattle.wat_format.specs.Laws.{words, begins_at, is_opening, marks}
 use Rattle.wat_format.specs.Layout.{is_white}
 
--- a word by its kind and bytes, and the white space after it
+-- A token other than whitespace, as its kind and bytes, and the whitespace after it.
 pub record Spaced : Type 0 where
   pub kind : TokenKind
   pub bytes : List ℕ
@@ -37,7 +38,8 @@ abbrev pub AreSpaced : Settings → List Spaced → Type 0
 AreSpaced flags [] = Unit {0}
 AreSpaced flags (x ∷ xs) = IsSpaced flags x × AreSpaced flags xs
 
--- a run of idchars and strings: a string, a name, a keyword, a number, or a reserved word that is no mark
+-- `IsRun kind w`: the token is a run of idchars and string literals, i.e. a string literal, identifier, annotation,
+-- keyword, number, or a reserved token other than a single punctuation character.
 abbrev pub IsRun : TokenKind → List ℕ → Type 0
 IsRun Whitespace w = ⊥
 IsRun LineComment w = ⊥
@@ -47,24 +49,27 @@ IsRun RParen w = ⊥
 IsRun Reserved w = Punctuation w → ⊥
 IsRun kind w = Unit {0}
 
--- `;`, or a line comment
+-- `BeginsWithSemicolon kind w`: the token is `;` or a line comment.
 abbrev pub BeginsWithSemicolon : TokenKind → List ℕ → Type 0
 BeginsWithSemicolon LineComment w = Unit {0}
 BeginsWithSemicolon Reserved w = w ≡ semicolon ∷ []
 BeginsWithSemicolon kind w = ⊥
 
--- The words that may not touch: two runs would be one, `(` and `;` begin a block comment, `;` and `;` a line comment.
+-- `Joins j v k w`: the tokens must not touch. Two runs would be one run, `(` and `;` would begin a block comment, and
+-- `;` and `;` a line comment.
 pub data Joins (j : TokenKind) (v : List ℕ) (k : TokenKind) (w : List ℕ) : Type 0 where
   one_run : IsRun j v → IsRun k w → Joins j v k w
   block_comment : j ≡ LParen → BeginsWithSemicolon k w → Joins j v k w
   line_comment : j ≡ Reserved → v ≡ semicolon ∷ [] → BeginsWithSemicolon k w → Joins j v k w
 
--- Any other two words may touch, and white space may always be between two. After a line comment it begins with a line end.
+-- `IsLegal x y`: the gap between the tokens is legal. All tokens except those of `Joins` may touch, and there may
+-- always be whitespace between two tokens. After a line comment it must begin with a line end.
 pub record IsLegal (x y : Spaced) : Type 0 where
   pub apart : x.white ≡ [] → Joins x.kind (chars x.bytes) y.kind (chars y.bytes) → ⊥
   pub ended : x.kind ≡ LineComment → Begins is_line_end x.white
 
--- after the last word, too, or the text ends with the line comment
+-- `IsLegalEnd x`: the whitespace after the last token is legal. After a line comment, it is empty or begins with a line
+-- end.
 abbrev pub IsLegalEnd : Spaced → Type 0
 IsLegalEnd x = x.kind ≡ LineComment → (x.white ≡ []) ⊎ Begins is_line_end x.white
 
@@ -73,17 +78,19 @@ AreLegal [] = Unit {0}
 AreLegal (x ∷ []) = IsLegalEnd x
 AreLegal (x ∷ y ∷ ys) = IsLegal x y × AreLegal (y ∷ ys)
 
--- the text has no fault, and these are its words
+-- `ReadsAsWords s xs`: the text has no lexical error, and these are its tokens except whitespace.
 pub record ReadsAsWords (s : Setting) (xs : List Spaced) : Type 0 where
   pub tokens : List Token
   pub tiling : MaximalTiling s 0 tokens None
   pub same : words s.text tokens ≡ words_of xs
 
--- Words with white space between them, and in front, are read as these words exactly where each gap is legal.
+-- Theorem: tokens with whitespace between them, and in front, are lexed as these tokens if and only if each gap is
+-- legal.
 abbrev pub GapsAreExact : Type 0
 GapsAreExact = (flags : Settings) (front : List ℕ) (xs : List Spaced) → Each is_whitespace front → AreSpaced flags xs → AreLegal xs ↔ ReadsAsWords (record { text = front ++ spread xs; flags = flags }) xs
 
--- of each `(`, whether it touches a word that begins with `@`
+-- `touches white xs`: after this whitespace, which is empty, the first of these tokens begins with `@`. `touch_marks
+-- xs` tells this for each `(` of the tokens.
 abbrev pub touches : List ℕ → List Spaced → Bool
 touches [] [] = false
 touches [] (y ∷ ys) = begins_at y.bytes
@@ -93,7 +100,8 @@ abbrev pub touch_marks : List Spaced → List Bool
 touch_marks [] = []
 touch_marks (x ∷ xs) = if is_opening x.kind then touches x.white xs ∷ touch_marks xs else touch_marks xs
 
--- Where the words are read so, this is which parentheses are marked. So a gap between `(` and `@` may neither be opened nor closed.
+-- Theorem: if the text is lexed as these tokens, `touch_marks` tells which parentheses are followed immediately by `@`.
+-- So whitespace may neither be added nor removed between `(` and `@`.
 abbrev pub MarksGoByGaps : Type 0
 MarksGoByGaps = (flags : Settings) (front : List ℕ) (xs : List Spaced) → Each is_whitespace front → AreSpaced flags xs
     → (reads : ReadsAsWords (record { text = front ++ spread xs; flags = flags }) xs) → marks (front ++ spread xs) reads.tokens ≡ touch_marks xs

@@ -1,4 +1,4 @@
--- What private functions promise each other.
+-- Definitions for the contracts of private functions.
 pub mod Tests
 pub mod Steps
 pub mod Writing

@@ -1,4 +1,4 @@
-//! Blanks and line ends, as they are written.
+//! Writing of gaps: spaces and line ends.
 ghost use Rattle.std.specs.Prelude.{◌≡◌, ◌≤◌, ◌++◌, OnOk};
 ghost use Rattle.std.specs.Prelude.{string_bytes, replicate};
 ghost use Rattle.wat_format.specs.Gaps.{gap_text};
@@ -6,11 +6,11 @@ ghost use Rattle.wat_format.specs.Gaps.{gap_text};
 use crate::gap::Gap;
 use std::alloc::AllocError;
 
-/// As many blanks as an indentation has at most.
+/// 100 spaces, the longest indentation.
 const BLANKS: &str =
     "                                                                                                    ";
 
-/// So many blanks.
+/// Returns a string of `count` spaces, at most 100.
 fn blanks(count: usize) -> &'static str
     requires { count ≤ 100 }
     ensures { result.now ≡ replicate count 32 }
@@ -18,7 +18,7 @@ fn blanks(count: usize) -> &'static str
     &BLANKS[..count]
 }
 
-/// Writes blanks after a text.
+/// Appends `count` spaces to `out`.
 fn push_blanks(out: &mut String, count: usize) -> Result<(), AllocError>
     ensures { OnOk result (string_bytes out.new ≡ string_bytes out.old ++ replicate count 32) }
 {
@@ -30,7 +30,8 @@ fn push_blanks(out: &mut String, count: usize) -> Result<(), AllocError>
     out.push_str(blanks(left))
 }
 
-/// Writes a gap before a line of this level.
+/// Appends a gap to `out`. If the gap contains a line end, the next line is indented by 2 spaces
+/// for each of its levels.
 pub fn push_gap(out: &mut String, gap: Gap, level: u32) -> Result<(), AllocError>
     requires { level ≤ 50 }
     ensures { OnOk result (string_bytes out.new ≡ string_bytes out.old ++ gap_text gap level) }

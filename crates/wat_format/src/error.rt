@@ -1,16 +1,16 @@
-//! Why a text is not formatted.
+//! Errors of `format`.
 use std::alloc::{AllocError, AllocFailed};
 use std::fmt;
 use wat_lex::lexer::LexFault;
 
-/// Why a text is not formatted.
+/// Reason why a text is not formatted.
 #[derive(Clone, Copy, Debug, PartialEq)]
 pub enum Error {
-    /// A request for memory was refused, by this refusal.
+    /// An allocation failure.
     Memory(AllocError),
-    /// The text has this fault.
+    /// A lexical error in the text.
     Fault(LexFault),
-    /// The text has no fault, but laid out it would have more than `u32::MAX` bytes.
+    /// A text without lexical errors whose formatted text would have more than `u32::MAX` bytes.
     TooLong,
 }
 

@@ -1,18 +1,24 @@
-//! Formatting a whole text.
+//! Formatting of a text into a string.
 ghost use Rattle.std.specs.Prelude.{◌≡◌, ◌≤◌, ◌<◌, ◌^◌, length, IfOk, IfErr, string_bytes};
 ghost use Rattle.std.specs.Str.{IsCharBoundary};
 ghost use Rattle.wat_format.specs.Formatting.{Formatted, Refuses};
-ghost use Rattle.wat_format.specs.inside.Steps.{EndsSo};
+ghost use Rattle.wat_format.specs.inside.Steps.{EndsWithError};
 
 use crate::error::Error;
 use crate::formatter::Formatter;
 use std::alloc::Global;
 use wat_lex::lexer::{Lexer, Settings};
 
-/// The most bytes that an answer has, since places in it are to be `u32`.
+/// Maximum length of a formatted text in bytes, so that its offsets fit in a `u32`.
 const MOST: usize = 4_294_967_295;
 
-/// The text laid out.
+/// Formats a text, and returns the formatted text.
+///
+/// # Errors
+///
+/// Returns `Error::Fault` for the first lexical error of the text. If there is none, returns
+/// `Error::TooLong` if the formatted text would have more than `u32::MAX` bytes. Returns
+/// `Error::Memory` if an allocation fails.
 pub fn format(alloc: Global, text: &str, settings: Settings) -> Result<String, Error>
     requires { length text.now < 2 ^ 32 }
     ensures formatted { IfOk result (λ answer.
@@ -44,10 +50,11 @@ pub fn format(alloc: Global, text: &str, settings: Settings) -> Result<String, E
     Ok(out)
 }
 
-/// The refusal of a text whose layout up to a place is too long.
+/// Returns the error for a text whose formatted text is too long up to offset `pos`: the lexical
+/// error after `pos` if there is one, otherwise `Error::TooLong`.
 fn too_long(lexer: &Lexer<'_>, pos: usize) -> Error
     requires { IsCharBoundary lexer.now.text pos }
-    ensures { EndsSo lexer.now pos result }
+    ensures { EndsWithError lexer.now pos result }
 {
     match lexer.first_fault(pos) {
         Some(fault) => Error::Fault(fault),

@@ -1,4 +1,4 @@
-//! A formatter: it takes the raw tokens of a text one by one, and writes them as they are laid out.
+//! Formatter that accepts the raw tokens of a text one at a time and writes them with their gaps.
 ghost use Rattle.std.specs.Prelude.{◌≡◌, ◌≤◌, ◌<◌, ◌+◌, ◌^◌, ◌++◌, OnOk, [], string_bytes};
 ghost use Rattle.std.specs.Str.{IsCharBoundary};
 ghost use Rattle.wat_format.specs.Gaps.{gap_of};
@@ -13,7 +13,7 @@ use std::alloc::{AllocError, Global};
 use std::marker::Model;
 use wat_lex::lexer::{Token, TokenKind};
 
-/// Where a layout is between two tokens.
+/// State of a formatter between two tokens.
 #[derive(Drop)]
 pub struct Formatter {
     before: Option<Sort>,
@@ -39,7 +39,7 @@ impl Model for Formatter {
 }
 
 impl Formatter {
-    /// A formatter before the first token.
+    /// Returns a formatter before the first token.
     pub fn new(alloc: Global) -> Formatter
         ensures { result ≡ start }
     {
@@ -51,7 +51,8 @@ impl Formatter {
         }
     }
 
-    /// What is written between the token before and one of this sort.
+    /// Returns the gap that is written between the preceding token and one of this sort. It is
+    /// empty before the first token.
     fn gap_before(&self, sort: Sort) -> Gap
         ensures { result ≡ gap_before sort self.now }
     {
@@ -61,7 +62,7 @@ impl Formatter {
         }
     }
 
-    /// The level of the line on which a token of this sort comes after this gap.
+    /// Returns the level of the line that contains a token of this sort after this gap.
     fn line_level(&self, sort: Sort, gap: Gap) -> u32
         ensures level { result ≡ line_level sort gap self.now }
         ensures low { result ≤ 50 }
@@ -73,7 +74,7 @@ impl Formatter {
         }
     }
 
-    /// Goes on after a token of this sort, on a line of this level.
+    /// Advances past a token of this sort, on a line of this level.
     fn pass(&mut self, sort: Sort, line: u32) -> Result<(), AllocError>
         requires line { line ≤ 50 }
         requires few { self.old.groups.open_group.blocks + 1 < 2 ^ 32 }
@@ -86,17 +87,18 @@ impl Formatter {
         Ok(())
     }
 
-    /// Goes on after white space.
+    /// Advances past whitespace, which is the gap after the preceding token.
     fn pass_white(&mut self, white: &str)
         ensures { self.new ≡ record self.old { gap = gap_of white.now } }
     {
         self.gap = gap_of(white.as_bytes());
     }
 
-    /// Writes a token, and what is between the token before and it.
+    /// Writes the gap before a token, and the token.
     fn write(&mut self, out: &mut String, kind: TokenKind, word: &str) -> Result<(), AllocError>
         requires { self.old.groups.open_group.blocks + 1 < 2 ^ 32 }
-        ensures { OnOk result (Writes kind word.now self.old self.new (string_bytes out.old) (string_bytes out.new)) }
+        ensures { OnOk result (Writes kind word.now self.old self.new
+            (string_bytes out.old) (string_bytes out.new)) }
     {
         let sort = sort_of(self.before, kind, word);
         let gap = self.gap_before(sort);
@@ -106,7 +108,7 @@ impl Formatter {
         self.pass(sort, line)
     }
 
-    /// Takes a token of the text.
+    /// Accepts a raw token of the text. Writes it with the gap before it, unless it is whitespace.
     pub fn take(&mut self, out: &mut String, text: &str, token: &Token) -> Result<(), AllocError>
         requires start { IsCharBoundary text.now token.now.offset }
         requires end { IsCharBoundary text.now (token.now.offset + token.now.len) }
@@ -125,9 +127,11 @@ impl Formatter {
         self.write(out, token.kind, word)
     }
 
-    /// Writes the line end after the last token.
+    /// Writes the line end after the last token. Writes nothing if there was no token except
+    /// whitespace.
     pub fn finish(&self, out: &mut String, text: &str) -> Result<(), AllocError>
-        ensures { OnOk result (string_bytes out.new ≡ string_bytes out.old ++ laid text.now self.now []) }
+        ensures { OnOk result (string_bytes out.new
+            ≡ string_bytes out.old ++ laid text.now self.now []) }
     {
         match self.before {
             None => Ok(()),

@@ -1,23 +1,24 @@
-//! What is between two tokens.
+//! Gaps between tokens.
 ghost use Rattle.std.specs.Prelude.{◌≡◌};
 ghost use Rattle.wat_format.specs.Gaps.{gap_of, is_break, kept, settled};
 
 use crate::sort::Sort;
 
-/// What is between two tokens.
+/// Gap between two tokens, i.e. what replaces the whitespace between them.
 #[derive(Clone, Copy)]
 pub enum Gap {
-    /// Nothing.
+    /// No bytes.
     Touching,
-    /// So many blanks.
+    /// A number of spaces, without a line end.
     Blanks(usize),
     /// A line end, and the indentation of the next line.
     LineEnd,
-    /// An empty line before that.
+    /// A line end, an empty line, and the indentation of the next line.
     EmptyLine,
 }
 
-/// The gap of the white space between two tokens.
+/// Returns the gap of the whitespace between two tokens. Line ends are LF, CR and CR LF. Whitespace
+/// without line ends is a gap of as many spaces as it has bytes.
 pub fn gap_of(white: &[u8]) -> Gap
     ensures { result ≡ gap_of white.now }
 {
@@ -41,7 +42,7 @@ pub fn gap_of(white: &[u8]) -> Gap
 }
 
 impl Gap {
-    /// Whether a line ends in it.
+    /// Returns `true` if the gap contains a line end.
     pub fn is_break(self) -> bool
         ensures { result ≡ is_break self }
     {
@@ -51,7 +52,7 @@ impl Gap {
         }
     }
 
-    /// Nothing, where it is nothing, and else a blank.
+    /// Returns `Touching` for `Touching`, otherwise a gap of 1 space.
     fn kept(self) -> Gap
         ensures { result ≡ kept self }
     {
@@ -61,7 +62,7 @@ impl Gap {
         }
     }
 
-    /// What is written in its place between tokens of these sorts.
+    /// Returns the gap that replaces this one between tokens of these sorts.
     pub fn settled(self, before: Sort, after: Sort) -> Gap
         ensures { result ≡ settled before after self }
     {
@@ -73,7 +74,7 @@ impl Gap {
             return if is_off { Gap::Blanks(1) } else { self };
         }
         if before.is_open() {
-            return if after.may_part() {
+            return if after.keeps_space_after_open() {
                 self.kept()
             } else {
                 Gap::Touching

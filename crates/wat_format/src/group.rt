@@ -1,4 +1,4 @@
-//! Groups of tokens in parentheses, and how far their lines are indented.
+//! Groups of tokens in parentheses, and the levels of their lines.
 ghost use Rattle.std.specs.Prelude.{◌≡◌, ◌≤◌, ◌<◌, ◌+◌, ◌^◌, OnOk};
 ghost use Rattle.wat_format.specs.declared.sort.Sort.TheVariants.{Open};
 ghost use Rattle.wat_format.specs.Layout.{closed, groups_after, level, start};
@@ -7,20 +7,20 @@ use crate::sort::Sort;
 use std::alloc::{AllocError, Global};
 use std::marker::Model;
 
-/// The highest level of a line.
+/// Highest level of a line.
 const HIGHEST: u64 = 50;
 
-/// A group.
+/// A group in parentheses, or the whole text.
 #[derive(Clone, Copy)]
 pub struct Group {
-    /// The level of its lines outside of flat blocks.
+    /// Level of its lines outside of flat blocks.
     pub floor: u32,
-    /// How many flat blocks are open in it.
+    /// Number of flat blocks that are open in it.
     pub blocks: u32,
 }
 
 impl Group {
-    /// The level of a line of the group that begins with a token of this sort.
+    /// Returns the level of a line of the group that begins with a token of this sort.
     fn level(self, sort: Sort) -> u32
         ensures level { result ≡ level sort self }
         ensures low { result ≤ 50 }
@@ -36,7 +36,7 @@ impl Group {
     }
 }
 
-/// The open groups, of which each takes eight bytes.
+/// The open groups. Each occupies 8 bytes.
 #[derive(Drop)]
 pub struct Groups {
     inner: Group,
@@ -53,7 +53,7 @@ impl Model for Groups {
 }
 
 impl Groups {
-    /// No group but that of the whole text.
+    /// Returns the groups at the start of a text: only the group of the whole text is open.
     pub fn new(alloc: Global) -> Groups
         ensures { result ≡ start.groups }
     {
@@ -66,7 +66,7 @@ impl Groups {
         }
     }
 
-    /// The level of a line that begins with a token of this sort.
+    /// Returns the level of a line that begins with a token of this sort.
     pub fn level(&self, sort: Sort) -> u32
         ensures level { result ≡ level sort self.now.open_group }
         ensures low { result ≤ 50 }
@@ -87,7 +87,7 @@ impl Groups {
         Ok(())
     }
 
-    /// Closes the inner group, if there is one.
+    /// Closes the innermost group. Does nothing if only the group of the whole text is open.
     fn leave(&mut self)
         ensures { self.new ≡ closed self.old.open_group self.old.around }
     {
@@ -96,7 +96,7 @@ impl Groups {
         }
     }
 
-    /// Goes on after a token of this sort, on a line of this level.
+    /// Advances past a token of this sort, on a line of this level.
     pub fn pass(&mut self, sort: Sort, line: u32) -> Result<(), AllocError>
         requires line { line ≤ 50 }
         requires few { self.old.open_group.blocks + 1 < 2 ^ 32 }

@@ -1,10 +1,11 @@
-//! Laws of layouts, and of white space between words, for every text of UTF-8 and all settings. Each function does nothing: its
-//! contract is the law, for the proofs of crates above.
+//! Theorems about formatted texts, and about whitespace between tokens, for every UTF-8 text and
+//! all settings. The functions have no effect; the contract of each is a theorem for the proofs of
+//! dependent crates.
 ghost use Rattle.wat_format.specs.Laws.{EachTextIsAnswered, LayoutsAreOne, LayoutsHaveNoFault};
 ghost use Rattle.wat_format.specs.Laws.{LayoutsAreUtf8, LayoutsKeepTokens, LayoutsStay};
 ghost use Rattle.wat_format.specs.Spaces.{GapsAreExact, MarksGoByGaps};
 
-/// A text has one layout, or else a fault.
+/// Theorem: each text has either one formatted text or a lexical error.
 pub fn one_answer()
     ensures some { EachTextIsAnswered }
     ensures one { LayoutsAreOne }
@@ -13,8 +14,9 @@ pub fn one_answer()
     wat_lex::laws::one_tiling();
 }
 
-/// The raw tokens of a layout are those of the text, kind by kind and byte by byte in their order,
-/// but for white space, of which none has a blank before a line end.
+/// Theorem: the raw tokens of a formatted text are those of the text, in order, with the same kinds
+/// and bytes, except for whitespace. Its whitespace has no space directly before a line feed. A
+/// formatted text is UTF-8.
 pub fn kept_tokens()
     ensures tokens { LayoutsKeepTokens }
     ensures utf8 { LayoutsAreUtf8 }
@@ -23,15 +25,15 @@ pub fn kept_tokens()
     wat_lex::laws::tokens();
 }
 
-/// A layout that is laid out again stays as it is.
+/// Theorem: formatting is idempotent. A formatted text is its own formatted text.
 pub fn formatted_again()
     ensures { LayoutsStay }
 {
     wat_lex::laws::tokens();
 }
 
-/// Where white space may go or come: words with white space between them are read as these words
-/// exactly where each gap is legal. Which parentheses are marked goes by the gaps too.
+/// Theorem: tokens with whitespace between them are lexed as these tokens if and only if each gap
+/// is legal. The gaps also determine which parentheses are followed immediately by `@`.
 pub fn gaps()
     ensures exact { GapsAreExact }
     ensures marked { MarksGoByGaps }

@@ -1,5 +1,5 @@
-//! A formatter of WebAssembly text that loses nothing: it writes each raw token of a text, comments
-//! among them, byte for byte in its order, and settles only what is between two of them.
+//! Formatter for the WebAssembly text format. It keeps all tokens of a text, including comments,
+//! byte for byte and in order, and replaces only the whitespace between them.
 #![tactic(auto)]
 
 mod blanks;

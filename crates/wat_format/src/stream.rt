@@ -1,4 +1,4 @@
-//! Formatting a text into a sink, a block at a time.
+//! Formatting of a text into a sink, one block at a time.
 ghost use Rattle.std.specs.Prelude.{◌≡◌, ◌<◌, ◌^◌, length, None, OnOk, IfErr, IfSome, IfNone};
 ghost use Rattle.std.specs.Prelude.{string_bytes};
 ghost use Rattle.std.specs.Io.KnownBytes.{Appends};
@@ -11,16 +11,16 @@ use crate::formatter::Formatter;
 use std::alloc::{AllocError, Global};
 use std::fmt;
 use wat_lex::lexer::{LexFault, Lexer, Settings, Token};
-use wat_lines::ends::{Failed, Sink};
+use wat_tokens_io::ends::{Failed, Sink};
 
-/// Why a text was not written.
+/// Reason why a text was not written, or only in part.
 #[derive(Debug, Drop)]
 pub enum WriteError {
-    /// A request for memory was refused, by this refusal.
+    /// An allocation failure. A part of the formatted text may have been written.
     Memory(AllocError),
-    /// The text has this fault, and nothing was written.
+    /// A lexical error in the text. Nothing was written.
     Fault(LexFault),
-    /// A write failed, for this reason.
+    /// A write failure of the sink. A part of the formatted text may have been written.
     Failed(Failed),
 }
 
@@ -54,11 +54,18 @@ impl fmt::Display for WriteError {
     }
 }
 
-/// How many bytes are gathered before they are written.
+/// Length in bytes from which a block is written to the sink.
 const BLOCK: usize = 65_536;
 
-/// Writes the text laid out, however long that is. A text with a fault is refused before anything is
-/// written. It takes memory for the longest token, and eight bytes for each open group.
+/// Formats a text, and writes the formatted text, which may have any length, to `output`. Allocates
+/// a block, which holds up to 65,536 bytes plus the longest token with the gap before it, and 8
+/// bytes for each open group.
+///
+/// # Errors
+///
+/// Returns `WriteError::Fault` for the first lexical error of the text, before anything is written.
+/// Returns `WriteError::Failed` if a write fails, and `WriteError::Memory` if an allocation fails;
+/// then a first part of the formatted text, possibly empty, is written.
 pub fn format_to<W: Sink>(
     alloc: Global,
     text: &str,
@@ -71,18 +78,22 @@ pub fn format_to<W: Sink>(
     ensures refused { IfErr result (RefusesToWrite (record { text = text.now; flags = settings })
         (W.held output.old) (W.held output.new)) }
 
-    // `Failed` comes exactly where a call of the sink failed, with its failure.
+    // Returns `Failed` if and only if a call of the sink failed, with its failure.
     ensures failed { W.failure output.new ≡ failed_after (W.failure output.old) result }
 {
     let lexer = Lexer::with_settings(text, settings);
     match lexer.first_fault(0) {
         Some(fault) => Err(WriteError::Fault(fault)),
-        None => write_laid(alloc, &lexer, output),
+        None => write_formatted(alloc, &lexer, output),
     }
 }
 
-/// Writes the layout of a lexer's text that has no fault.
-fn write_laid<W: Sink>(alloc: Global, lexer: &Lexer<'_>, output: &mut W) -> Result<(), WriteError>
+/// Writes the formatted text of a lexer's text, which must be without lexical errors.
+fn write_formatted<W: Sink>(
+    alloc: Global,
+    lexer: &Lexer<'_>,
+    output: &mut W,
+) -> Result<(), WriteError>
     requires { EndsFrom lexer.now 0 None }
     ensures written { OnOk result
         (AppendsLayout lexer.now (W.held output.old) (W.held output.new)) }
@@ -103,7 +114,8 @@ fn write_laid<W: Sink>(alloc: Global, lexer: &Lexer<'_>, output: &mut W) -> Resu
     write_bytes(output, block.as_bytes())
 }
 
-/// The token at a place of a lexer's text that has no fault, or None at its end.
+/// Lexes the token at `pos` in a text without lexical errors. Returns `None` at the end of the
+/// text.
 fn next_token(lexer: &Lexer<'_>, pos: usize) -> Option<Token>
     requires boundary { IsCharBoundary lexer.now.text pos }
     requires ends { EndsFrom lexer.now pos None }
@@ -116,7 +128,7 @@ fn next_token(lexer: &Lexer<'_>, pos: usize) -> Option<Token>
     }
 }
 
-/// Writes a block, and makes it empty, where it is full.
+/// Writes a block and clears it if it has at least `BLOCK` bytes.
 fn write_if_full<W: Sink>(output: &mut W, block: &mut String) -> Result<(), WriteError>
     ensures drained { OnOk result (Drains (W.held output.old) (W.held output.new)
         (string_bytes block.old) (string_bytes block.new)) }
@@ -132,7 +144,7 @@ fn write_if_full<W: Sink>(output: &mut W, block: &mut String) -> Result<(), Writ
     Ok(())
 }
 
-/// Writes all the bytes.
+/// Writes all the bytes to the sink.
 fn write_bytes<W: Sink>(output: &mut W, bytes: &[u8]) -> Result<(), WriteError>
     ensures bytes { OnOk result (Appends (W.held output.old) (W.held output.new) bytes.now) }
     ensures cut { IfErr result (StopsShort (W.held output.old) (W.held output.new) bytes.now) }

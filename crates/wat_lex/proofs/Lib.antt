@@ -1,6 +1,7 @@
 mod grammar
-pub mod tokens
+mod tokens
 mod values
 mod errors
 mod binary
 mod inside
+pub mod lemmas

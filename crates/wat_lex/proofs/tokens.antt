@@ -1,4 +1,4 @@
--- Lemmas on the tokens of a text: that there is one tiling, its faults, its laws, cuts and moves.
+-- Lemmas on the tokens of a text: unique tilings, lexical errors, theorems on raw tokens, cuts and moves.
 pub mod Scans
 pub mod BareWords
 pub mod QuotedNames

@@ -1,3 +1,3 @@
--- The binary format: integers, lists and texts as bytes.
+-- WebAssembly 2.0, chapter 5 (binary format): the encodings of integers, lists and texts.
 pub mod Encoding
 pub mod Leb128

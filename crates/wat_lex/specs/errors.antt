@@ -1,4 +1,4 @@
--- Errors as their callers see them: messages, positions, and the line that is shown.
+-- Errors as their callers see them: messages, positions, and the excerpt of the source line.
 pub mod Messages
 pub mod Positions
 pub mod LineFeeds

@@ -1,4 +1,5 @@
--- The language of the text format: characters, comments, strings, numbers, runs, and the words of each kind of token.
+-- WebAssembly 2.0, 6.2 (lexical format) and 6.3 (values): characters, comments, strings, numbers, runs, and the
+-- language of each kind of token.
 pub mod Classes
 pub mod Comments
 pub mod Strings

@@ -1,4 +1,5 @@
--- What private functions of the lexer promise each other. No public contract names it.
+-- Contracts between private functions of the lexer. No public contract cites these definitions directly; of the other
+-- definitions only `quoted_name_len` uses one of them, `is_plain`.
 pub mod ScannedNumbers
 pub mod ScannedStrings
 pub mod StringParts

@@ -1,2 +1,3 @@
--- What follows from the definitions, for proofs here and in crates above. Nobody has to read it to know what is promised.
+-- Consequences of the definitions, for proofs of this crate and of dependent crates. No contract needs them to be
+-- understood.
 pub mod Lengths

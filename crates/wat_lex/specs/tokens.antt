@@ -1,4 +1,4 @@
--- The tokens of a text: where they are, how they tile it, how it goes wrong, and what holds of all of them.
+-- The tokens of a source text: settings, tilings, lexical errors and error recovery, and the theorems about them.
 pub mod Setting
 pub mod Blanks
 pub mod BareWords

@@ -1,4 +1,4 @@
--- What the words of tokens read as.
+-- The values of tokens.
 pub mod NumberValues
 pub mod Names
 pub mod UniqueValues

@@ -1,4 +1,4 @@
-//! Values as bytes of the binary format.
+//! Encoding of values in the binary format.
 
 ghost use Rattle.std.specs.Prelude.{◌≡◌, ◌++◌, ◌^◌, ◌<◌, ◌≤◌, ◌↔◌, ℕ, List, [], ◌∷◌};
 ghost use Rattle.std.specs.Prelude.{IsErrOf, IsTrue, OnErr, OnOk};
@@ -11,10 +11,10 @@ ghost use Rattle.wat_lex.specs.binary.Leb128.{low_bits_of, signed_leb128, unsign
 
 use std::alloc::{AllocError, AllocFailed};
 
-/// Why a value was not encoded.
+/// The reason why a value was not encoded.
 #[derive(Clone, Copy, Debug, PartialEq, Eq)]
 pub enum EncodeError {
-    /// A request for memory was refused.
+    /// An allocation failure.
     Memory,
     /// A length or a `usize` is above `u32::MAX`.
     TooLong,
@@ -26,6 +26,7 @@ impl From<AllocError> for EncodeError {
 
     ghost from_gives = { λ _ error. error ≡ Memory };
 
+    /// Converts an allocation failure to `EncodeError::Memory`.
     fn from(_: AllocError) -> EncodeError {
         EncodeError::Memory
     }
@@ -37,27 +38,31 @@ impl<T: Drop> From<AllocFailed<T>> for EncodeError {
 
     ghost from_gives = { λ _ error. error ≡ Memory };
 
+    /// Converts an allocation failure to `EncodeError::Memory`, and drops the value.
     fn from(failed: AllocFailed<T>) -> EncodeError {
         EncodeError::from(AllocError::from(failed))
     }
 }
 
-/// A value that the binary format has bytes for.
+/// A value that has an encoding in the binary format.
 pub trait Encode {
-    /// The bytes of a value.
+    /// The encoding of a value, as bytes.
     ghost encoding: { Self → List ℕ };
 
-    /// Each length and each `usize` in a value is at most `u32::MAX`.
+    /// The condition that each length and each `usize` in a value is at most `u32::MAX`.
     ghost fits: { Self → Type 0 };
 
-    /// Whether each length and each `usize` in the value is at most `u32::MAX`. Types that hold
-    /// none answer true.
+    /// Returns `true` if each length and each `usize` in the value is at most `u32::MAX`, and for
+    /// types without any.
     fn fits(&self) -> bool
         ensures { IsTrue result ↔ fits self.now };
 
-    /// Appends the bytes of the value. A refusal leaves the buffer as it was.
+    /// Appends the encoding of the value. The buffer is unchanged on an error.
     ///
-    /// A value that has no bytes is refused as `TooLong`, whatever memory there is.
+    /// # Errors
+    ///
+    /// Returns [`EncodeError::TooLong`] if and only if the value does not fit, and
+    /// [`EncodeError::Memory`] if an allocation fails for a value that fits.
     fn encode(&self, e: &mut Vec<u8>) -> Result<(), EncodeError>
         ensures ok { OnOk result (e.new.items ≡ e.old.items ++ encoding self.now) }
         ensures fitting { OnOk result (fits self.now) }
@@ -66,8 +71,9 @@ pub trait Encode {
         ensures err { OnErr result (e.new.items ≡ e.old.items) };
 }
 
-/// What a write answered, after the bytes of a refused one were taken back.
-fn taken_back(
+/// Truncates the buffer to `start`, its length before a write, if the write failed. Returns the
+/// result of the write.
+fn truncate_on_error(
     written: Result<(), EncodeError>,
     start: usize,
     e: &mut Vec<u8>,
@@ -82,7 +88,7 @@ fn taken_back(
     written
 }
 
-/// Appends the unsigned LEB128 bytes of a number, of which a refusal leaves some.
+/// Appends the unsigned LEB128 encoding of an integer. A part of it may remain on an error.
 fn push_unsigned(mut rest: u64, e: &mut Vec<u8>) -> Result<(), EncodeError>
     ensures ok { OnOk result (e.new.items ≡ e.old.items ++ unsigned_leb128 rest) }
     ensures memory { OnErr result (result ≡ Err EncodeError.Memory) }
@@ -96,7 +102,7 @@ fn push_unsigned(mut rest: u64, e: &mut Vec<u8>) -> Result<(), EncodeError>
     Ok(())
 }
 
-/// Appends the signed LEB128 bytes of a number, of which a refusal leaves some.
+/// Appends the signed LEB128 encoding of an integer. A part of it may remain on an error.
 fn push_signed(mut rest: i64, e: &mut Vec<u8>) -> Result<(), EncodeError>
     ensures ok { OnOk result (e.new.items ≡ e.old.items ++ signed_leb128 rest) }
     ensures memory { OnErr result (result ≡ Err EncodeError.Memory) }
@@ -110,19 +116,21 @@ fn push_signed(mut rest: i64, e: &mut Vec<u8>) -> Result<(), EncodeError>
     Ok(())
 }
 
+/// Returns the 7 least significant bits of an integer.
 fn low_bits(number: i64) -> u8
     ensures { result ≡ low_bits_of number }
 {
     (number & 0x7f) as u8
 }
 
+/// Returns an integer shifted right by 7 bits, arithmetically.
 fn high_bits(number: i64) -> i64
     ensures { result ≡ high_bits_of number }
 {
     number >> 7
 }
 
-/// Appends the unsigned LEB128 bytes of a number.
+/// Appends the unsigned LEB128 encoding of an integer. The buffer is unchanged on an error.
 fn encode_unsigned(number: u64, e: &mut Vec<u8>) -> Result<(), EncodeError>
     ensures ok { OnOk result (e.new.items ≡ e.old.items ++ unsigned_leb128 number) }
     ensures memory { OnErr result (result ≡ Err EncodeError.Memory) }
@@ -130,10 +138,10 @@ fn encode_unsigned(number: u64, e: &mut Vec<u8>) -> Result<(), EncodeError>
 {
     let start = e.len();
     let written = push_unsigned(number, e);
-    taken_back(written, start, e)
+    truncate_on_error(written, start, e)
 }
 
-/// Appends the signed LEB128 bytes of a number.
+/// Appends the signed LEB128 encoding of an integer. The buffer is unchanged on an error.
 fn encode_signed(number: i64, e: &mut Vec<u8>) -> Result<(), EncodeError>
     ensures ok { OnOk result (e.new.items ≡ e.old.items ++ signed_leb128 number) }
     ensures memory { OnErr result (result ≡ Err EncodeError.Memory) }
@@ -141,17 +149,17 @@ fn encode_signed(number: i64, e: &mut Vec<u8>) -> Result<(), EncodeError>
 {
     let start = e.len();
     let written = push_signed(number, e);
-    taken_back(written, start, e)
+    truncate_on_error(written, start, e)
 }
 
-/// Whether a length is at most `u32::MAX`.
+/// Returns `true` if a length is at most `u32::MAX`.
 fn length_fits(length: usize) -> bool
     ensures { IsTrue result ↔ (length < 2 ^ 32) }
 {
     u32::try_from(length).is_ok()
 }
 
-/// Appends a length, of which a refusal leaves nothing.
+/// Appends a length as an unsigned LEB128 integer. The buffer is unchanged on an error.
 fn encode_length(length: usize, e: &mut Vec<u8>) -> Result<(), EncodeError>
     ensures ok { OnOk result (e.new.items ≡ e.old.items ++ unsigned_leb128 length) }
     ensures fitting { OnOk result (length < 2 ^ 32) }
@@ -165,6 +173,7 @@ fn encode_length(length: usize, e: &mut Vec<u8>) -> Result<(), EncodeError>
     encode_unsigned(length as u64, e)
 }
 
+/// A `u8` is encoded as one byte.
 impl Encode for u8 {
     ghost use Rattle.std.specs.Prelude.{[], ◌∷◌};
 
@@ -186,7 +195,7 @@ impl Encode for u8 {
     }
 }
 
-/// In the shortest form of unsigned LEB128.
+/// A `u32` is encoded as the shortest unsigned LEB128 integer.
 impl Encode for u32 {
     ghost use Rattle.wat_lex.specs.binary.Leb128.{unsigned_leb128};
 
@@ -203,14 +212,14 @@ impl Encode for u32 {
         ensures memory { OnErr result (result ≡ Err EncodeError.Memory) }
         ensures err { OnErr result (e.new.items ≡ e.old.items) }
 
-        // The bytes decode to the number, no shorter ones do, and no others as long.
+        // The bytes are the unique shortest encoding of the integer.
         ensures law { IsUnsignedEncoded self.now }
     {
         encode_unsigned(u64::from(*self), e)
     }
 }
 
-/// In the shortest form of unsigned LEB128.
+/// A `u64` is encoded as the shortest unsigned LEB128 integer.
 impl Encode for u64 {
     ghost use Rattle.wat_lex.specs.binary.Leb128.{unsigned_leb128};
 
@@ -227,14 +236,14 @@ impl Encode for u64 {
         ensures memory { OnErr result (result ≡ Err EncodeError.Memory) }
         ensures err { OnErr result (e.new.items ≡ e.old.items) }
 
-        // The bytes decode to the number, no shorter ones do, and no others as long.
+        // The bytes are the unique shortest encoding of the integer.
         ensures law { IsUnsignedEncoded self.now }
     {
         encode_unsigned(*self, e)
     }
 }
 
-/// In the shortest form of signed LEB128.
+/// An `i32` is encoded as the shortest signed LEB128 integer.
 impl Encode for i32 {
     ghost use Rattle.wat_lex.specs.binary.Leb128.{signed_leb128};
 
@@ -251,14 +260,14 @@ impl Encode for i32 {
         ensures memory { OnErr result (result ≡ Err EncodeError.Memory) }
         ensures err { OnErr result (e.new.items ≡ e.old.items) }
 
-        // The bytes decode to the number, no shorter ones do, and no others as long.
+        // The bytes are the unique shortest encoding of the integer.
         ensures law { IsSignedEncoded self.now }
     {
         encode_signed(i64::from(*self), e)
     }
 }
 
-/// In the shortest form of signed LEB128.
+/// An `i64` is encoded as the shortest signed LEB128 integer.
 impl Encode for i64 {
     ghost use Rattle.wat_lex.specs.binary.Leb128.{signed_leb128};
 
@@ -275,14 +284,14 @@ impl Encode for i64 {
         ensures memory { OnErr result (result ≡ Err EncodeError.Memory) }
         ensures err { OnErr result (e.new.items ≡ e.old.items) }
 
-        // The bytes decode to the number, no shorter ones do, and no others as long.
+        // The bytes are the unique shortest encoding of the integer.
         ensures law { IsSignedEncoded self.now }
     {
         encode_signed(*self, e)
     }
 }
 
-/// As the `u32` of its value.
+/// A `usize` is encoded like the `u32` of the same value.
 impl Encode for usize {
     ghost use Rattle.std.specs.Prelude.{◌<◌, ◌^◌};
     ghost use Rattle.wat_lex.specs.binary.Leb128.{unsigned_leb128};
@@ -302,15 +311,15 @@ impl Encode for usize {
         ensures memory { IsErrOf result EncodeError.Memory → self.now < 2 ^ 32 }
         ensures err { OnErr result (e.new.items ≡ e.old.items) }
 
-        // The bytes decode to the number, no shorter ones do, and no others as long.
+        // The bytes are the unique shortest encoding of the integer.
         ensures law { IsUnsignedEncoded self.now }
     {
         encode_length(*self, e)
     }
 }
 
-/// Whether a list has bytes: its length, and each length and each `usize` in its items, is at most
-/// `u32::MAX`.
+/// Returns `true` if a list has an encoding: its length, and each length and each `usize` in its
+/// items, is at most `u32::MAX`.
 pub fn slice_fits<T: Encode>(items: &[T]) -> bool
     ensures { IsTrue result ↔ ListFits T.fits items.now }
 {
@@ -325,10 +334,13 @@ pub fn slice_fits<T: Encode>(items: &[T]) -> bool
     true
 }
 
-/// Appends a list: how many items it has, as a `u32`, and then each of them.
+/// Appends the encoding of a list: its length as a `u32`, and then its items. The buffer is
+/// unchanged on an error.
 ///
-/// A refusal leaves the buffer as it was. A list that has no bytes is refused as `TooLong`,
-/// whatever memory there is.
+/// # Errors
+///
+/// Returns [`EncodeError::TooLong`] if and only if the list does not fit, and
+/// [`EncodeError::Memory`] if an allocation fails for a list that fits.
 pub fn encode_slice<T: Encode>(items: &[T], e: &mut Vec<u8>) -> Result<(), EncodeError>
     ensures ok { OnOk result (e.new.items ≡ e.old.items ++ list_encoding T.encoding items.now) }
     ensures fitting { OnOk result (ListFits T.fits items.now) }
@@ -337,7 +349,7 @@ pub fn encode_slice<T: Encode>(items: &[T], e: &mut Vec<u8>) -> Result<(), Encod
     ensures memory { IsErrOf result EncodeError.Memory → ListFits T.fits items.now }
     ensures err { OnErr result (e.new.items ≡ e.old.items) }
 
-    // The leading bytes decode to the length, no shorter ones do, and no others as long.
+    // The leading bytes are the unique shortest encoding of the length.
     ensures law { IsUnsignedEncoded (length items.now) }
 {
     if !slice_fits(items) {
@@ -345,10 +357,11 @@ pub fn encode_slice<T: Encode>(items: &[T], e: &mut Vec<u8>) -> Result<(), Encod
     }
     let start = e.len();
     let written = push_items(items, e);
-    taken_back(written, start, e)
+    truncate_on_error(written, start, e)
 }
 
-/// Appends a list, of which a refusal leaves a part.
+/// Appends the encoding of a list: its length as a `u32`, and then its items. A part of it may
+/// remain on an error.
 fn push_items<T: Encode>(items: &[T], e: &mut Vec<u8>) -> Result<(), EncodeError>
     ensures ok { OnOk result (e.new.items ≡ e.old.items ++ list_encoding T.encoding items.now) }
     ensures too_long { IsErrOf result EncodeError.TooLong → ¬ ListFits T.fits items.now }
@@ -361,17 +374,20 @@ fn push_items<T: Encode>(items: &[T], e: &mut Vec<u8>) -> Result<(), EncodeError
     Ok(())
 }
 
-/// Whether a text has bytes: its length in bytes is at most `u32::MAX`.
+/// Returns `true` if a text has an encoding: its length in bytes is at most `u32::MAX`.
 pub fn str_fits(text: &str) -> bool
     ensures { IsTrue result ↔ TextFits text.now }
 {
     length_fits(text.len())
 }
 
-/// Appends a text: how many bytes it has, as a `u32`, and then these.
+/// Appends the encoding of a text: its length in bytes as a `u32`, and then its bytes. The buffer
+/// is unchanged on an error.
 ///
-/// A refusal leaves the buffer as it was. A text that has no bytes is refused as `TooLong`,
-/// whatever memory there is.
+/// # Errors
+///
+/// Returns [`EncodeError::TooLong`] if and only if the text does not fit, and
+/// [`EncodeError::Memory`] if an allocation fails for a text that fits.
 pub fn encode_str(text: &str, e: &mut Vec<u8>) -> Result<(), EncodeError>
     ensures ok { OnOk result (e.new.items ≡ e.old.items ++ text_encoding text.now) }
     ensures fitting { OnOk result (TextFits text.now) }
@@ -379,15 +395,16 @@ pub fn encode_str(text: &str, e: &mut Vec<u8>) -> Result<(), EncodeError>
     ensures memory { IsErrOf result EncodeError.Memory → TextFits text.now }
     ensures err { OnErr result (e.new.items ≡ e.old.items) }
 
-    // The leading bytes decode to the length, no shorter ones do, and no others as long.
+    // The leading bytes are the unique shortest encoding of the length.
     ensures law { IsUnsignedEncoded (length text.now) }
 {
     let start = e.len();
     let written = push_text(text, e);
-    taken_back(written, start, e)
+    truncate_on_error(written, start, e)
 }
 
-/// Appends a text, of which a refusal leaves a part.
+/// Appends the encoding of a text: its length in bytes as a `u32`, and then its bytes. A part of it
+/// may remain on an error.
 fn push_text(text: &str, e: &mut Vec<u8>) -> Result<(), EncodeError>
     ensures ok { OnOk result (e.new.items ≡ e.old.items ++ text_encoding text.now) }
     ensures fitting { OnOk result (TextFits text.now) }
@@ -400,6 +417,7 @@ fn push_text(text: &str, e: &mut Vec<u8>) -> Result<(), EncodeError>
     Ok(())
 }
 
+/// A `Vec` is encoded as the list of its items.
 impl<T: Encode> Encode for Vec<T> {
     ghost use Rattle.wat_lex.specs.binary.Encoding.{ListFits, vec_encoding};
 
@@ -419,13 +437,14 @@ impl<T: Encode> Encode for Vec<T> {
         ensures memory { IsErrOf result EncodeError.Memory → ListFits T.fits self.now.items }
         ensures err { OnErr result (e.new.items ≡ e.old.items) }
 
-        // The leading bytes decode to the length, no shorter ones do, and no others as long.
+        // The leading bytes are the unique shortest encoding of the length.
         ensures law { IsUnsignedEncoded (vec_len self.now) }
     {
         encode_slice(self.as_slice(), e)
     }
 }
 
+/// A `String` is encoded as its text.
 impl Encode for String {
     ghost use Rattle.wat_lex.specs.binary.Encoding.{StringFits, string_encoding};
 
@@ -444,13 +463,14 @@ impl Encode for String {
         ensures memory { IsErrOf result EncodeError.Memory → StringFits self.now }
         ensures err { OnErr result (e.new.items ≡ e.old.items) }
 
-        // The leading bytes decode to the length, no shorter ones do, and no others as long.
+        // The leading bytes are the unique shortest encoding of the length.
         ensures law { IsUnsignedEncoded (length (string_bytes self.now)) }
     {
         encode_str(self.as_str(), e)
     }
 }
 
+/// A reference is encoded as the value that it refers to.
 impl<'a, T: Encode> Encode for &'a T {
     ghost encoding = { λ value. T.encoding value.now };
 
@@ -465,6 +485,7 @@ impl<'a, T: Encode> Encode for &'a T {
     }
 }
 
+/// A `Box` is encoded as its value.
 impl<T: Encode> Encode for Box<T> {
     ghost encoding = { λ value. T.encoding value.value };
 
@@ -479,7 +500,7 @@ impl<T: Encode> Encode for Box<T> {
     }
 }
 
-/// The first part, and then the second.
+/// A pair is encoded as its first part, and then its second.
 impl<T: Encode, U: Encode> Encode for (T, U) {
     ghost use Rattle.std.specs.Prelude.{◌++◌};
 
@@ -498,11 +519,11 @@ impl<T: Encode, U: Encode> Encode for (T, U) {
         let start = e.len();
         self.0.encode(e)?;
         let written = self.1.encode(e);
-        taken_back(written, start, e)
+        truncate_on_error(written, start, e)
     }
 }
 
-/// The first part, the second, and then the third.
+/// A triple is encoded as its first part, its second, and then its third.
 impl<T: Encode, U: Encode, V: Encode> Encode for (T, U, V) {
     ghost use Rattle.std.specs.Prelude.{◌++◌};
 

@@ -1,4 +1,4 @@
-//! Errors.
+//! Errors of the lexer and of parsers, printed with the source line that they are about.
 ghost use Rattle.std.specs.Prelude.{◌≡◌, ◌↔◌, Some, None, IsTrue, IsNone, IsSome, IsOk, IfOk, OnOk};
 ghost use Rattle.std.specs.Prelude.{OnErr, IfSome, string_bytes};
 ghost use Rattle.std.specs.Option.{option_copied};
@@ -24,35 +24,39 @@ mod text;
 pub use rendered::Rendered;
 use text::Text;
 
-/// What went wrong, and where: a fault of the text, a message, or an out-of-memory error.
+/// An error at a byte offset: a lexical error, a custom message, or an allocation failure.
 ///
-/// Once it has been given the text, it prints the line that it is about, with a marker under the
+/// Once it has the source text, it prints the line that it is about, with a marker under the
 /// column.
 #[derive(Debug, Drop)]
 pub struct Error {
+    /// The cause, with what is known of the source.
     kind: Kind,
 }
 
-// Room for an error is cleared for each token that is handed on, so what a fault keeps is after
-// one box. A message without a text is not: `Error::new` can't be refused.
+// The space for an error is cleared for every token that is returned, so everything that a lexical
+// error owns is in one box. A message without a text is not boxed, since `Error::new` must not
+// fail.
 #[derive(Debug, Drop)]
 enum Kind {
-    /// A request for memory was refused, by this refusal.
+    /// An allocation failure.
     Memory(AllocError),
-    /// A message without a text.
+    /// A custom message without a source text.
     Plain { span: Span, message: String },
-    /// A lexical error or a message, with its text.
+    /// A lexical error or a custom message, with its source line.
     InText(Box<Located>),
 }
 
-/// What went wrong at a place of a text.
+/// A lexical error or a custom message at a position, with its source line.
 #[derive(Debug, Drop)]
 struct Located {
     span: Span,
     reason: Reason,
+    /// The source line, and the line and column of the position.
     text: Text,
 }
 
+/// The cause of an error.
 #[derive(Debug, Drop)]
 enum Reason {
     Lex(LexError),
@@ -71,8 +75,8 @@ impl Model for Error {
 }
 
 impl Error {
-    /// An error of one's own at a position. It has no text;
-    /// [`set_text`](Error::set_text) gives it one.
+    /// Creates an error with a custom message at a position. It has no source text until
+    /// [`set_text`](Error::set_text) attaches one. Does not allocate.
     pub fn new(span: Span, message: String) -> Error
         ensures { result ≡ Some (record {
           offset = span;
@@ -85,7 +89,8 @@ impl Error {
         }
     }
 
-    /// The error of a fault of the text `content`, or an out-of-memory error.
+    /// Creates the error for a lexical error of the source text `content`, of which it copies one
+    /// line. Returns the out-of-memory error if an allocation fails.
     pub fn lex(alloc: Global, span: Span, content: &str, error: LexError) -> Error
         ensures report { IsUnlessMemory result (
             lexical content.now (record { offset = span; error = error })) }
@@ -95,7 +100,8 @@ impl Error {
         Error::in_text(alloc, span, content, Reason::Lex(error))
     }
 
-    /// An error of one's own at a position of the text `content`, or an out-of-memory error.
+    /// Creates an error with a custom message at a position of the source text `content`, of which
+    /// it copies one line. Returns the out-of-memory error if an allocation fails.
     pub fn parse(alloc: Global, span: Span, content: &str, message: String) -> Error
         ensures report { IsUnlessMemory result (
             report_in content.now span (Custom (string_bytes message))) }
@@ -105,7 +111,8 @@ impl Error {
         Error::in_text(alloc, span, content, Reason::Message(message))
     }
 
-    /// The error of a reason with its text, or an out-of-memory error.
+    /// Creates the error for a cause at a position of the source text `content`, of which it copies
+    /// one line. Returns the out-of-memory error if an allocation fails.
     fn in_text(alloc: Global, span: Span, content: &str, reason: Reason) -> Error
         ensures { IsUnlessMemory result (report_in content.now span (cause_of reason)) }
     {
@@ -117,8 +124,12 @@ impl Error {
         }
     }
 
-    /// Gives the error the text that it is about, unless it has one or is the out-of-memory error.
-    /// Where that finds no memory the error is as it was.
+    /// Attaches the source text, of which the error copies one line. Does nothing if the error has
+    /// a text already, or is the out-of-memory error.
+    ///
+    /// # Errors
+    ///
+    /// Returns the allocation failure. The error is then unchanged.
     pub fn set_text(&mut self, alloc: Global, contents: &str) -> Result<(), AllocError>
         ensures set { OnOk result (self.new ≡ with_text contents.now self.old) }
         ensures kept { OnErr result (self.new ≡ self.old) }
@@ -129,28 +140,28 @@ impl Error {
         };
         let empty = Reason::Message(String::new(alloc));
         let mut located = Located::new(alloc, *span, contents, empty)?;
-        // Nothing more can be refused, so the message may leave its place.
+        // No allocation fails from here on, so the message can be moved.
         located.reason = Reason::Message(mem::replace(message, String::new(alloc)));
         self.kind = Kind::InText(located);
         Ok(())
     }
 
-    /// The error that stands for a refused request for memory, for callers who have no refusal in
-    /// hand. Where there is one, `?` and [`From`] make the error of it.
+    /// Creates the out-of-memory error, for callers that have no `AllocError`. With one, `?` and
+    /// [`From`] convert it.
     pub fn out_of_memory() -> Error
         ensures { result ≡ None }
     {
         Error::from(AllocError)
     }
 
-    /// Whether a request for memory was refused.
+    /// Returns `true` if this is the out-of-memory error.
     pub fn is_out_of_memory(&self) -> bool
         ensures { IsTrue result ↔ IsNone self.now }
     {
         matches!(&self.kind, Kind::Memory(_))
     }
 
-    /// The refusal of a request for memory, where the error is one.
+    /// Returns the allocation failure, or `None` if this is another error.
     pub fn alloc_error(&self) -> Option<AllocError>
         ensures { IsSome result ↔ IsNone self.now }
     {
@@ -160,7 +171,7 @@ impl Error {
         }
     }
 
-    /// Where the error is; the text's start for an out-of-memory error.
+    /// Returns the position of the error, which is offset 0 for the out-of-memory error.
     pub fn span(&self) -> Span
         ensures { result ≡ offset_of self.now }
     {
@@ -171,7 +182,7 @@ impl Error {
         }
     }
 
-    /// The fault of the text, where the error is one.
+    /// Returns the lexical error, or `None` if this is another error.
     pub fn lex_error(&self) -> Option<&LexError>
         ensures { option_copied result ≡ lex_error_of self.now }
     {
@@ -184,7 +195,11 @@ impl Error {
         }
     }
 
-    /// What went wrong, without the position.
+    /// Returns the message, without the position and the source line.
+    ///
+    /// # Errors
+    ///
+    /// Returns the allocation failure if the message cannot be copied.
     pub fn message(&self, alloc: Global) -> Result<String, AllocError>
         ensures { IfOk result (λ text. string_bytes text ≡ message_of self.now) }
     {
@@ -199,6 +214,8 @@ impl Error {
 impl Located {
     ghost use Rattle.wat_lex.specs.errors.ErrorView.{report_of};
 
+    /// Copies the line of `content` that contains the position, and puts it into a box with the
+    /// cause.
     fn new(
         alloc: Global,
         span: Span,
@@ -216,6 +233,7 @@ impl Located {
 impl From<AllocError> for Error {
     ghost from_gives = { λ _ e. e ≡ None };
 
+    /// Converts an allocation failure to the out-of-memory error.
     fn from(refused: AllocError) -> Error {
         Error {
             kind: Kind::Memory(refused),
@@ -226,6 +244,7 @@ impl From<AllocError> for Error {
 impl<T: Drop> From<AllocFailed<T>> for Error {
     ghost from_gives = { λ _ e. e ≡ None };
 
+    /// Converts an allocation failure to the out-of-memory error, and drops the value.
     fn from(failed: AllocFailed<T>) -> Error {
         Error::from(AllocError::from(failed))
     }

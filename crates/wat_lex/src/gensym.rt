@@ -1,4 +1,4 @@
-//! Identifiers that a program makes, each of which differs from all that a text spells.
+//! Generated identifiers, each of which differs from every identifier of a source text.
 
 ghost use Rattle.std.specs.Prelude.{◌≡◌, ◌≢◌, ◌+◌, ◌↔◌, false, None, Some, IsErr, IsErrOf, IsOk};
 ghost use Rattle.std.specs.Prelude.{IfErr, IfNone, IfOk, IfSome, OnErr, OnOk};
@@ -8,9 +8,10 @@ use crate::token::{Id, Span};
 use std::alloc::{AllocError, Global};
 use std::marker::Model;
 
-/// A counter of the identifiers that a program has made, the generation of the newest one.
+/// A counter of generated identifiers: the generation of the newest one.
 #[derive(Drop)]
 pub struct Gensym {
+    /// The generation of the newest identifier, or 0.
     generation: u32,
 }
 
@@ -22,16 +23,16 @@ impl Model for Gensym {
     ghost view = { λ g. g.generation };
 }
 
-/// The counter is at its last value, `u32::MAX`.
+/// The error of a counter that has reached its last value, `u32::MAX`.
 #[derive(Clone, Copy, Debug, PartialEq, Eq)]
 pub struct GensymFull;
 
-/// Why a slot was not filled.
+/// The reason why a slot was not filled.
 #[derive(Clone, Copy, Debug, PartialEq, Eq)]
 pub enum FillError {
-    /// The counter is at its last value, `u32::MAX`.
+    /// The counter has reached its last value, `u32::MAX`.
     Full,
-    /// The request for a copy's memory was refused.
+    /// An allocation for a copy failed.
     Memory,
 }
 
@@ -41,42 +42,49 @@ impl From<AllocError> for FillError {
 
     ghost from_gives = { λ _ error. error ≡ Memory };
 
+    /// Converts an allocation failure to `FillError::Memory`.
     fn from(_: AllocError) -> FillError {
         FillError::Memory
     }
 }
 
 impl Gensym {
-    /// A counter from which nothing was made.
+    /// Creates a counter that has generated no identifier.
     pub fn new() -> Gensym
         ensures { result ≡ 0 }
     {
         Gensym { generation: 0 }
     }
 
-    /// A counter whose newest identifier has a generation, to go on from where another one stopped.
+    /// Creates a counter whose newest identifier has this generation, to continue where another
+    /// counter stopped.
     pub fn with_generation(generation: u32) -> Gensym
         ensures { result ≡ generation }
     {
         Gensym { generation }
     }
 
-    /// Starts again: later identifiers may equal those made before.
+    /// Resets the counter to 0. Later identifiers may equal those generated before.
     pub fn reset(&mut self)
         ensures { self.new ≡ 0 }
     {
         self.generation = 0;
     }
 
-    /// Makes an identifier at a place. It takes no memory.
+    /// Generates an identifier at a position. Does not allocate.
+    ///
+    /// # Errors
+    ///
+    /// Returns [`GensymFull`] if and only if the counter is `u32::MAX`. The counter is then
+    /// unchanged.
     pub fn generate(&mut self, span: Span) -> Result<Id<'static>, GensymFull>
         ensures ok { IfOk result (λ id. id ≡ generated self.new span) }
         ensures counts { OnOk result (self.new ≡ self.old + 1) }
         ensures full { IsErr result ↔ (self.old ≡ u32.MAX) }
         ensures err { OnErr result (self.new ≡ self.old) }
 
-        // It differs from what a text spells and from what the counter has made since it was last
-        // reset, whose generations are at most the counter.
+        // It differs from every identifier of a source text, and from those that the counter has
+        // generated since it was last reset, as their generations are at most the counter.
         ensures fresh { IfOk result (IsFresh self.old) }
     {
         if self.generation == u32::MAX {
@@ -86,23 +94,30 @@ impl Gensym {
         Ok(Id::gensym(span, self.generation))
     }
 
-    /// A copy of what a slot holds, after an identifier was put into an empty one.
+    /// Returns a copy of the identifier in a slot. An empty slot is filled with a generated
+    /// identifier first.
     ///
-    /// It takes memory only where the slot holds an identifier whose name is owned.
+    /// Allocates only if the slot holds an identifier that owns its name.
+    ///
+    /// # Errors
+    ///
+    /// Returns [`FillError::Full`] if the slot is empty and the counter is `u32::MAX`, and
+    /// [`FillError::Memory`] if the copy cannot be allocated. The slot and the counter are then
+    /// unchanged.
     pub fn fill<'a>(
         &mut self,
         alloc: Global,
         span: Span,
         slot: &mut Option<Id<'a>>,
     ) -> Result<Id<'a>, FillError>
-        // A slot that holds an identifier keeps it, and only the copy can find no memory.
+        // A filled slot keeps its identifier, and only the allocation for the copy can fail.
         ensures held { IfSome slot.old (λ id. (slot.new ≡ Some id) × (self.new ≡ self.old)) }
         ensures copied { IfSome slot.old (λ id. IfOk result (λ copy. copy ≡ id)) }
         ensures refused { IfSome slot.old (λ _. IfErr result (λ e. e ≡ FillError.Memory)) }
         ensures free { IfSome slot.old (λ id. id.owned ≡ false → IsOk result) }
 
-        // An empty one is filled as `generate` makes identifiers, unless the counter is at its last
-        // value.
+        // An empty slot is filled with an identifier as `generate` returns it, unless the counter
+        // is `u32::MAX`.
         ensures made { IfNone slot.old (IfOk result (λ id. id ≡ generated self.new span)) }
         ensures filled { IfNone slot.old (IfOk result (λ id. slot.new ≡ Some id)) }
         ensures counts { IfNone slot.old (OnOk result (self.new ≡ self.old + 1)) }

@@ -1,68 +1,70 @@
-//! Laws of the lexical format, for every text of UTF-8 and all settings. Each function does
-//! nothing: its contract is the law, for the proofs of crates above.
+//! Theorems about the lexical format, for every UTF-8 text and all settings. The functions have no
+//! effect: the contract of each is its theorem, which proofs in other crates can use.
 ghost use Rattle.wat_lex.specs.tokens.Blanking.{BlanksAreSpace, BlanksAreText, CommentsStay};
-ghost use Rattle.wat_lex.specs.tokens.EverySetting.{SomethingIsAt, OneThingIsAt};
-ghost use Rattle.wat_lex.specs.tokens.EverySetting.{EachPlaceIsTiled, TilingsAreOne, TokensOfCuts};
+ghost use Rattle.wat_lex.specs.tokens.EverySetting.{ScanResultExists, ScanResultIsUnique};
+ghost use Rattle.wat_lex.specs.tokens.EverySetting.{EachBoundaryHasTiling, TilingsAreUnique, TokensOfCuts};
 ghost use Rattle.wat_lex.specs.tokens.EverySetting.{TokensOfMoves, TokensAreReadable};
 ghost use Rattle.wat_lex.specs.tokens.EverySetting.{TokensEndAtBoundaries, WordsOfTokens};
-ghost use Rattle.wat_lex.specs.tokens.EverySetting.{NamesAreThere};
-ghost use Rattle.wat_lex.specs.tokens.EverySetting.{NamesAreOne, NamesAreValues, StringsAreValues};
+ghost use Rattle.wat_lex.specs.tokens.EverySetting.{NamesExist};
+ghost use Rattle.wat_lex.specs.tokens.EverySetting.{NamesAreUnique, NamesAreValues, StringsAreValues};
 ghost use Rattle.wat_lex.specs.tokens.EverySetting.{CutsAreOne};
 
-/// At each character boundary there is exactly one thing: a token, the text's end, or a fault.
+/// Theorem: at each character boundary there is exactly one of a token, the end of the text, and a
+/// lexical error.
 pub fn one_answer()
-    ensures some { SomethingIsAt }
-    ensures one { OneThingIsAt }
+    ensures some { ScanResultExists }
+    ensures one { ScanResultIsUnique }
 {}
 
-/// From each character boundary on there is one maximal tiling.
+/// Theorem: at each character boundary begins exactly one maximal tiling.
 pub fn one_tiling()
-    ensures some { EachPlaceIsTiled }
-    ensures one { TilingsAreOne }
+    ensures some { EachBoundaryHasTiling }
+    ensures one { TilingsAreUnique }
 {}
 
-/// The raw tokens of a prefix of a text begin those of the text, but for the last where the prefix
-/// ends without a fault.
+/// Theorem: the raw tokens of a prefix of a text are the first raw tokens of the text. The last
+/// token of the prefix is excepted, unless the prefix ends in a lexical error.
 pub fn cuts()
     ensures { TokensOfCuts }
 {}
 
-/// The raw tokens from a place on are those of the text that begins there.
+/// Theorem: raw tokens are independent of the start offset. Those from a character boundary on are
+/// those of the text that begins there, with their offsets moved.
 pub fn moves()
     ensures { TokensOfMoves }
 {}
 
-/// Where spaces, tabs or line ends are in place of a comment's bytes, one white space token is
-/// in place of the comment and of the white space directly beside it. All other raw tokens, their
-/// texts and the ending are what they were.
+/// Theorem: if a comment is overwritten with whitespace bytes, one whitespace token replaces the
+/// comment and the whitespace next to it. All other raw tokens keep their texts, the lexical error
+/// or end of the text stays the same, and the new text is UTF-8 of the same length.
 pub fn blanks()
     ensures tokens { BlanksAreSpace }
     ensures text { BlanksAreText }
     ensures looser { CommentsStay }
 {}
 
-/// A token of a tiling may be handed to the readers, who see its word, and ends at a character
-/// boundary.
+/// Theorem: readers accept every token of a tiling, and see its lexeme. Each token ends at a
+/// character boundary.
 pub fn tokens()
     ensures readable { TokensAreReadable }
     ensures boundary { TokensEndAtBoundaries }
     ensures word { WordsOfTokens }
 {}
 
-/// The word of an identifier or an annotation has one name, or one fault of it,
-/// and `name_value` is which.
+/// Theorem: the lexeme of an identifier or an annotation has exactly one name, or exactly one error
+/// about its name, and `name_value` returns it.
 pub fn names()
-    ensures some { NamesAreThere }
-    ensures one { NamesAreOne }
+    ensures some { NamesExist }
+    ensures one { NamesAreUnique }
     ensures value { NamesAreValues }
 {}
 
-/// The word of a string has one value, and `string_value` is it.
+/// Theorem: the lexeme of a string has exactly one value, and `string_value` returns it.
 pub fn strings()
     ensures { StringsAreValues }
 {}
 
-/// The word of a floating-point number is cut into its parts in one way.
+/// Theorem: the lexeme of a floating-point number splits into its parts in at most one way.
 pub fn floats()
     ensures { CutsAreOne }
 {}

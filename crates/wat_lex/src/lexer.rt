@@ -1,6 +1,29 @@
 //! The lexer of the WebAssembly text format.
-ghost use Rattle.std.specs.Prelude.{◌≡◌, ◌⊎◌, ◌≤◌, ◌<◌, ◌^◌, ◌+◌, ℕ, true, false, List, length, drop, Option};
-ghost use Rattle.std.specs.Prelude.{Result, IfOk, IfErr, IfSome, IfNone, IsTrue, OnErr, slice_index};
+ghost use Rattle.std.specs.Prelude.{
+  ◌≡◌,
+  ◌⊎◌,
+  ◌≤◌,
+  ◌<◌,
+  ◌^◌,
+  ◌+◌,
+  ℕ,
+  true,
+  false,
+  List,
+  length,
+  drop,
+  Option,
+};
+ghost use Rattle.std.specs.Prelude.{
+  Result,
+  IfOk,
+  IfErr,
+  IfSome,
+  IfNone,
+  IsTrue,
+  OnErr,
+  slice_index,
+};
 ghost use Rattle.std.specs.Bool.{Decides};
 ghost use Rattle.std.specs.List.{prefix_len};
 ghost use Rattle.std.specs.Str.{IsCharBoundary, IsUtf8};
@@ -15,7 +38,7 @@ ghost use Rattle.wat_lex.specs.tokens.Recovery.{ResumesAt};
 ghost use Rattle.wat_lex.specs.tokens.Raw.{ErrorAt};
 ghost use Rattle.wat_lex.specs.tokens.ReadableTokens.{IsTokenOf};
 ghost use Rattle.wat_lex.specs.tokens.Tiling.{TokenAt};
-ghost use Rattle.wat_lex.specs.tokens.UniqueTilings.{AnswerAt, EndsFrom, SomeTiling};
+ghost use Rattle.wat_lex.specs.tokens.UniqueTilings.{ResultAt, EndsFrom, SomeTiling};
 
 use crate::error::Error;
 use crate::token::Span;
@@ -39,11 +62,11 @@ use scan::classes::blank_len;
 pub(crate) use scan::classes::is_confusing;
 pub(crate) use scan::comments::first_confusing;
 use scan::plain::quoted_name_len;
-use scan::{bare_len, byte_at, fault_at_start, first_found};
+use scan::{bare_len, byte_at, fault_at_start, scan_at};
 pub use settings::Settings;
 
-/// A lexer over a text: it cuts the text into tokens, whitespace and comments, and accounts for
-/// every byte of it.
+/// A lexer over a source text. It splits the text into tokens, whitespace and comments, which cover
+/// every byte up to the first lexical error.
 #[derive(Clone, Drop)]
 pub struct Lexer<'a> {
     input: &'a str,
@@ -62,7 +85,8 @@ impl<'a> Model for Lexer<'a> {
 }
 
 impl<'a> Lexer<'a> {
-    /// A lexer over a text of at most `u32::MAX` bytes, with both settings off.
+    /// Creates a lexer over a text with both settings off. The text must have at most `u32::MAX`
+    /// bytes.
     pub fn new(input: &'a str) -> Lexer<'a>
         requires { length input.now < 2 ^ 32 }
         ensures setting { result ≡ record {
@@ -78,7 +102,8 @@ impl<'a> Lexer<'a> {
         Lexer::with_settings(input, settings)
     }
 
-    /// A lexer over a text of at most `u32::MAX` bytes, with these settings.
+    /// Creates a lexer over a text with the given settings. The text must have at most `u32::MAX`
+    /// bytes.
     pub fn with_settings(input: &'a str, settings: Settings) -> Lexer<'a>
         requires { length input.now < 2 ^ 32 }
         ensures setting { result ≡ record { text = input.now; flags = settings } }
@@ -87,7 +112,7 @@ impl<'a> Lexer<'a> {
         Lexer { input, settings }
     }
 
-    /// The text.
+    /// Returns the source text.
     pub fn input(&self) -> &'a str
         ensures text { result.now ≡ self.now.text }
         ensures utf8 { IsUtf8 self.now.text }
@@ -96,15 +121,15 @@ impl<'a> Lexer<'a> {
         self.input
     }
 
-    /// The two settings.
+    /// Returns the settings.
     pub fn settings(&self) -> Settings
         ensures { result ≡ self.now.flags }
     {
         self.settings
     }
 
-    /// Sets whether the nine characters that can make a text look other than it is
-    /// may be in comments and strings.
+    /// Sets whether comments and strings may contain the 9 confusing characters, which can change
+    /// how a text is displayed: U+202A, U+202B, U+202D, U+202E, U+2066 to U+2069, and U+206C.
     pub fn allow_confusing_unicode(&mut self, allow: bool) -> &mut Self
         ensures same { result.ghost_name ≡ self.entry.ghost_name }
         ensures setting { result.now ≡ record self.old {
@@ -115,7 +140,7 @@ impl<'a> Lexer<'a> {
         self
     }
 
-    /// Sets whether an underscore directly after another is a fault inside `\u{..}`.
+    /// Sets whether an underscore directly after another is a lexical error inside `\u{..}`.
     pub fn strict_underscores(&mut self, strict: bool) -> &mut Self
         ensures same { result.ghost_name ≡ self.entry.ghost_name }
         ensures setting { result.now ≡ record self.old {
@@ -126,18 +151,23 @@ impl<'a> Lexer<'a> {
         self
     }
 
-    /// The token at a byte of the text, None at its end, or the fault there.
-    // What it answers is large, and need not be built in memory where it is looked at at once.
+    /// Returns the token at byte offset `pos`, or `None` at the end of the text. Does not allocate.
+    ///
+    /// # Errors
+    ///
+    /// Returns the lexical error if no token begins at `pos`.
+    // The result is large. Once inlined, it is not built in memory if the caller inspects it at
+    // once.
     #[inline(always)]
     pub fn scan(&self, pos: usize) -> Result<Option<Token>, LexFault>
         requires { IsCharBoundary self.now.text pos }
         ensures token { IfOk result (λ found. IfSome found (TokenAt self.now pos)) }
         ensures end { IfOk result (λ found. IfNone found (pos ≡ length self.now.text)) }
         ensures fault { IfErr result (FaultAt self.now pos) }
-        ensures one { (r : Result (Option Token) LexFault) → AnswerAt self.now pos r → r ≡ result }
+        ensures one { (r : Result (Option Token) LexFault) → ResultAt self.now pos r → r ≡ result }
 
-        // The token may be read. What follows it is nearer the text's end,
-        // and may be scanned in turn.
+        // Readers accept the token. Its end is nearer to the end of the text, and is a character
+        // boundary, so that it can be scanned in turn.
         ensures reader { IfOk result (λ found. IfSome found (IsTokenOf self.now.text)) }
         ensures some { IfOk result (λ found. IfSome found (λ t. 0 < t.len)) }
         ensures boundary { IfOk result (λ found. IfSome found (λ t.
@@ -151,11 +181,16 @@ impl<'a> Lexer<'a> {
         }
     }
 
-    /// What [`Lexer::scan`] answers, found a byte at a time: for a target that has no vectors.
+    /// Returns the token at byte offset `pos`, or `None` at the end of the text, like
+    /// [`Lexer::scan`]. Examines one byte at a time, for targets without vector instructions.
+    ///
+    /// # Errors
+    ///
+    /// Returns the lexical error if no token begins at `pos`.
     #[inline(always)]
     pub fn scan_by_byte(&self, pos: usize) -> Result<Option<Token>, LexFault>
         requires { IsCharBoundary self.now.text pos }
-        ensures answer { AnswerAt self.now pos result }
+        ensures answer { ResultAt self.now pos result }
         ensures some { IfOk result (λ found. IfSome found (λ t. 0 < t.len)) }
         ensures boundary { IfOk result (λ found. IfSome found (λ t.
             IsCharBoundary self.now.text (pos + t.len))) }
@@ -168,9 +203,15 @@ impl<'a> Lexer<'a> {
         }
     }
 
-    /// The token at `pos`, which moves to the token's end, or None at the text's end,
-    /// or the error of the fault there.
-    // A program with two loops would else call it, at 2.5 times the instructions for short tokens.
+    /// Returns the token at byte offset `pos`, and advances `pos` to the end of the token. Returns
+    /// `None` at the end of the text.
+    ///
+    /// # Errors
+    ///
+    /// Returns the lexical error with its source line if no token begins at `pos`, or the
+    /// out-of-memory error if that line cannot be copied. `pos` is then unchanged.
+    // Without inlining, a program with two loops calls it, at 2.5 times the instructions for short
+    // tokens.
     #[inline(always)]
     pub fn parse(&self, alloc: Global, pos: &mut usize) -> Result<Option<Token>, Error>
         requires { IsCharBoundary self.now.text pos.old }
@@ -196,7 +237,8 @@ impl<'a> Lexer<'a> {
         }
     }
 
-    /// The token at a byte of the text, None at its end and where a fault is.
+    /// Returns the token at byte offset `pos`, or `None` at the end of the text or at a lexical
+    /// error.
     #[inline(always)]
     pub fn token_at(&self, pos: usize) -> Option<Token>
         requires { IsCharBoundary self.now.text pos }
@@ -215,7 +257,8 @@ impl<'a> Lexer<'a> {
         }
     }
 
-    /// Where the whitespace ends that is at a byte of the text: at that byte, where none is.
+    /// Skips the whitespace at byte offset `pos`. Returns the offset after it, or `pos` if there is
+    /// none.
     #[inline(always)]
     pub fn past_whitespace(&self, pos: usize) -> usize
         requires { IsCharBoundary self.now.text pos }
@@ -228,7 +271,7 @@ impl<'a> Lexer<'a> {
         pos + blank_len(&text.as_bytes()[pos..])
     }
 
-    /// Whether `)` is at a byte of the text.
+    /// Returns `true` if the byte at offset `pos` is `)`.
     #[inline(always)]
     pub fn is_close(&self, pos: usize) -> bool
         requires { IsCharBoundary self.now.text pos }
@@ -244,8 +287,8 @@ impl<'a> Lexer<'a> {
         byte_at(text.as_bytes(), pos) == b')'
     }
 
-    /// Where the word of idchars ends that is at a byte of the text: at that byte, where none is, or a
-    /// string is joined to it.
+    /// Skips the idchars at byte offset `pos`, without classifying them. Returns the offset after
+    /// them, or `pos` if there are none or if a string follows them directly.
     #[inline(always)]
     pub fn past_bare_word(&self, pos: usize) -> usize
         requires { IsCharBoundary self.now.text pos }
@@ -257,8 +300,9 @@ impl<'a> Lexer<'a> {
         pos + bare_len(&text.as_bytes()[pos..])
     }
 
-    /// Where the annotation ends that is at a byte of the text, whose name is in quotes and has no
-    /// escape: at that byte, where no such annotation is.
+    /// Skips an annotation with a quoted name at byte offset `pos`. Returns the offset after it, or
+    /// `pos` if there is none. The name must be nonempty and have neither an escape nor a byte
+    /// 0xE2, with which confusing characters begin.
     #[inline(always)]
     pub fn past_quoted_name(&self, pos: usize) -> usize
         requires { IsCharBoundary self.now.text pos }
@@ -270,7 +314,7 @@ impl<'a> Lexer<'a> {
         pos + quoted_name_len(&text.as_bytes()[pos..])
     }
 
-    /// The first fault from a byte of the text on, or None where there is none.
+    /// Returns the first lexical error from byte offset `pos` on, or `None` if there is none.
     pub fn first_fault(&self, pos: usize) -> Option<LexFault>
         requires { IsCharBoundary self.now.text pos }
         ensures ends { EndsFrom self.now pos result }
@@ -287,21 +331,22 @@ impl<'a> Lexer<'a> {
         }
     }
 
-    /// Where tokens are read again after the fault at a byte of the text: after what the fault covers.
+    /// Returns the byte offset at which lexing resumes after the lexical error at `pos`: the end of
+    /// what the error covers.
     ///
-    /// | fault | covers |
+    /// | error | covers |
     /// |---|---|
     /// | a character with which no token begins | that character |
-    /// | a block comment that nothing closes | its `(;` alone |
+    /// | an unterminated block comment | its `(;` alone |
     /// | a confusing character in a comment | the comment |
-    /// | in a string | the run that the string is in, up to the string's end |
+    /// | an error in a string | the run that contains the string, up to the end of the string |
     ///
-    /// The string's end is after the next quote in the line that no backslash escapes, else it is the
-    /// end of the line, which is not covered. A backslash escapes a quote or a backslash directly after
-    /// it. The rule is of this crate; neither the standard nor `wast` has one.
+    /// The string ends after the next unescaped quote in its line. If there is none, it ends before
+    /// the line end. A backslash escapes a quote or a backslash directly after it. This rule is
+    /// specific to this crate: neither the standard nor `wast` has one.
     ///
-    /// The tokens before the fault are those that [`Lexer::scan`] answered. From what is answered on
-    /// the text is read as from any place.
+    /// The tokens before the error are those that [`Lexer::scan`] returned. From the returned
+    /// offset on, the text is lexed as from any other offset.
     pub fn resume(&self, pos: usize, fault: LexFault) -> usize
         requires start { IsCharBoundary self.now.text pos }
         requires fault { FaultAt self.now pos fault }
@@ -315,19 +360,19 @@ impl<'a> Lexer<'a> {
         pos + covered_len(&self.input()[pos..], fault.error, self.settings())
     }
 
-    ghost use Rattle.wat_lex.specs.inside.Outlines.{FoundIn, IsRefused};
+    ghost use Rattle.wat_lex.specs.inside.Outlines.{FoundIn, BeginsWithFault};
     ghost use Rattle.wat_lex.specs.inside.ScannedLexemes.{LexemeFound};
 
-    /// What is at a byte of the text.
+    /// Returns what is at byte offset `pos`: a token, the end of the text, or a lexical error.
     #[inline(always)]
     fn found(&self, pos: usize, stride: Stride) -> Found
         requires { IsCharBoundary self.now.text pos }
         ensures { FoundIn self.now.flags (drop pos self.now.text) result }
     {
-        first_found(self.input, pos, &self.settings, stride)
+        scan_at(self.input, pos, &self.settings, stride)
     }
 
-    /// The token that was found at a byte of the text.
+    /// Creates the token of a lexeme that was found at byte offset `pos`.
     #[inline(always)]
     fn token(&self, pos: usize, lexeme: Lexeme) -> Token
         requires start { IsCharBoundary self.now.text pos }
@@ -339,7 +384,7 @@ impl<'a> Lexer<'a> {
         ensures boundary { IsCharBoundary self.now.text (pos + result.len) }
         ensures short { result.offset + result.len < 2 ^ 32 }
     {
-        // The proof takes from here that the text is UTF-8.
+        // Needed only by the proof: the contract of `input` states that the text is UTF-8.
         let _ = self.input();
         Token {
             kind: lexeme.kind,
@@ -348,12 +393,12 @@ impl<'a> Lexer<'a> {
         }
     }
 
-    /// The fault at a byte of the text.
+    /// Returns the lexical error at byte offset `pos`.
     #[cold]
     #[inline(never)]
     fn fault(&self, pos: usize) -> LexFault
         requires start { IsCharBoundary self.now.text pos }
-        requires refused { IsRefused self.now.flags (drop pos self.now.text) }
+        requires refused { BeginsWithFault self.now.flags (drop pos self.now.text) }
         ensures { FaultAt self.now pos result }
     {
         let fault = fault_at_start(&self.input[pos..], self.settings);
@@ -365,8 +410,13 @@ impl<'a> Lexer<'a> {
 
     ghost use Rattle.wat_lex.specs.values.Annotations.{AnnotationAt};
 
-    /// The annotation's token at any position, or the error of the fault there, where the byte
-    /// there is `@`; None where it is not, and where a token of another kind is there.
+    /// Returns the annotation at byte offset `pos`, which may be any offset. Returns `None` if the
+    /// byte there is not `@`, or if the token there is not an annotation.
+    ///
+    /// # Errors
+    ///
+    /// Returns the lexical error with its source line if the byte is `@` and no token begins there,
+    /// or the out-of-memory error if that line cannot be copied.
     #[inline]
     pub fn annotation(&self, alloc: Global, pos: usize) -> Result<Option<Token>, Error>
         ensures found { AnnotationAt self.now pos result }
@@ -379,12 +429,13 @@ impl<'a> Lexer<'a> {
         Ok(token.filter(|token| token.kind == TokenKind::Annotation))
     }
 
-    /// The error of the fault at a byte of the text.
+    /// Returns the lexical error at byte offset `pos` with its source line, or the out-of-memory
+    /// error if that line cannot be copied.
     #[cold]
     #[inline(never)]
     fn error_at(&self, alloc: Global, pos: usize) -> Error
         requires start { IsCharBoundary self.now.text pos }
-        requires refused { IsRefused self.now.flags (drop pos self.now.text) }
+        requires refused { BeginsWithFault self.now.flags (drop pos self.now.text) }
         ensures { ErrorAt self.now pos result }
     {
         let fault = self.fault(pos);
@@ -399,7 +450,8 @@ impl<'a> Lexer<'a> {
     ghost use Rattle.wat_lex.specs.tokens.Raw.{Item, Raw, token_steps};
     ghost use Rattle.wat_lex.specs.tokens.UniqueTilings.{OneTiling};
 
-    /// The tokens from a byte of the text on, up to its end or its first fault.
+    /// Returns an iterator over the raw tokens from byte offset `pos` on, up to the end of the text
+    /// or the first lexical error.
     pub fn iter<'l>(&'l self, alloc: Global, pos: usize) -> Tokens<'l, 'a>
         requires { IsCharBoundary self.now.text pos }
         ensures start { result ≡ record { setting = self.now; at = pos; done = false } }
@@ -414,7 +466,8 @@ impl<'a> Lexer<'a> {
         ensures cuts { Cuts self.now pos }
         ensures moves { Moves self.now pos }
     {
-        // The proof of the laws takes from here that the text is UTF-8.
+        // Needed only by the proof of the theorems: the contract of `input` states that the text is
+        // UTF-8.
         let _ = self.input();
         Tokens {
             lexer: self,
@@ -425,7 +478,8 @@ impl<'a> Lexer<'a> {
     }
 }
 
-/// The tokens from a place on. It ends for good after the first fault, or at the text's end.
+/// An iterator over the raw tokens of a text. It ends for good after the first lexical error, or at
+/// the end of the text.
 #[derive(Drop)]
 pub struct Tokens<'l, 'a> {
     lexer: &'l Lexer<'a>,
@@ -455,7 +509,8 @@ impl<'l, 'a> Iterator for Tokens<'l, 'a> {
 
     ghost remaining = { λ s. at_most (most_left s) };
 
-    // A program with two loops would else call it, at 2.5 times the instructions for short tokens.
+    // Without inlining, a program with two loops calls it, at 2.5 times the instructions for short
+    // tokens.
     #[inline(always)]
     fn next(&mut self) -> Option<Result<Token, Error>> {
         if self.done {

@@ -1,6 +1,6 @@
-//! The lowest layer of a parser of the WebAssembly text formats: the lexer with its raw tokens and
-//! their readers, faults, errors, spans, identifiers, fresh identifiers,
-//! and the binary encoding of integers and lists.
+//! The base crate of the WebAssembly text format: the lexer, the values of its tokens, lexical
+//! errors, source positions, identifiers, fresh identifiers, and the binary encoding of integers
+//! and lists.
 #![tactic(auto)]
 
 pub mod encode;

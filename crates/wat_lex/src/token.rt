@@ -1,4 +1,4 @@
-//! What readers of the text format share: places, identifiers and indices.
+//! Source positions, identifiers and indices, which all parsers of the text format share.
 
 ghost use Rattle.std.specs.Prelude.{◌≡◌, ◌≤◌, ◌↔◌, false, not, length, IsTrue, IfOk, IsOk};
 ghost use Rattle.std.specs.List.{suffix_len};
@@ -20,7 +20,7 @@ mod utf16;
 
 pub use lines::{LineIndex, fill_line_feeds, linecol_by, utf16_linecol_by};
 
-/// A place in a text, as an offset in bytes.
+/// A position in a text, as a byte offset.
 #[derive(Copy, Clone, Debug, PartialOrd, Ord, PartialEq, Eq, Hash)]
 pub struct Span {
     pub(crate) offset: usize,
@@ -37,24 +37,25 @@ impl Model for Span {
 }
 
 impl Span {
-    /// The place at an offset.
+    /// Creates the position at a byte offset.
     pub fn from_offset(offset: usize) -> Self
         ensures { result ≡ offset }
     {
         Span { offset }
     }
 
-    /// The offset of the place.
+    /// Returns the byte offset.
     pub fn offset(&self) -> usize
         ensures { result ≡ self.now }
     {
         self.offset
     }
 
-    /// Line and column of the place in a text, both from 0. A line ends at a line feed, and a
-    /// column is a number of bytes.
+    /// Returns the line and column of the position in a text, both counted from 0. A line ends
+    /// after its line feed, and a column counts bytes. Scans the text up to the position.
     ///
-    /// Past the text's end the line is the number of lines, and the column 0.
+    /// If the offset is past the end of the text, the line is the number of lines and the column is
+    /// 0.
     pub fn linecol_in(&self, text: &str) -> (usize, usize)
         ensures place { result ≡ line_and_column text.now self.now }
         ensures line { result.0 ≤ length text.now }
@@ -68,7 +69,7 @@ impl Span {
     }
 }
 
-/// How many bytes come after the last line feed.
+/// Returns the number of bytes after the last line feed, or of all bytes if there is none.
 fn since_line_feed(text: &[u8]) -> usize
     ensures count { result ≡ suffix_len (λ b. not (is_line_feed b)) text.now }
     ensures bound { result ≤ length text.now }
@@ -79,12 +80,11 @@ fn since_line_feed(text: &[u8]) -> usize
     }
 }
 
-/// An identifier: a name, and where it is. The name is without the `$` that the text has before
-/// it.
+/// An identifier: a name, without the `$` before it, and its position.
 ///
-/// What a text spells has generation 0. [`Gensym`](crate::gensym::Gensym) makes identifiers of
-/// other generations, which differ from each of those. Equality and hash look at name and
-/// generation alone.
+/// Identifiers of a source text have generation 0. [`Gensym`](crate::gensym::Gensym) generates
+/// identifiers with other generations, which differ from all of them. Equality and hash use the
+/// name and the generation only.
 #[derive(Drop)]
 pub struct Id<'a> {
     name: CowStr<'a>,
@@ -101,14 +101,15 @@ impl<'a> Model for Id<'a> {
 }
 
 impl<'a> Id<'a> {
-    /// The identifier of a name at a place. Any text is a name.
+    /// Creates the identifier with a name and a position. Every text is a valid name.
     pub fn new(name: &'a str, span: Span) -> Id<'a>
         ensures { result ≡ record { name = name.now; owned = false; generation = 0; span = span } }
     {
         Id::from_cow(CowStr::Borrowed(name), span)
     }
 
-    /// The same, of a name that may be owned.
+    /// Creates the identifier with a borrowed or owned name and a position. Every text is a valid
+    /// name.
     pub fn from_cow(name: CowStr<'a>, span: Span) -> Id<'a>
         ensures { result ≡ identifier name.entry 0 span }
     {
@@ -119,7 +120,7 @@ impl<'a> Id<'a> {
         }
     }
 
-    /// The identifier of a generation, which a program made.
+    /// Creates the generated identifier with a generation and a position.
     pub(crate) fn gensym(span: Span, generation: u32) -> Id<'a>
         ensures { result ≡ generated generation span }
     {
@@ -130,21 +131,25 @@ impl<'a> Id<'a> {
         }
     }
 
-    /// The name, without `$`.
+    /// Returns the name, without `$`.
     pub fn name(&self) -> &str
         ensures { result.now ≡ self.now.name }
     {
         self.name.as_str()
     }
 
-    /// Where the identifier is.
+    /// Returns the position of the identifier.
     pub fn span(&self) -> Span
         ensures { result ≡ self.now.span }
     {
         self.span
     }
 
-    /// A copy. An owned name is copied too. Of a borrowed one the copy takes no memory.
+    /// Copies the identifier. Allocates only if its name is owned.
+    ///
+    /// # Errors
+    ///
+    /// Returns the allocation failure if an owned name cannot be copied.
     pub fn clone(&self, alloc: Global) -> Result<Self, AllocError>
         ensures copy { IfOk result (λ copy. copy ≡ self.now) }
         ensures free { self.now.owned ≡ false → IsOk result }
@@ -201,7 +206,8 @@ impl<'a> Hash for Id<'a> {
     }
 }
 
-/// That of the name, or the generation alone where a program made the identifier.
+/// Formats an identifier of a source text like its name, and a generated identifier by its
+/// generation alone.
 impl fmt::Debug for Id<'_> {
     fn fmt<W: fmt::Write>(&self, f: &mut fmt::Formatter<W>) -> fmt::Result {
         if self.generation == 0 {
@@ -213,19 +219,19 @@ impl fmt::Debug for Id<'_> {
     }
 }
 
-/// A reference to something that the text defines, by its number or by an identifier.
+/// A reference to a definition of the source text, by an integer or by an identifier.
 ///
-/// Equality and hash look at the number or the identifier alone, and not at places.
+/// Equality and hash use the integer or the identifier only, without its position.
 #[derive(Debug, Drop)]
 pub enum Index<'a> {
-    /// A number, and where it is.
+    /// An integer index, and its position.
     Num(u32, Span),
-    /// An identifier.
+    /// An identifier instead of an integer.
     Id(Id<'a>),
 }
 
 impl<'a> Index<'a> {
-    /// Where the number or the identifier is.
+    /// Returns the position of the integer or the identifier.
     pub fn span(&self) -> Span
         ensures { result ≡ span_of self.now }
     {
@@ -235,7 +241,11 @@ impl<'a> Index<'a> {
         }
     }
 
-    /// A copy, as [`Id::clone`] makes one of an identifier. Of a number it takes no memory.
+    /// Copies the index. Allocates only if it is an identifier whose name is owned.
+    ///
+    /// # Errors
+    ///
+    /// Returns the allocation failure if an owned name cannot be copied.
     pub fn clone(&self, alloc: Global) -> Result<Self, AllocError>
         ensures copy { IfOk result (λ copy. copy ≡ self.now) }
         ensures free { owns_name self.now ≡ false → IsOk result }

@@ -1,4 +1,4 @@
--- Lemmas on lists of calls, and on all that is shown.
+-- Lemmas about sequences of calls, and about all visible tokens.
 pub mod Refusals
 pub mod Beginnings
 pub mod EachShown

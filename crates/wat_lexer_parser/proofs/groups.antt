@@ -1,2 +1,2 @@
--- Lemmas on groups in parentheses.
+-- Lemmas about groups in parentheses.
 pub mod Closing

@@ -1,4 +1,4 @@
--- Lemmas on the table of a buffer.
+-- Lemmas about the table of a buffer.
 pub mod Heads
 pub mod Pairing
 pub mod Stacks

@@ -1,2 +1,2 @@
--- Lemmas on maps of texts.
+-- Lemmas about maps with string keys.
 pub mod MapsOfTexts

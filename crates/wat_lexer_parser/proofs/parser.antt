@@ -1,4 +1,4 @@
--- Lemmas on what a parser's calls answer.
+-- Lemmas about the results of a parser's calls.
 pub mod Escapes
 pub mod Refusals
 pub mod Joins

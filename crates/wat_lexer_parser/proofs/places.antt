@@ -1,4 +1,4 @@
--- Lemmas on places.
+-- Lemmas about positions.
 pub mod Tails
 pub mod Comments
 pub mod TakenSpans

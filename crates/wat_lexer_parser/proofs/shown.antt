@@ -1,4 +1,4 @@
--- Lemmas on what is shown.
+-- Lemmas about visible tokens.
 pub mod Skipping
 pub mod Annotations
 pub mod Looks

@@ -1,3 +1,3 @@
--- Lemmas on the values of tokens.
+-- Lemmas about the values of tokens.
 pub mod Utf8
 pub mod Named

@@ -1,2 +1,2 @@
--- Lemmas on words that tokens spell.
+-- Lemmas about the words of keywords and annotations.
 pub mod Spelling

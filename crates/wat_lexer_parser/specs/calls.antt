@@ -1,2 +1,2 @@
--- Lists of calls, the replies to them, and where they leave a parser.
+-- Sequences of calls, their replies, and the state after them.
 pub mod Calls

@@ -1,2 +1,2 @@
--- Groups in parentheses, and the sorts of tokens that a parser tells apart.
+-- Groups in parentheses, and the token kinds that delimit them.
 pub mod Sorts

@@ -1,4 +1,4 @@
--- What private functions promise each other, and `Shown` as a function. No public contract names it.
+-- Definitions for the contracts of private functions, and `Shown` as a function. No public contract needs them.
 pub mod ShownIn
 pub mod MapEntries
 pub mod Next

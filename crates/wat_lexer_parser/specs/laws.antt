@@ -1,4 +1,5 @@
--- What holds of what is shown and of lists of calls, as the functions of the module `laws` promise it. Who calls the parser has no need of it.
+-- Theorems about visible tokens and sequences of calls, which the functions of the module `laws` carry in their
+-- contracts. Callers of the parser do not need them.
 pub mod AllShown
 pub mod ShownLaws
 pub mod Counting

@@ -1,4 +1,5 @@
--- What follows from the definitions, for proofs here and in crates above. Nobody has to read it to know what is promised.
+-- Consequences of the definitions, for proofs in this crate and in crates that use it. The contracts can be understood
+-- without them.
 pub mod Parts
 pub mod After
 pub mod AnswerLaws

@@ -1,2 +1,2 @@
--- The names of annotations that are registered.
+-- The registered names of annotations.
 pub mod RegisteredNames

@@ -1,4 +1,4 @@
--- A parser as its callers see it, and what its calls answer.
+-- A parser as its callers see it, and the results of its calls.
 pub mod State
 pub mod Takers
 pub mod Closures

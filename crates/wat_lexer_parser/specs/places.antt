@@ -1,3 +1,3 @@
--- Places between raw tokens, and what is shown and found there.
+-- Positions between raw tokens, with their byte offsets, spans and comments.
 pub mod Source
 pub mod Places

@@ -1,4 +1,5 @@
--- What types read: the language of readings, what calls promise of one, what each type reads, and the laws of readings.
+-- The language of readings, the results of calls that parse, the readings of the library's types, and those of
+-- lookaheads.
 pub mod Readings
 pub mod Reads
 pub mod Types

@@ -1,4 +1,5 @@
--- The grammar of readings: which shown tokens each accepts, and what a whole text spells.
+-- Grammars of formats: the visible tokens that each reading accepts, and the values that the grammar derives for a
+-- whole text.
 pub mod Rules
 pub mod Formats
 pub mod FormatTypes

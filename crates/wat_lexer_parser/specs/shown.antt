@@ -1,3 +1,3 @@
--- What a parser shows of raw tokens, and at a place.
+-- The visible tokens: of a list of raw tokens, and at a position of a text.
 pub mod Shown
 pub mod Showing

@@ -1,2 +1,2 @@
--- Words that tokens spell.
+-- The lexemes of keywords and annotations.
 pub mod Idchars

@@ -1,4 +1,4 @@
-//! The standard annotations, as types.
+//! Types of the standard annotations.
 use crate::token::AnnotationWord;
 use wat_words::StdAnnotation;
 

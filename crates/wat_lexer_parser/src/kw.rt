@@ -1,9 +1,9 @@
-//! The standard keywords, as types.
+//! Types of the standard keywords.
 //!
-//! The name of a type is its word, with `_` for `-`, `.` and `:`. A `_` comes after words that Rust
-//! keeps for itself, and after `bool`, `enum`, `true`, `false` and `core`. The types of
-//! `string-encoding=utf8`, `string-encoding=utf16` and `string-encoding=latin1+utf16` are
-//! `string_utf8`, `string_utf16` and `string_latin1_utf16`.
+//! A type has the name of its keyword, with `_` for `-`, `.` and `:`. A `_` is appended to reserved
+//! words of Rust, and to `bool` and `core`. The types of `string-encoding=utf8`,
+//! `string-encoding=utf16` and `string-encoding=latin1+utf16` are `string_utf8`, `string_utf16` and
+//! `string_latin1_utf16`.
 use crate::token::Keyword;
 use wat_words::Std;
 

@@ -1,10 +1,12 @@
-//! Laws of what a parser shows, for every text of UTF-8 and its raw tokens, and of what it replies
-//! to calls. Each function but `blanked` does nothing: its contract is the law, for the proofs of
-//! crates above.
+//! Theorems about the visible tokens of every UTF-8 text, and about the replies of a parser to
+//! calls.
+//!
+//! Each function except `blanked` has no effect: its contract is the theorem, for the proofs of
+//! dependent crates.
 ghost use Rattle.std.specs.Prelude.{◌≡◌, ◌+◌, length, IfOk, string_bytes};
 ghost use Rattle.std.specs.Str.{IsCharBoundary};
 ghost use Rattle.wat_lex.specs.tokens.Blanking.{blanked};
-ghost use Rattle.wat_lexer_parser.specs.laws.CallLaws.{LooksAndRefusals};
+ghost use Rattle.wat_lexer_parser.specs.laws.CallLaws.{PeeksAndRejectedCalls};
 ghost use Rattle.wat_lexer_parser.specs.laws.Blanking.{BlankingShowsTheSame, IsCommentOf};
 ghost use Rattle.wat_lexer_parser.specs.laws.Blanking.{ShowTheSameWhereRaw};
 ghost use Rattle.wat_lexer_parser.specs.laws.BlankTexts.{BlankTextsShowTheSame};
@@ -20,17 +22,19 @@ ghost use Rattle.wat_words.specs.Words.{annotation_word, standard_word};
 use std::alloc::{AllocError, Global};
 use wat_lex::lexer::Token;
 
-/// The raw tokens from a place on are the tail of the raw tokens.
+/// Theorem: the raw tokens from a position on are a maximal tiling of the text from the position's
+/// byte offset on.
 pub fn tails()
     ensures { TailsAreRaw }
 {}
 
-/// A group ends at one place.
+/// Theorem: the end of a group is unique.
 pub fn groups()
     ensures { GroupIsOne }
 {}
 
-/// At each place of a text something is shown, and it is one thing: what the function gives.
+/// Theorem: at each position of a text there is a visible token, the end, or an error, and it is
+/// unique: the result of the function `shown` of the definitions.
 pub fn shown()
     ensures some { SomethingShown }
     ensures one { OneThingShown }
@@ -39,18 +43,20 @@ pub fn shown()
     wat_lex::laws::tokens();
 }
 
-/// A token that is shown at a place comes right before the place after it, which is further on.
+/// Theorem: the token visible at a position is the raw token directly before the position after it,
+/// which is greater.
 pub fn taken()
     ensures { ShownIsTaken }
 {}
 
-/// Where the raw tokens end in a parenthesis with `@` directly after it, a fault follows.
+/// Theorem: if the last raw token of a text is a `(` directly followed by `@`, the text has a
+/// lexical error after it.
 pub fn marks()
     ensures { MarksEndInFaults }
 {}
 
-/// From each place of a text tokens are shown one after another, and then the end or a fault: these
-/// tokens are one list, and what follows them is one thing. Looks give them one by one.
+/// Theorem: from each position of a text on there is a unique list of visible tokens, followed by
+/// the end or an error. Successive peeks yield its tokens one by one.
 pub fn all_shown()
     ensures all_some { SomethingIsAllShown }
     ensures all_one { AllShownIsOne }
@@ -59,9 +65,10 @@ pub fn all_shown()
     shown();
 }
 
-/// What is shown of the tokens that count, which are neither white space nor comments, is what is
-/// shown of all raw tokens. So a caller may keep these alone. One that is no parenthesis with `@`
-/// directly after it is shown where it is, whatever names are registered.
+/// Theorem: removing whitespace and comments from the raw tokens does not change the visible
+/// tokens, so that a caller may store the significant tokens only. A significant token, unless it
+/// is a `(` directly followed by `@`, is visible at its own position under every set of registered
+/// names.
 pub fn counting()
     ensures same { CountingShowsTheSame }
     ensures plain { PlainTokensAreShown }
@@ -69,19 +76,20 @@ pub fn counting()
     wat_lex::laws::tokens();
 }
 
-/// Each standard word is idchars alone, a keyword as well as an annotation's name: a text has it as
-/// it is, without a string.
+/// Theorem: each standard keyword and annotation name consists of idchars only, so that a text has
+/// it unquoted.
 pub fn words_are_idchars()
     ensures keywords { WordsAreIdchars standard_word }
     ensures annotations { WordsAreIdchars annotation_word }
 {}
 
-/// Looks and refused calls change nothing else.
+/// Theorem: peeks and failed calls have no effect on the other replies or on the final state.
 pub fn calls()
-    ensures { LooksAndRefusals }
+    ensures { PeeksAndRejectedCalls }
 {}
 
-/// A comment that is overwritten with spaces, tabs and line ends changes nothing that is shown.
+/// Theorem: overwriting a comment with spaces, tabs and line ends does not change the visible
+/// tokens.
 pub fn blanking()
     ensures { BlankingShowsTheSame }
 {
@@ -92,8 +100,8 @@ pub fn blanking()
     wat_lex::laws::tokens();
 }
 
-/// A text without a fault, with spaces over the bytes of all its comments but for the line ends in
-/// them, is as long, has the same line ends and no comment, and shows the same.
+/// Theorem: in a text without lexical errors, overwriting all comments with spaces, except for
+/// their line ends, keeps the length, the line ends and the visible tokens, and leaves no comment.
 pub fn blank_texts()
     ensures { BlankTextsShowTheSame }
 {
@@ -102,9 +110,13 @@ pub fn blank_texts()
     wat_lex::laws::tokens();
 }
 
-/// The text with spaces over the bytes of one of its comments. It is as long as the text and shows
-/// what the text shows, also where that has a fault further on. It is refused for out of memory
-/// alone.
+/// Returns a copy of the text with a space for each byte of `token`, which must be one of its
+/// comments. The copy has the same length and the same visible tokens, even if the text has a
+/// lexical error after the comment.
+///
+/// # Errors
+///
+/// Fails only if an allocation fails.
 pub fn blanked(alloc: Global, text: &str, token: &Token) -> Result<String, AllocError>
     requires { IsCommentOf text.now token.now }
     ensures text { IfOk result (λ other. string_bytes other ≡ blanked text.now token.now) }
@@ -118,7 +130,7 @@ pub fn blanked(alloc: Global, text: &str, token: &Token) -> Result<String, Alloc
     overwritten(alloc, text, token)
 }
 
-/// The text with spaces over the bytes of a token.
+/// Returns a copy of the text with a space for each byte of a token.
 fn overwritten(alloc: Global, text: &str, token: &Token) -> Result<String, AllocError>
     requires first { IsCharBoundary text.now token.now.offset }
     requires last { IsCharBoundary text.now (token.now.offset + token.now.len) }

@@ -1,8 +1,10 @@
-//! The parser layer of the WebAssembly text formats: a buffer of raw tokens, a parser that shows
-//! those that count, and the types that it reads. White space, comments and annotations that are not
-//! registered are passed over.
+//! Parser framework for the WebAssembly text formats: buffers of a source text, parsers over their
+//! visible tokens, and types that implement their own parsing.
 //!
-//! The items of the lexer are named here again, so that who reads texts needs no other crate.
+//! A parser skips whitespace, comments, and the groups of unregistered annotations.
+//!
+//! The modules of the lexer are re-exported, so that a crate that parses a format needs no other
+//! dependency.
 #![tactic(auto)]
 
 pub mod annotation;

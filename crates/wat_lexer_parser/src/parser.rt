@@ -1,4 +1,4 @@
-//! The parser.
+//! Parsers, cursors and buffers.
 ghost use Rattle.std.specs.Prelude.{◌≡◌, ◌≤◌, ◌<◌, ◌+◌, ◌^◌, false, not, length, Ok, Some};
 ghost use Rattle.std.specs.Prelude.{IfOk, IfErr, IfSome, OnOk, OnErr};
 ghost use Rattle.std.specs.FinMap as map;
@@ -7,7 +7,7 @@ ghost use Rattle.wat_lexer_parser.specs.inside.Next.{IsAfter, IsNext, IsPlace};
 ghost use Rattle.wat_lexer_parser.specs.names.RegisteredNames.{no_names, is_registered};
 ghost use Rattle.wat_lexer_parser.specs.names.RegisteredNames.{count, fewer};
 ghost use Rattle.wat_lexer_parser.specs.parser.Closures.{opened, closed, ParensOk, ParensErr};
-ghost use Rattle.wat_lexer_parser.specs.parser.Sights.{Tells, second};
+ghost use Rattle.wat_lexer_parser.specs.parser.Sights.{PeekIs, second};
 ghost use Rattle.wat_lexer_parser.specs.parser.State.{Answers, IsRefusal, IsSound};
 ghost use Rattle.wat_lexer_parser.specs.parser.State.{report_here, message_at, depth_checked};
 ghost use Rattle.wat_lexer_parser.specs.parser.State.{registered, too_often};
@@ -54,16 +54,21 @@ use wat_lex::lexer::{Token, TokenKind};
 use wat_lex::token::Span;
 pub use whole::parse;
 
-/// A parser over a buffer: a place in its text, and the names of annotations that are registered.
+/// A parser over a buffer: a position in its text, and the registered annotation names.
+///
+/// A position is a number of raw tokens. The next visible token is the first one at or after the
+/// position that is neither whitespace, nor a comment, nor in a group of an unregistered
+/// annotation.
 #[derive(Drop)]
 pub struct Parser<'a> {
     source: SourceRef<'a>,
+    /// Number of raw tokens before the position.
     place: usize,
-    /// Where the place is in the text.
+    /// Byte offset of the position.
     byte: usize,
     depth: usize,
     names: Names,
-    /// What is shown at the place, where that is known.
+    /// Cached token visible at the position, if it is known.
     next: Kept,
 }
 
@@ -114,7 +119,7 @@ impl<'a> Parser<'a> {
         &self.source
     }
 
-    /// The allocator of the buffer, for what a type holds that is read.
+    /// Returns the allocator of the buffer, for the contents of parsed values.
     pub fn alloc(&self) -> Global {
         let source = &self.source;
         source.alloc()
@@ -127,6 +132,7 @@ impl<'a> Parser<'a> {
         source.text()
     }
 
+    /// Returns the number of raw tokens before the position.
     pub(crate) fn place(&self) -> usize
         ensures place { result ≡ self.now.place }
         ensures within { result ≤ length self.now.source.tokens }
@@ -134,14 +140,15 @@ impl<'a> Parser<'a> {
         self.place
     }
 
-    /// The byte of the place.
+    /// Returns the byte offset of the position.
     pub(crate) fn byte(&self) -> usize
         ensures { IsPlace self.now.source self.now.place result }
     {
         self.byte
     }
 
-    /// What is shown at a place, with the place after it, where the parser keeps it.
+    /// Returns the token visible at a position, and the position after it, if the parser has it
+    /// cached.
     #[inline(always)]
     pub(crate) fn kept(&self, place: usize) -> Option<(Token, usize)>
         ensures { IfSome result (IsNext self.now.source place self.now.names) }
@@ -153,7 +160,7 @@ impl<'a> Parser<'a> {
         }
     }
 
-    /// What is shown at a place, with the place after it.
+    /// Returns the token visible at a position, and the position after it.
     pub(crate) fn look(&self, place: usize, byte: usize) -> Result<Option<(Token, usize)>, Fault>
         requires { IsPlace self.now.source place byte }
         ensures value { result ≡ shown self.now.source place self.now.names }
@@ -169,8 +176,8 @@ impl<'a> Parser<'a> {
         }
     }
 
-    /// Moves to a place further on, and notes which token is shown there.
-    // One call for each move, with what a source does for most tokens built into it.
+    /// Moves to `place`, which must not be before the position, and caches the token visible there.
+    // `inline(never)`: one call per move, into which the common paths of the sources are inlined.
     #[inline(never)]
     fn move_to(&mut self, place: usize, byte: usize)
         requires on { self.old.place ≤ place }
@@ -193,7 +200,7 @@ impl<'a> Parser<'a> {
         }
     }
 
-    /// Puts the place back, and the depth.
+    /// Restores a position and a depth.
     fn put_back(&mut self, place: usize, byte: usize, depth: usize)
         requires deep { depth ≤ place }
         requires place { IsPlace self.old.source place byte }
@@ -205,7 +212,7 @@ impl<'a> Parser<'a> {
         self.depth = depth;
     }
 
-    /// The current span at a place.
+    /// Returns the current span at a position, as described at [`cur_span`](Parser::cur_span).
     #[tactic(auto, unfolding(crate::specs::places::Places::current_span))]
     pub(crate) fn span_from(&self, place: usize, byte: usize) -> Span
         requires { IsPlace self.now.source place byte }
@@ -219,9 +226,9 @@ impl<'a> Parser<'a> {
         Span::from_offset(offset)
     }
 
-    /// What holds of every parser: its tokens are those of its text, which is UTF-8 and of fewer than
-    /// 2^32 bytes. So the laws of the module [`laws`](crate::laws) hold of what it shows. The call
-    /// does nothing; it is for the proofs of crates above.
+    /// Lemma (no effect): a parser's tokens are those of its text, which is UTF-8 and shorter than
+    /// 2^32 bytes. The theorems of the module `laws` therefore apply to it, in the proofs of
+    /// dependent crates.
     pub fn lemma_sound(&self)
         ensures sound { IsSound self.now }
     {
@@ -231,7 +238,8 @@ impl<'a> Parser<'a> {
         self.names.lemma_positive();
     }
 
-    /// Whether the end or `)` is shown, so that a list ends here; false at a fault.
+    /// Returns `true` if `)` or the end of the text is next, so that a list ends here; `false` at
+    /// an error.
     pub fn is_empty(&self) -> bool
         ensures value { result ≡
             empty_of (shown self.now.source self.now.place self.now.names) }
@@ -241,7 +249,7 @@ impl<'a> Parser<'a> {
         self.is_empty_from(self.place, self.byte)
     }
 
-    /// The same at a place.
+    /// Returns `true` if `)` or the end of the text is next at a position; `false` at an error.
     pub(crate) fn is_empty_from(&self, place: usize, byte: usize) -> bool
         requires { IsPlace self.now.source place byte }
         ensures { result ≡ empty_of (shown self.now.source place self.now.names) }
@@ -253,29 +261,30 @@ impl<'a> Parser<'a> {
         }
     }
 
-    /// The current span: that of the token that is shown, the text's length at the end, or the
-    /// place itself where a fault is shown.
+    /// Returns the current span: the offset of the next visible token, the length of the text at
+    /// its end, or the offset of the position itself at an error.
     pub fn cur_span(&self) -> Span
         ensures { result ≡ current_span self.now.source self.now.place self.now.names }
     {
         self.span_from(self.place, self.byte)
     }
 
-    /// The place: where the last token or comment that was taken ends, 0 at first.
+    /// Returns the offset where the last consumed token or comment ends, or 0 at the start.
     pub fn prev_span(&self) -> Span
         ensures { result ≡ offset_at self.now.source.tokens self.now.place }
     {
         Span::from_offset(self.byte)
     }
 
-    /// How many groups of [`parens`](Parser::parens) are open.
+    /// Returns the number of groups that [`parens`](Parser::parens) and
+    /// [`parens_of`](Parser::parens_of) have open.
     pub fn parens_depth(&self) -> usize
         ensures { result ≡ self.now.depth }
     {
         self.depth
     }
 
-    /// An error with this message at the current span.
+    /// Creates an error with this message at the current span.
     pub fn error(&self, message: &str) -> Error
         ensures { IsUnlessMemory result
             (report_here self.now.source self.now.place self.now.names message.now) }
@@ -283,7 +292,7 @@ impl<'a> Parser<'a> {
         self.error_at(self.cur_span(), message)
     }
 
-    /// An error with this message at a span of the text.
+    /// Creates an error with this message at an offset of the text.
     pub fn error_at(&self, span: Span, message: &str) -> Error
         ensures { IsUnlessMemory result (message_at self.now.source span message.now) }
     {
@@ -291,7 +300,11 @@ impl<'a> Parser<'a> {
         source.error_at(span, message)
     }
 
-    /// Refuses more than [`MAX_PARENS_DEPTH`] open groups.
+    /// Checks the number of open groups.
+    ///
+    /// # Errors
+    ///
+    /// Returns `item nesting too deep` if more than [`MAX_PARENS_DEPTH`] groups are open.
     pub fn depth_check(&self) -> Result<(), Error>
         ensures checked { Answers false (λ u. u) (depth_checked self.now) result }
         ensures most { MAX_PARENS_DEPTH ≡ 100 }
@@ -302,7 +315,7 @@ impl<'a> Parser<'a> {
         Ok(())
     }
 
-    /// Whether the whole text has a token that counts, or a fault.
+    /// Returns `true` if the text has a significant token or a lexical error anywhere.
     pub fn has_meaningful_tokens(&self) -> bool
         ensures { result ≡ is_meaningful self.now.source }
     {
@@ -310,7 +323,7 @@ impl<'a> Parser<'a> {
         source.is_meaningful()
     }
 
-    /// What the buffer was given by [`ParseBuffer::track_instr_spans`].
+    /// Returns the flag set by `track_instr_spans` of the buffer.
     pub fn track_instr_spans(&self) -> bool
         ensures { result ≡ self.now.source.track }
     {
@@ -318,15 +331,20 @@ impl<'a> Parser<'a> {
         source.tracks()
     }
 
-    /// Whether annotations of this name are shown.
+    /// Returns `true` if an annotation name is registered, so that its annotations are visible.
     pub fn is_registered(&self, name: &str) -> bool
         ensures { result ≡ is_registered self.now.names name.now }
     {
         self.names.is_registered(name)
     }
 
-    /// Registers a name once more: annotations of it are shown. A refusal leaves all as it was. Of a
-    /// name that is registered already it takes no memory but for a report.
+    /// Registers an annotation name, which makes its annotations visible. Registrations are
+    /// counted. Allocates only if the name is not registered yet, apart from the error message.
+    ///
+    /// # Errors
+    ///
+    /// Fails without effect if an allocation fails, or if the name is registered `usize::MAX`
+    /// times.
     pub fn register_annotation(&mut self, name: &str) -> Result<(), Error>
         ensures value { Answers (not (is_registered self.old.names name.now)) (λ _. self.new)
             (registered self.old name.now) result }
@@ -344,7 +362,7 @@ impl<'a> Parser<'a> {
         }
     }
 
-    /// The error of a name that is registered as often as can be.
+    /// Creates the error for a name that is registered `usize::MAX` times.
     fn too_often(&self) -> Error
         ensures { IsUnlessMemory result (too_often self.now) }
     {
@@ -354,8 +372,8 @@ impl<'a> Parser<'a> {
         }
     }
 
-    /// Sets how often a name that is registered counts as registered, for a caller that restores what
-    /// it noted. It takes no memory.
+    /// Sets the number of registrations of a registered name, for a caller that restores a saved
+    /// number. `times` must not be 0. Does not allocate.
     pub fn set_registrations(&mut self, name: &str, times: usize)
         requires there { 0 < count self.old.names name.now }
         requires some { 0 < times }
@@ -365,7 +383,7 @@ impl<'a> Parser<'a> {
         self.names.set(name, times);
     }
 
-    /// Takes back one registering of a name.
+    /// Removes one registration of a name, which must be registered.
     pub fn unregister_annotation(&mut self, name: &str)
         requires { 0 < count self.old.names name.now }
         ensures { self.new ≡ record self.old { names = fewer self.old.names name.now } }
@@ -376,8 +394,12 @@ impl<'a> Parser<'a> {
 
     ghost use Rattle.std.specs.Fn.{FnOnceReturnsAtMut};
 
-    /// Calls a function with a cursor at the place, and moves to the place of the cursor that it
-    /// answers; where it refuses the parser stays.
+    /// Calls a function with a cursor at the position, and advances to the cursor that it returns.
+    /// That cursor must be of this parser's text and names, and not before the position.
+    ///
+    /// # Errors
+    ///
+    /// Returns the error of the function. The parser is then unchanged.
     pub fn step<T, F: for<'p> FnOnce(Cursor<'p, 'a>) -> Result<(T, Cursor<'p, 'a>), Error>>(
         &mut self,
         f: F,
@@ -404,7 +426,7 @@ impl<'a> Parser<'a> {
         }
     }
 
-    /// Takes `(`.
+    /// Consumes `(`. Fails if it is not next.
     #[tactic(auto, using(crate::proofs::parser::Refusals::refusal), unfolding(crate::specs::parser::Closures::opened))]
     fn open(&mut self) -> Result<(), Error>
         ensures ok { OnOk result
@@ -426,7 +448,7 @@ impl<'a> Parser<'a> {
         }
     }
 
-    /// Takes `)`.
+    /// Consumes `)`. Fails if it is not next.
     #[tactic(auto, using(crate::proofs::parser::Refusals::refusal), unfolding(crate::specs::parser::Closures::closed))]
     fn close(&mut self) -> Result<(), Error>
         ensures ok { OnOk result
@@ -448,10 +470,13 @@ impl<'a> Parser<'a> {
         }
     }
 
-    /// Takes `(`, calls a function with the depth one more, and takes `)`.
+    /// Consumes `(`, calls a function with the depth increased by 1, and consumes `)`. The function
+    /// must restore the depth.
     ///
-    /// Where one of them refuses, place and depth are put back; names stay as the function left
-    /// them.
+    /// # Errors
+    ///
+    /// Returns the error of the function, or an error if a parenthesis is missing. Position and
+    /// depth are then restored. Registered names remain as the function left them.
     pub fn parens<T: Drop, F: FnOnce(&mut Parser<'a>) -> Result<T, Error>>(
         &mut self,
         f: F,
@@ -497,23 +522,25 @@ impl<'a> Parser<'a> {
         }
     }
 
-    /// Whether a type is seen at the place.
+    /// Returns `true` if a `T` comes next.
     pub fn peek<T: Peek>(&self) -> Result<bool, Error>
-        ensures { Tells (T.sight self.now) result }
+        ensures { PeekIs (T.sight self.now) result }
     {
         T::peek(Cursor::new(self))
     }
 
-    /// Whether a type is seen after the token that is shown; false where none is shown.
+    /// Returns `true` if a `T` comes after the next visible token; `false` if that token is
+    /// missing.
     pub fn peek2<T: Peek>(&self) -> Result<bool, Error>
-        ensures { Tells (second T.sight self.now) result }
+        ensures { PeekIs (second T.sight self.now) result }
     {
         T::peek2(Cursor::new(self))
     }
 
-    /// Whether a type is seen after the next two tokens; false where one of them is missing.
+    /// Returns `true` if a `T` comes after the next 2 visible tokens; `false` if one of them is
+    /// missing.
     pub fn peek3<T: Peek>(&self) -> Result<bool, Error>
-        ensures { Tells (second (second T.sight) self.now) result }
+        ensures { PeekIs (second (second T.sight) self.now) result }
     {
         match Cursor::new(self).any()? {
             Some((_, next)) => T::peek2(next),
@@ -522,5 +549,5 @@ impl<'a> Parser<'a> {
     }
 }
 
-/// How many groups of [`Parser::parens`] may be open where [`Parser::depth_check`] is asked.
+/// Maximum number of open groups that [`Parser::depth_check`] accepts.
 pub const MAX_PARENS_DEPTH: usize = 100;

@@ -1,5 +1,5 @@
-//! What tokens read as: places, identifiers and indices, numbers, strings and words, as types that a
-//! parser reads and peeks at.
+//! Types that a parser parses and peeks at: identifiers and indices, integers, strings, keywords
+//! and other words, and groups.
 
 mod containers;
 pub(crate) mod integers;

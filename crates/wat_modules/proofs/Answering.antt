@@ -1,4 +1,4 @@
--- What compiling answers, from what the passes answered.
+-- The result of compiling a text, by the results of the passes.
 use Rattle.std.proofs.Common.{◌≡◌, ◌∙◌, ◌<◌, ◌^◌, ℕ, List, refl, sym, ap, subst, length, map, Option, Some, None, Result, Ok, Err, true, false, Bool}
 use Rattle.std.specs.Prelude.{nat_lt, if◌then◌else◌, Vec, IfOk}
 use Rattle.std.specs.List.{All}
@@ -12,27 +12,27 @@ use Rattle.wat_lex.specs.declared.lexer.kinds.Token.{Token}
 use Rattle.wat_lex.specs.errors.Errors.{Report, Custom, IsUnlessMemory, report_in}
 use Rattle.wat_lex.specs.tokens.ReadableTokens.{IsTokenOf}
 use Rattle.wat_lex.specs.tokens.Tiling.{MaximalTiling}
-use Rattle.wat_lex.specs.tokens.EverySetting.{EachPlaceIsTiled, TilingsAreOne}
+use Rattle.wat_lex.specs.tokens.EverySetting.{EachBoundaryHasTiling, TilingsAreUnique}
 use Rattle.wat_lexer_parser.specs.declared.parser.fault.Fault.{Fault}
 use Rattle.wat_lexer_parser.specs.laws.AllShown.{AllShown}
 use Rattle.wat_lexer_parser.specs.laws.Blanking.{TextShows}
 use Rattle.wat_lexer_parser.specs.laws.ShownLaws.{AllShownIsOne, SomethingIsAllShown}
 use Rattle.wat_lexer_parser.specs.names.RegisteredNames.{no_names}
 use Rattle.wat_lexer_parser.specs.parser.State.{Answers, report_of}
-use Rattle.wat_instructions.specs.declared.pieces.FaultKind.{FaultKind}
-use Rattle.wat_instructions.specs.Grammar as grammar
-use Rattle.wat_instructions.specs.Terminals.{Terminal}
-use Rattle.wat_sections.specs.Binary.{module_bytes}
-use Rattle.wat_fields.specs.Fields.{Field}
-use Rattle.wat_fields.specs.Modules.{Module}
-use Rattle.wat_fields_read.specs.Law.{ReadingIsGrammar}
-use Rattle.wat_fields_read.specs.Reading as reading
-use Rattle.wat_pieces.specs.Pieces.{plain, terminal_of}
-use Rattle.wat_pieces.specs.Shown.{PiecesShown, TextShown}
-use Rattle.wat_modules.specs.Compiling.{Fits, Spells, compiled, compiled_by, compiled_tokens, fitted, message, place, too_long}
+use Rattle.wat_module_ast.specs.declared.error.FaultKind.{FaultKind}
+use Rattle.wat_module_ast.specs.Grammar as grammar
+use Rattle.wat_module_tokens.specs.Terminals.{Terminal}
+use Rattle.wat_module_encoder.specs.Binary.{module_bytes}
+use Rattle.wat_module_ast.specs.Fields.{Field}
+use Rattle.wat_module_ast.specs.Modules.{Module}
+use Rattle.wat_module_parser.specs.Law.{ReadingIsGrammar}
+use Rattle.wat_module_parser.specs.Reading as reading
+use Rattle.wat_module_lexer.specs.TokenTerminals.{plain, terminal_of}
+use Rattle.wat_module_lexer.specs.Shown.{PiecesShown, TextShown}
+use Rattle.wat_modules.specs.Compiling.{Fits, DenotesModule, compiled, compiled_by, compiled_tokens, fitted, message, place, too_long}
 
--- what a text shows is one thing
-pub shows_one : TilingsAreOne → AllShownIsOne → (text : List ℕ) (us vs : List Token) (f g : Option Fault) → TextShows (plain text) no_names us f → TextShows (plain text) no_names vs g → (us ≡ vs) × (f ≡ g)
+-- The visible tokens of a text, and the error after them, are unique.
+pub shows_one : TilingsAreUnique → AllShownIsOne → (text : List ℕ) (us vs : List Token) (f g : Option Fault) → TextShows (plain text) no_names us f → TextShows (plain text) no_names vs g → (us ≡ vs) × (f ≡ g)
 shows_one tilings one text us vs f g h k =
     let t = tilings (plain text) 0 h.tokens k.tokens h.ending k.ending h.tiling k.tiling in
     one text k.ending no_names k.tokens us vs f g (subst (λ e. AllShown text e no_names k.tokens us f) t.1 (subst (λ ts. AllShown text h.ending no_names ts us f) t.0 h.all)) k.all
@@ -73,7 +73,7 @@ of_bytes law text us ts fs bytes r m e a t =
     let q : reading.whole (map (terminal_of text) us) ≡ Ok fs = ap reading.whole (sym t) ∙ (law ts fs).1 m in
     subst (λ x. Is (compiled_by text us x) r) (sym q) (subst (λ b. Is (fitted text b) r) e a)
 
--- the error of a fault with which so many tokens are left
+-- The report of a syntax error at which `left` tokens remain.
 abbrev pub fault_report : List ℕ → List Token → FaultKind → ℕ → Report
 fault_report text us kind left = report_in text (place text us left) (Custom (message kind))
 
@@ -87,34 +87,34 @@ of_fault text us ts kind left n error e l h t =
     let q : reading.whole (map (terminal_of text) us) ≡ Err (kind, left) = ap reading.whole (sym t) ∙ e in
     subst (λ x. Is (compiled_by text us x) (Err error)) (sym q) (unless_memory (fault_report text us kind (length left)) error (subst (λ k. IsUnlessMemory error (fault_report text us kind k)) l h))
 
--- the tokens of a text without a fault are those that are shown once more
-pub fault_of_tokens : TilingsAreOne → AllShownIsOne → (text : List ℕ) (items us : List Token) (shown : Option (Option Report)) (kind : FaultKind) (left : ℕ) (error : Option Report) → TextShown text items shown → IsUnlessMemory error (fault_report text items kind left) → TextShows (plain text) no_names us None → IsUnlessMemory error (fault_report text us kind left)
+-- The tokens of a text without an error are the same if they are computed again.
+pub fault_of_tokens : TilingsAreUnique → AllShownIsOne → (text : List ℕ) (items us : List Token) (shown : Option (Option Report)) (kind : FaultKind) (left : ℕ) (error : Option Report) → TextShown text items shown → IsUnlessMemory error (fault_report text items kind left) → TextShows (plain text) no_names us None → IsUnlessMemory error (fault_report text us kind left)
 fault_of_tokens tilings one text items us shown kind left error s h k =
     let a = seen text items shown s in
     subst (λ ts. IsUnlessMemory error (fault_report text ts kind left)) (shows_one tilings one text items us a.fault None a.shows k).0 h
 
--- the answer is that of all that the text shows
+-- The result is that of all visible tokens of the text and the error after them.
 abbrev pub IsRefused : List ℕ → Answer → Type 0
 IsRefused text r = (tokens : List Token) (last : Option Fault) → TextShows (plain text) no_names tokens last → Is (compiled text tokens last) r
 
-refused_by : TilingsAreOne → AllShownIsOne → (text : List ℕ) (us : List Token) (f : Option Fault) (r : Answer) → TextShows (plain text) no_names us f → Is (compiled text us f) r → IsRefused text r
+refused_by : TilingsAreUnique → AllShownIsOne → (text : List ℕ) (us : List Token) (f : Option Fault) (r : Answer) → TextShows (plain text) no_names us f → Is (compiled text us f) r → IsRefused text r
 refused_by tilings one text us f r h a = λ vs g k.
     let e = shows_one tilings one text us vs f g h k in subst (λ x. Is (compiled text vs x) r) e.1 (subst (λ x. Is (compiled text x f) r) e.0 a)
 
-spelled_by : ReadingIsGrammar → (text : List ℕ) (r : Answer) → IsRefused text r → (fs : List Field) → Spells text fs → Is (fitted text (module_bytes fs)) r
+spelled_by : ReadingIsGrammar → (text : List ℕ) (r : Answer) → IsRefused text r → (fs : List Field) → DenotesModule text fs → Is (fitted text (module_bytes fs)) r
 unfolding compiled_tokens
 spelled_by law text r h = λ fs s.
     subst (λ q. Is (compiled_by text s.shown.tokens q) r) (ap reading.whole (sym s.shown.are) ∙ (law s.terminals fs).1 s.spelled) (h s.shown.tokens None s.shown.shown)
 
 abbrev pub HasBytes : List ℕ → Answer → Type 0
-HasBytes text r = IfOk r (λ bytes. (fs : List Field) × Spells text fs × Fits fs × (bytes.items ≡ module_bytes fs))
+HasBytes text r = IfOk r (λ bytes. (fs : List Field) × DenotesModule text fs × Fits fs × (bytes.items ≡ module_bytes fs))
 
 fitted_is : (text : List ℕ) (bytes out : List ℕ) (b : Bool) → nat_lt (length bytes) (2 ^ 32) ≡ b → (if b then Ok bytes else Err (too_long text)) ≡ Ok out → (length bytes < 2 ^ 32) × (out ≡ bytes)
 fitted_is text bytes out true e h = let k : bytes ≡ out = cc in ((Decides-ltb (length bytes) (2 ^ 32)).0 e, sym k)
 fitted_is text bytes out false e h = cc
 
 bytes_of : ReadingIsGrammar → (text : List ℕ) (us : List Token) (out : Vec ℕ Global) → TextShows (plain text) no_names us None → (q : Result (List Field) grammar.Fault) → reading.whole (map (terminal_of text) us) ≡ q → compiled_by text us q ≡ Ok out.items
-    → (fs : List Field) × Spells text fs × Fits fs × (out.items ≡ module_bytes fs)
+    → (fs : List Field) × DenotesModule text fs × Fits fs × (out.items ≡ module_bytes fs)
 bytes_of law text us out h (Ok fs) e k =
     let f = fitted_is text (module_bytes fs) out.items (nat_lt (length (module_bytes fs)) (2 ^ 32)) refl k in
     (fs, record { terminals = map (terminal_of text) us; shown = record { tokens = us; shown = h; are = refl }; spelled = (law (map (terminal_of text) us) fs).0 e }, f.0, f.1)
@@ -140,7 +140,7 @@ shows_end : (text : List ℕ) (us : List Token) (f : Option Fault) → None ≡ 
 shows_end text us None e h = h
 shows_end text us (Some f) e h = cc
 
--- the answer is that of what the text shows
+-- The result is that of some visible tokens of the text and the error after them.
 pub record IsCompiled (text : List ℕ) (r : Answer) : Type 0 where
   pub tokens : List Token
   pub fault : Option Fault
@@ -152,7 +152,7 @@ compiled_fault text ts e h =
     let s = seen text h.tokens (Some e) h.shown in
     record { tokens = h.tokens; fault = s.fault; shows = s.shows; is = fault_is text h.tokens s.fault e s.reported }
 
--- the answer for all tokens that these are
+-- The result is that of all tokens with these terminals.
 abbrev pub IsOfTerminals : List ℕ → List Terminal → Answer → Type 0
 IsOfTerminals text ts r = (tokens : List Token) → TextShows (plain text) no_names tokens None → ts ≡ map (terminal_of text) tokens → Is (compiled_tokens text tokens) r
 
@@ -161,24 +161,24 @@ compiled_end text ts r h k =
     let s = seen text h.tokens None h.shown in
     record { tokens = h.tokens; fault = s.fault; shows = s.shows; is = no_fault text h.tokens s.fault r s.reported (k h.tokens (shows_end text h.tokens s.fault s.reported s.shows) h.are) }
 
-pub compiled_refused : TilingsAreOne → AllShownIsOne → (text : List ℕ) (r : Answer) → IsCompiled text r → IsRefused text r
+pub compiled_refused : TilingsAreUnique → AllShownIsOne → (text : List ℕ) (r : Answer) → IsCompiled text r → IsRefused text r
 compiled_refused tilings one text r h = refused_by tilings one text h.tokens h.fault r h.shows h.is
 
-pub compiled_spelled : TilingsAreOne → AllShownIsOne → ReadingIsGrammar → (text : List ℕ) (r : Answer) → IsCompiled text r → (fs : List Field) → Spells text fs → Is (fitted text (module_bytes fs)) r
+pub compiled_spelled : TilingsAreUnique → AllShownIsOne → ReadingIsGrammar → (text : List ℕ) (r : Answer) → IsCompiled text r → (fs : List Field) → DenotesModule text fs → Is (fitted text (module_bytes fs)) r
 compiled_spelled tilings one law text r h = spelled_by law text r (compiled_refused tilings one text r h)
 
 pub compiled_bytes : ReadingIsGrammar → (text : List ℕ) (r : Answer) → IsCompiled text r → HasBytes text r
 compiled_bytes law text r h = bytes_by law text h.tokens h.fault r h.shows h.is
 
--- a text spells one module
-pub one_module : TilingsAreOne → AllShownIsOne → ReadingIsGrammar → (text : List ℕ) (fs gs : List Field) → Spells text fs → Spells text gs → fs ≡ gs
+-- A text denotes at most one module.
+pub one_module : TilingsAreUnique → AllShownIsOne → ReadingIsGrammar → (text : List ℕ) (fs gs : List Field) → DenotesModule text fs → DenotesModule text gs → fs ≡ gs
 one_module tilings one law text fs gs h k =
     let e = shows_one tilings one text h.shown.tokens k.shown.tokens None None h.shown.shown k.shown.shown in
     let t : h.terminals ≡ k.terminals = h.shown.are ∙ ap (map (terminal_of text)) e.0 ∙ sym k.shown.are in
     let is : ◌≡◌ {A = Result (List Field) grammar.Fault} (Ok fs) (Ok gs) = sym ((law h.terminals fs).1 h.spelled) ∙ ap reading.whole t ∙ (law k.terminals gs).1 k.spelled in cc
 
--- something is shown
-pub shows_some : EachPlaceIsTiled → SomethingIsAllShown → (text : List ℕ) → IsUtf8 text → (tokens : List Token) × (last : Option Fault) × TextShows (plain text) no_names tokens last
+-- Each text has visible tokens and an end or an error after them.
+pub shows_some : EachBoundaryHasTiling → SomethingIsAllShown → (text : List ℕ) → IsUtf8 text → (tokens : List Token) × (last : Option Fault) × TextShows (plain text) no_names tokens last
 shows_some tiled some text u =
     let t = tiled (plain text) 0 u (IsCharBoundary-start text u) in
     let s : Source = record { setting = plain text; track = true; tokens = t.0; ending = t.1 } in let a = some s no_names 0 u t.2 in (a.0, a.1, record { tokens = t.0; ending = t.1; tiling = t.2; all = a.2 })

@@ -1,112 +1,117 @@
-//! Modules of WebAssembly, from text to bytes: a compiler whose answer is that of the standard's
-//! grammar and binary format, by theorem.
+//! Compiles modules of WebAssembly from text to binary. The result is, by theorem, the binary
+//! encoding of the module from which the grammar derives the text.
 #![tactic(auto)]
 
 ghost use Rattle.std.specs.Prelude.{◌≡◌, ◌<◌, ◌^◌, true, length, map, IfOk, List, None, Option};
-ghost use Rattle.wat_fields.specs.Fields.{Field};
-ghost use Rattle.wat_instructions.specs.Tokens.{AreLinked, AreReadable};
+ghost use Rattle.wat_module_ast.specs.Fields.{Field};
+ghost use Rattle.wat_module_tokens.specs.Tokens.{AreLinked, AreReadable};
 ghost use Rattle.wat_lex.specs.declared.lexer.kinds.Token.{Token};
 ghost use Rattle.wat_lex.specs.errors.Errors.{Custom, IsUnlessMemory, report_in};
 ghost use Rattle.wat_lexer_parser.specs.declared.parser.fault.Fault.{Fault};
 ghost use Rattle.wat_lexer_parser.specs.laws.Blanking.{TextShows};
 ghost use Rattle.wat_lexer_parser.specs.names.RegisteredNames.{no_names};
 ghost use Rattle.wat_lexer_parser.specs.parser.State.{Answers};
-ghost use Rattle.wat_modules.specs.Compiling.{Fits, Spells, compiled, compiled_tokens, fitted};
+ghost use Rattle.wat_modules.specs.Compiling.{Fits, DenotesModule, compiled, compiled_tokens, fitted};
 ghost use Rattle.wat_modules.specs.Compiling as compiling;
-ghost use Rattle.wat_pieces.specs.Drafts.{draft_terminals};
-ghost use Rattle.wat_pieces.specs.Pieces.{plain, terminal_of};
-ghost use Rattle.wat_sections.specs.Binary.{module_bytes};
+ghost use Rattle.wat_module_lexer.specs.Drafts.{draft_terminals};
+ghost use Rattle.wat_module_lexer.specs.TokenTerminals.{plain, terminal_of};
+ghost use Rattle.wat_module_encoder.specs.Binary.{module_bytes};
 
 pub mod laws;
-#[cfg(test)]
-mod tests;
 
 use std::alloc::Global;
-use wat_fields_read::module;
-use wat_instructions::pieces::{FaultKind, Refusal};
-use wat_instructions::source::Source;
 use wat_lexer_parser::Error;
 use wat_lexer_parser::lexer::Token;
 use wat_lexer_parser::token::Span;
-use wat_pieces::{Draft, ShownPieces, shown_pieces, shown_tokens};
-use wat_sections::encode;
+use wat_module_ast::error::{FaultKind, ParseFailure};
+use wat_module_encoder::encode;
+use wat_module_lexer::{PackedText, PackedTokens, pack_tokens, shown_tokens};
+use wat_module_parser::module;
+use wat_module_tokens::stream::TokenStream;
 
-/// The bytes of the module that a text spells.
+/// Compiles a module from text to binary.
 ///
-/// It answers bytes exactly where the text is one module of the grammar (`specs/Modules` of
-/// `wat_fields` says which), and these are its bytes by the standard's binary format. A module of
-/// more than `u32::MAX` bytes is refused at the text's start; any other text with the lexer's error
-/// or at the token that no rule takes. It may run out of memory.
+/// Returns the binary encoding of the module from which the grammar derives the text
+/// (`specs/Modules` of `wat_module_ast`). The text must be shorter than 2^32 bytes.
+///
+/// # Errors
+///
+/// Returns the first lexical error, if there is one. Otherwise returns a syntax error at a token,
+/// or at the end of the text, if the text is not a module. Returns an error at offset 0 if the
+/// encoding has more than `u32::MAX` bytes. Fails if an allocation fails.
 pub fn compile(alloc: Global, text: &str) -> Result<Vec<u8>, Error>
     requires { length text.now < 2 ^ 32 }
 
-    // The bytes are those of a module that the text spells.
-    ensures bytes { IfOk result (λ bytes. (fs : List Field) × Spells text.now fs × Fits fs
+    // The bytes encode a module from which the grammar derives the text.
+    ensures bytes { IfOk result (λ bytes. (fs : List Field) × DenotesModule text.now fs × Fits fs
         × (bytes.items ≡ module_bytes fs)) }
 
-    // Where it spells a module, the answer is its bytes, or that they are too many.
-    ensures spelled { (fs : List Field) → Spells text.now fs →
+    // If the grammar derives the text from a module, the result is the encoding of that module, the
+    // error that it is too long, or an allocation failure.
+    ensures spelled { (fs : List Field) → DenotesModule text.now fs →
         Answers true (λ bytes. bytes.items) (fitted text.now (module_bytes fs)) result }
 
-    // Any other refusal is that of all that the text shows, in its order.
+    // The result is that of the visible tokens and the lexical error after them, if there is one.
     ensures refused { (tokens : List Token) (last : Option Fault) →
         TextShows (plain text.now) no_names tokens last →
         Answers true (λ bytes. bytes.items) (compiled text.now tokens last) result }
 
-    // Something is shown.
+    // A text has visible tokens, with or without a lexical error after them.
     ensures some { (tokens : List Token) × (last : Option Fault) ×
         TextShows (plain text.now) no_names tokens last }
 {
     wat_lex::laws::one_tiling();
     wat_lexer_parser::laws::all_shown();
-    wat_fields_read::laws::reading_is_grammar();
+    wat_module_parser::laws::reading_is_grammar();
     has_tokens(text);
-    let ShownPieces { draft, error } = shown_pieces(alloc, text)?;
+    let PackedText { packed, error } = pack_tokens(alloc, text)?;
     match error {
         Some(error) => Err(error),
-        None => of_draft(alloc, text, draft),
+        None => of_draft(alloc, text, packed),
     }
 }
 
-/// The same of a text without a fault, of which these are the tokens that count.
-fn of_draft(alloc: Global, text: &str, draft: Draft<'_>) -> Result<Vec<u8>, Error>
+/// Compiles a text without lexical errors from its packed tokens.
+fn of_draft(alloc: Global, text: &str, packed: PackedTokens<'_>) -> Result<Vec<u8>, Error>
     requires short { length text.now < 2 ^ 32 }
-    requires readable { AreReadable text.now (length draft.kept.items) draft.tokens.items }
-    requires linked { AreLinked (draft_terminals text.now draft) draft.tokens.items }
+    requires readable { AreReadable text.now (length packed.kept.items) packed.tokens.items }
+    requires linked { AreLinked (draft_terminals text.now packed) packed.tokens.items }
     ensures { (tokens : List Token) → TextShows (plain text.now) no_names tokens None →
-        draft_terminals text.now draft.entry ≡ map (terminal_of text.now) tokens →
+        draft_terminals text.now packed.entry ≡ map (terminal_of text.now) tokens →
         Answers true (λ bytes. bytes.items) (compiled_tokens text.now tokens) result }
 {
-    let Draft { tokens, kept } = draft;
-    of_source(alloc, text, Source::new(text, tokens, &kept))
+    let PackedTokens { tokens, kept } = packed;
+    of_source(alloc, text, TokenStream::new(text, tokens, &kept))
 }
 
-/// The same of tokens that can be read.
-fn of_source(alloc: Global, text: &str, source: Source<'_>) -> Result<Vec<u8>, Error>
+/// Compiles a text without lexical errors from its significant tokens.
+fn of_source(alloc: Global, text: &str, source: TokenStream<'_>) -> Result<Vec<u8>, Error>
     requires { length text.now < 2 ^ 32 }
     ensures { (tokens : List Token) → TextShows (plain text.now) no_names tokens None →
         source.entry ≡ map (terminal_of text.now) tokens →
         Answers true (λ bytes. bytes.items) (compiled_tokens text.now tokens) result }
 {
-    wat_fields_read::laws::reading_is_grammar();
-    match module::module(alloc, source.pieces()) {
+    wat_module_parser::laws::reading_is_grammar();
+    match module::module(alloc, source.cursor()) {
         Ok(fields) => {
-            // Fields borrow from the text, and from what is kept beside it: bytes are written where
-            // tokens were.
+            // Fields borrow from the text and from the side table, but not from the packed tokens.
+            // These are freed before the bytes are allocated.
             drop(source);
-            fitting(alloc, text, encode::module_bytes(alloc, &fields)?)
+            bound_size(alloc, text, encode::module_bytes(alloc, &fields)?)
         }
-        Err(Refusal::Memory(refused)) => Err(Error::from(refused)),
-        Err(Refusal::Text(fault)) => Err(fault_at(alloc, text, fault.kind, fault.left.len())),
+        Err(ParseFailure::Memory(refused)) => Err(Error::from(refused)),
+        Err(ParseFailure::Text(fault)) => Err(fault_at(alloc, text, fault.kind, fault.left.len())),
     }
 }
 
-/// The error of a fault, with which so many tokens of the text are left. They are read once more,
-/// since few texts have a fault and each text would keep them.
+/// Returns the error for a syntax error with `left` remaining tokens. Lexes the text again: not
+/// every packed token has its offset, and few texts have a syntax error.
 fn fault_at(alloc: Global, text: &str, kind: FaultKind, left: usize) -> Error
     requires { length text.now < 2 ^ 32 }
     ensures { (tokens : List Token) → TextShows (plain text.now) no_names tokens None →
-        IsUnlessMemory result (report_in text.now (compiling.place text.now tokens left) (Custom (compiling.message kind))) }
+        IsUnlessMemory result
+        (report_in text.now (compiling.place text.now tokens left)
+        (Custom (compiling.message kind))) }
 {
     wat_lex::laws::one_tiling();
     wat_lexer_parser::laws::all_shown();
@@ -116,8 +121,8 @@ fn fault_at(alloc: Global, text: &str, kind: FaultKind, left: usize) -> Error
     }
 }
 
-/// These bytes, where they are not too many.
-fn fitting(alloc: Global, text: &str, bytes: Vec<u8>) -> Result<Vec<u8>, Error>
+/// Returns the bytes, or an error at offset 0 if there are more than `u32::MAX`.
+fn bound_size(alloc: Global, text: &str, bytes: Vec<u8>) -> Result<Vec<u8>, Error>
     ensures { Answers true (λ out. out.items) (fitted text.now bytes.items) result }
 {
     if (bytes.len() as u64) < 0x1_0000_0000 {
@@ -127,9 +132,12 @@ fn fitting(alloc: Global, text: &str, bytes: Vec<u8>) -> Result<Vec<u8>, Error>
     Err(Error::parse(alloc, Span::from_offset(0), text, message))
 }
 
-/// The error of a fault, with which so many tokens are left.
+/// Returns the error for a syntax error at the first of the last `left` tokens, or at the end of
+/// the text if `left` is 0.
 fn error_of(alloc: Global, text: &str, tokens: &[Token], kind: FaultKind, left: usize) -> Error
-    ensures { IsUnlessMemory result (report_in text.now (compiling.place text.now tokens.now left) (Custom (compiling.message kind))) }
+    ensures { IsUnlessMemory result
+        (report_in text.now (compiling.place text.now tokens.now left)
+        (Custom (compiling.message kind))) }
 {
     let place = match tokens.get(tokens.len().saturating_sub(left)) {
         Some(token) => token.offset,
@@ -141,7 +149,7 @@ fn error_of(alloc: Global, text: &str, tokens: &[Token], kind: FaultKind, left: 
     }
 }
 
-/// What an error says of a fault.
+/// Returns the message for a kind of syntax error.
 fn message(kind: FaultKind) -> &'static str
     ensures { result.now ≡ compiling.message kind }
 {
@@ -159,7 +167,8 @@ fn message(kind: FaultKind) -> &'static str
     }
 }
 
-/// Something is shown of a text.
+/// Lemma (no effect): a text has a list of visible tokens, with or without a lexical error after
+/// them.
 fn has_tokens(text: &str)
     ensures { (tokens : List Token) × (last : Option Fault) ×
         TextShows (plain text.now) no_names tokens last }

@@ -1,28 +1,28 @@
-//! The texts below a folder.
+//! Traversal of folders for `fmt`.
 use crate::report::{Failure, complain, not_opened, report};
 use std::alloc::AllocError;
 use std::fs::ReadDir;
 use std::{fs, io};
-use wat_commands::outcome::{Exit, Outcome};
-use wat_commands::run::RunFailure;
+use wat_tokens_run::outcome::{Exit, Outcome};
+use wat_tokens_run::run::RunFailure;
 
-/// What an entry of a folder is.
+/// The kind of an entry of a folder.
 #[derive(Clone, Copy, PartialEq, Eq)]
 pub enum Kind {
-    /// A folder itself, and no link to one.
+    /// A folder, but not a symbolic link to one.
     Folder,
-    /// A file with the name of a text, or a link to one.
+    /// A file with the extension `.wat` or `.wast`, or a symbolic link to one.
     Text,
-    /// Nothing to lay out.
+    /// Any other entry, which `fmt` ignores.
     Other,
 }
 
-/// Whether the name is that of a text.
+/// Returns `true` if the name ends with `.wat` or `.wast`.
 fn is_text_name(name: &str) -> bool {
     name.ends_with(".wat") || name.ends_with(".wast")
 }
 
-/// What an entry of a folder is. A link that leads nowhere is nothing to lay out.
+/// Returns the kind of an entry. A broken symbolic link is `Kind::Other`.
 pub fn kind_of(rt: &HostRuntime, entry: &str) -> io::Result<Kind> {
     if fs::symlink_metadata(rt, entry)?.is_dir() {
         return Ok(Kind::Folder);
@@ -38,7 +38,7 @@ pub fn kind_of(rt: &HostRuntime, entry: &str) -> io::Result<Kind> {
     }
 }
 
-/// Reports an entry of a folder that can't be read.
+/// Reports an entry of a folder that can't be read, and returns the exit status.
 fn not_listed(rt: &HostRuntime, folder: &str, error: &io::Error) -> Exit {
     if error.kind() == io::ErrorKind::InvalidFilename {
         return complain(rt, folder, &"a name in it is not UTF-8");
@@ -46,7 +46,8 @@ fn not_listed(rt: &HostRuntime, folder: &str, error: &io::Error) -> Exit {
     complain(rt, folder, &Failure("read", error))
 }
 
-/// Gathers the entries of a folder that can be read, reports each other, and answers the exit status.
+/// Appends the paths of the readable entries of a folder to `entries`, reports the other entries,
+/// and returns the exit status.
 fn gather(
     rt: &HostRuntime,
     folder: &str,
@@ -63,8 +64,8 @@ fn gather(
     Ok(status)
 }
 
-/// Puts the entries of a folder after those that are left, the first by its name last, and answers
-/// the exit status.
+/// Pushes the entries of a folder on the stack `left`, in descending order of their names, and
+/// returns the exit status. Fails if an allocation fails.
 fn try_push(
     rt: &HostRuntime,
     folder: &str,
@@ -80,8 +81,8 @@ fn try_push(
     Ok(status)
 }
 
-/// Puts the entries of a folder after those that are left, the first by its name last, reports what
-/// could not be read, and answers the exit status.
+/// Pushes the entries of a folder on the stack `left`, in descending order of their names, so that
+/// the first is popped first. Reports every error and returns the exit status.
 pub fn push_entries(rt: &HostRuntime, folder: &str, left: &mut Vec<String>) -> Exit {
     let listing = match fs::read_dir(rt, folder) {
         Ok(listing) => listing,

@@ -1,13 +1,13 @@
-//! Where texts are read from.
+//! Sources of texts: files and standard input.
 ghost use Rattle.std.specs.Prelude.{◌≡◌, None, IfOk};
-ghost use Rattle.wat_lines.specs.Plain.{plain_failure};
+ghost use Rattle.wat_tokens_io.specs.Plain.{plain_failure};
 
 use std::fs::File;
 use std::io;
 use std::rt::Stdin;
-use wat_commands::ends::{Failed, Plain};
+use wat_tokens_run::ends::{Failed, Plain};
 
-/// Standard input, or a file.
+/// Standard input or an open file.
 #[derive(Drop)]
 pub enum Input {
     Standard(Stdin),
@@ -23,7 +23,7 @@ impl io::Read for Input {
     }
 }
 
-/// Opens a file; `-` is standard input.
+/// Opens a file for reading. The name `-` is standard input.
 pub fn open(rt: &HostRuntime, file: &str) -> Result<Plain<Input>, Failed>
     ensures { IfOk result (λ input. plain_failure input ≡ None) }
 {

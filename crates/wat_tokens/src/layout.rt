@@ -1,6 +1,6 @@
-//! What `fmt` does with the text of a file.
+//! The command `fmt` for files and folders.
 ghost use Rattle.std.specs.Prelude.{◌≡◌, None};
-ghost use Rattle.wat_lines.specs.Plain.{plain_failure};
+ghost use Rattle.wat_tokens_io.specs.Plain.{plain_failure};
 
 use crate::folders::{Kind, kind_of, push_entries};
 use crate::input::{Input, open};
@@ -8,15 +8,15 @@ use crate::patch::{Unwritten, write_patch};
 use crate::replace::replace;
 use crate::report::{complain, name, not_opened, not_written, report};
 use std::fs;
-use wat_commands::Settings;
-use wat_commands::ends::Plain;
-use wat_commands::fmt::{Compared, run_compare, run_fmt};
-use wat_commands::options::Mode;
-use wat_commands::outcome::{Exit, Outcome};
-use wat_commands::run::RunFailure;
-use wat_lists::input::read_whole;
+use wat_tokens_output::input::read_whole;
+use wat_tokens_run::Settings;
+use wat_tokens_run::ends::Plain;
+use wat_tokens_run::fmt::{Compared, run_compare, run_fmt};
+use wat_tokens_run::options::Mode;
+use wat_tokens_run::outcome::{Exit, Outcome};
+use wat_tokens_run::run::RunFailure;
 
-/// Makes a file that is not laid out this text.
+/// Replaces a file by its formatted text, and returns the exit status.
 fn write(rt: &HostRuntime, file: &str, text: &str) -> Exit {
     match replace(rt, file, text) {
         Ok(()) => Exit::idle(),
@@ -24,7 +24,8 @@ fn write(rt: &HostRuntime, file: &str, text: &str) -> Exit {
     }
 }
 
-/// Compares the text of a file with its layout, and names the file, or makes it that.
+/// Compares the text of a file with its formatted text, and returns the exit status. If they
+/// differ, replaces the file if `writes` is set, and prints its name otherwise.
 fn compare(
     rt: &HostRuntime,
     settings: Settings,
@@ -44,7 +45,7 @@ fn compare(
     }
 }
 
-/// Writes the lines in which a text and its layout differ.
+/// Writes the unified diff from a text to its formatted text, and returns the exit status.
 fn write_difference(rt: &HostRuntime, file: &str, text: &[u8], layout: &[u8]) -> Exit {
     let mut output = Plain::new(rt.stdout());
     match write_patch(rt.alloc(), file, text, layout, &mut output) {
@@ -56,7 +57,8 @@ fn write_difference(rt: &HostRuntime, file: &str, text: &[u8], layout: &[u8]) ->
     }
 }
 
-/// Compares the text of a file with its layout, and writes the lines that differ.
+/// Compares the text of a file with its formatted text, writes the unified diff if they differ, and
+/// returns the exit status.
 fn show_difference(
     rt: &HostRuntime,
     settings: Settings,
@@ -78,8 +80,9 @@ fn show_difference(
     }
 }
 
-/// Does what is asked with the layout of the text of a file, and answers the exit status.
-fn lay_out_file(rt: &HostRuntime, settings: Settings, mode: Mode, file: &str) -> Exit {
+/// Runs `fmt` on a file in one of its modes, and returns the exit status. The name `-` is standard
+/// input, which `Mode::Write` rejects.
+fn format_file(rt: &HostRuntime, settings: Settings, mode: Mode, file: &str) -> Exit {
     if mode == Mode::Write && file == "-" {
         return complain(rt, file, &"no file to write");
     }
@@ -99,9 +102,9 @@ fn lay_out_file(rt: &HostRuntime, settings: Settings, mode: Mode, file: &str) ->
     }
 }
 
-/// Does what is asked with an entry of a folder: with a text, or with a folder, whose entries are
-/// then left to do.
-fn lay_out_entry(
+/// Runs `fmt` on an entry of a folder, and returns the exit status. The entries of a subfolder are
+/// pushed on the stack `left`.
+fn format_entry(
     rt: &HostRuntime,
     settings: Settings,
     mode: Mode,
@@ -110,26 +113,26 @@ fn lay_out_entry(
 ) -> Exit {
     match kind_of(rt, entry) {
         Ok(Kind::Folder) => push_entries(rt, entry, left),
-        Ok(Kind::Text) => lay_out_file(rt, settings, mode, entry),
+        Ok(Kind::Text) => format_file(rt, settings, mode, entry),
         Ok(Kind::Other) => Exit::idle(),
         Err(error) => not_opened(rt, entry, &error),
     }
 }
 
-/// Does what is asked with the layout of each text below a folder, and answers the greatest status.
-fn lay_out_folder(rt: &HostRuntime, settings: Settings, mode: Mode, folder: &str) -> Exit {
+/// Runs `fmt` on each text below a folder, and returns the greatest exit status.
+fn format_folder(rt: &HostRuntime, settings: Settings, mode: Mode, folder: &str) -> Exit {
     let mut left = Vec::new(rt.alloc());
     let mut worst = push_entries(rt, folder, &mut left);
     for _ in 0..u64::MAX {
         let Some(entry) = left.pop() else {
             break;
         };
-        worst = worst.or(lay_out_entry(rt, settings, mode, entry.as_str(), &mut left));
+        worst = worst.or(format_entry(rt, settings, mode, entry.as_str(), &mut left));
     }
     worst
 }
 
-/// Whether a name leads to a folder.
+/// Returns `true` if the name is that of a folder, or of a symbolic link to one.
 fn is_folder(rt: &HostRuntime, file: &str) -> bool {
     match fs::metadata(rt, file) {
         Ok(metadata) => metadata.is_dir(),
@@ -137,11 +140,11 @@ fn is_folder(rt: &HostRuntime, file: &str) -> bool {
     }
 }
 
-/// Does what is asked with the layout of a file's text, or of each text below a folder, and answers
-/// the greatest status; `-` is standard input.
+/// Runs `fmt` on a file, or on each text below a folder, and returns the greatest exit status. The
+/// name `-` is standard input.
 pub fn lay_out(rt: &HostRuntime, settings: Settings, mode: Mode, file: &str) -> Exit {
     if file != "-" && is_folder(rt, file) {
-        return lay_out_folder(rt, settings, mode, file);
+        return format_folder(rt, settings, mode, file);
     }
-    lay_out_file(rt, settings, mode, file)
+    format_file(rt, settings, mode, file)
 }

@@ -1,5 +1,5 @@
-//! Writes the tokens of WebAssembly texts, from files or standard input, or what its command line
-//! asks for beside them.
+//! The program `wat_tokens`: lists the tokens of WebAssembly texts from files or standard input,
+//! formats the texts, or compiles them.
 #![tactic(auto)]
 
 mod diff;
@@ -18,15 +18,15 @@ use std::io::IsTerminal;
 use std::process::ExitCode;
 use std::{env, fs, io};
 use target::Target;
-use wat_commands::Settings;
-use wat_commands::complaint::Complaint;
-use wat_commands::ends::{Failed, Plain};
-use wat_commands::options::Mode;
-use wat_commands::outcome::{Exit, Outcome};
-use wat_commands::respond::{Inputs, respond};
-use wat_commands::run::RunFailure;
+use wat_tokens_run::Settings;
+use wat_tokens_run::complaint::Complaint;
+use wat_tokens_run::ends::{Failed, Plain};
+use wat_tokens_run::options::Mode;
+use wat_tokens_run::outcome::{Exit, Outcome};
+use wat_tokens_run::respond::{Inputs, respond};
+use wat_tokens_run::run::RunFailure;
 
-/// The files of the machine.
+/// The files and the standard output of the host.
 #[derive(Drop)]
 struct Files<'a>(&'a HostRuntime);
 
@@ -70,7 +70,7 @@ impl<'a> Inputs for Files<'a> {
     }
 }
 
-/// The words after the program's name.
+/// Returns the command-line arguments after the program name.
 fn words(rt: &HostRuntime) -> io::Result<Vec<String>> {
     let mut words = Vec::new(rt.alloc());
     for word in env::args(rt)?.skip(1) {
@@ -79,8 +79,8 @@ fn words(rt: &HostRuntime) -> io::Result<Vec<String>> {
     Ok(words)
 }
 
-/// What a run ends in whose words can't be read. The standard library keeps only the kind of an
-/// error, so a refused request for memory is known by that.
+/// Returns the outcome for a command line that can't be read. The standard library keeps only the
+/// kind of an error, so an allocation failure is recognized by its kind.
 fn not_read(error: &io::Error) -> Outcome<'static> {
     match error.kind() {
         io::ErrorKind::OutOfMemory => Outcome::Refused(RunFailure::from(AllocError)),
@@ -88,7 +88,7 @@ fn not_read(error: &io::Error) -> Outcome<'static> {
     }
 }
 
-/// Writes on standard output what the words ask for, and answers the exit status.
+/// Executes the command line with standard output as the output, and returns the exit status.
 fn answer(rt: &HostRuntime) -> Exit {
     let words = match words(rt) {
         Ok(words) => words,

@@ -1,23 +1,23 @@
-//! The lines in which a text and its layout differ, as a unified diff.
+//! Unified diff from a text to its formatted text.
 use crate::diff::{Change, Place, Stretch, changes};
 use crate::report::Named;
 use std::alloc::{AllocError, Global};
 use std::fmt;
-use wat_commands::ends::{Failed, Sink};
-use wat_lines::block::Block;
+use wat_tokens_io::block::Block;
+use wat_tokens_run::ends::{Failed, Sink};
 
-/// How many lines are shown before a change and after it.
+/// The number of unchanged lines before and after each change.
 const CONTEXT: usize = 3;
 
-/// What comes after a last line without an end.
+/// The marker after a last line without a line feed.
 const NO_END: &[u8] = b"\n\\ No newline at end of file\n";
 
-/// Why a diff is not whole.
+/// The reason that a diff is incomplete.
 #[derive(Clone, Copy, Debug, PartialEq, Eq)]
 pub enum Unwritten {
     /// A write failed.
     Failed(Failed),
-    /// A request for memory was refused, by this refusal.
+    /// An allocation failed.
     Memory(AllocError),
 }
 
@@ -34,16 +34,17 @@ impl From<AllocError> for Unwritten {
 }
 
 impl Stretch {
+    /// Returns the number of lines.
     fn len(&self) -> usize {
         self.to.lines.saturating_sub(self.from.lines)
     }
 
-    /// Its part of a text.
+    /// Returns the lines as bytes of `text`.
     fn of<'a>(&self, text: &'a [u8]) -> &'a [u8] {
         text.get(self.from.bytes..self.to.bytes).unwrap_or(&[])
     }
 
-    /// With the lines around it that are shown.
+    /// Returns the lines together with the context before and after them.
     fn with_context(&self, text: &[u8]) -> Stretch {
         Stretch {
             from: lines_up(text, self.from, CONTEXT),
@@ -52,7 +53,8 @@ impl Stretch {
     }
 }
 
-/// The first line and the number of lines; of no lines the line before them.
+/// Displays the range of a hunk header: the first line and, unless it is 1, the number of lines. A
+/// range of no lines is displayed as the number of the line before it and 0.
 impl fmt::Display for Stretch {
     fn fmt<W: fmt::Write>(&self, f: &mut fmt::Formatter<W>) -> fmt::Result {
         let first = self.from.lines.saturating_add(1);
@@ -64,7 +66,7 @@ impl fmt::Display for Stretch {
     }
 }
 
-/// The place one line up.
+/// Returns the position one line up.
 fn line_up(text: &[u8], place: Place) -> Place {
     let end = place.bytes.saturating_sub(1);
     let above = text.get(..end).unwrap_or(&[]);
@@ -76,7 +78,7 @@ fn line_up(text: &[u8], place: Place) -> Place {
     Place { bytes, lines }
 }
 
-/// The place so many lines up, or the text's begin.
+/// Returns the position `count` lines up, or the start of the text.
 fn lines_up(text: &[u8], place: Place, count: usize) -> Place {
     let mut place = place;
     for _ in 0..count {
@@ -85,7 +87,7 @@ fn lines_up(text: &[u8], place: Place, count: usize) -> Place {
     place
 }
 
-/// The place so many lines down, or the text's end.
+/// Returns the position `count` lines down, or the end of the text.
 fn lines_down(text: &[u8], place: Place, count: usize) -> Place {
     let rest = text.get(place.bytes..).unwrap_or(&[]);
     let mut place = place;
@@ -96,12 +98,12 @@ fn lines_down(text: &[u8], place: Place, count: usize) -> Place {
     place
 }
 
-/// Whether the lines between two changes are shown with them.
+/// Returns `true` if two changes belong to one hunk, because their contexts touch or overlap.
 fn are_near(change: &Change, next: &Change) -> bool {
     Stretch::new(change.old.to, next.old.from).len() <= 2 * CONTEXT
 }
 
-/// A diff on its way to a sink.
+/// A diff that is being written.
 #[derive(Drop)]
 struct Patch<'a> {
     text: &'a [u8],
@@ -110,7 +112,7 @@ struct Patch<'a> {
 }
 
 impl Patch<'_> {
-    /// Puts lines, each with a mark in front.
+    /// Writes lines, each after the mark.
     fn put_lines<W: Sink>(
         &mut self,
         output: &mut W,
@@ -127,7 +129,7 @@ impl Patch<'_> {
         Ok(())
     }
 
-    /// Puts a change after the lines that are shown before it.
+    /// Writes the unchanged lines `above` a change, and the change.
     fn put_change<W: Sink>(
         &mut self,
         output: &mut W,
@@ -139,7 +141,7 @@ impl Patch<'_> {
         self.put_lines(output, b"+", change.new.of(self.layout))
     }
 
-    /// Puts changes that are near to each other, with the lines around them.
+    /// Writes a hunk: its header, changes that are near each other, and the context around them.
     fn put_hunk<W: Sink>(
         &mut self,
         alloc: Global,
@@ -163,16 +165,20 @@ impl Patch<'_> {
     }
 }
 
-/// The lines that name the two texts.
+/// Returns the file header: the lines with the names of both texts.
 fn names(alloc: Global, file: &str) -> Result<String, AllocError> {
-    // Readers of diffs take a name with a blank in it only where a tab ends it.
+    // Readers of diffs accept a name that contains a space only if a tab ends it.
     let end = if file.contains(' ') { "\t" } else { "" };
     let name = Named(file);
     format!(in alloc; "--- {name}{end}\n+++ {name}{end}\n")
 }
 
-/// Writes the lines in which the text of a file and its layout differ. Where they are the same only
-/// the file is named.
+/// Writes the unified diff from the text of a file to its formatted text. If the two are equal,
+/// writes only the file header.
+///
+/// # Errors
+///
+/// Fails if a write or an allocation fails; a prefix of the diff may have been written.
 pub fn write_patch<'a, W: Sink>(
     alloc: Global,
     file: &str,

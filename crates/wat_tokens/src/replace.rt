@@ -1,22 +1,22 @@
-//! Writing a file again.
+//! Atomic replacement of a file.
 use crate::report::Failure;
 use std::alloc::AllocError;
 use std::fs::{File, Permissions};
 use std::io::Write;
 use std::path::PathBuf;
 use std::{fmt, fs, io};
-use wat_commands::named::Shown;
+use wat_tokens_run::named::Shown;
 
-/// Why a file was left as it was.
+/// The reason that a file was not replaced.
 #[derive(Drop)]
 pub enum Kept {
-    /// Nobody may write it.
+    /// The file is read-only.
     ReadOnly,
-    /// Its temporary file, of this name, is there already.
+    /// A temporary file with this name exists already.
     Busy(String),
-    /// Its temporary file, of this name, can't be made.
-    Unmade(String, io::Error),
-    /// A call of the system failed, or a request for memory was refused.
+    /// The temporary file with this name can't be created.
+    NotCreated(String, io::Error),
+    /// A system call or an allocation failed.
     Unwritten(io::Error),
 }
 
@@ -41,14 +41,24 @@ impl fmt::Display for Kept {
                 "{} is there already: remove it, or another run is at work",
                 Shown(name)
             ),
-            Kept::Unmade(name, error) => write!(f, "{}: {}", Shown(name), Failure("open", error)),
+            Kept::NotCreated(name, error) => write!(
+                f,
+                "{}: {}",
+                Shown(name),
+                Failure("open", error)
+            ),
             Kept::Unwritten(error) => write!(f, "{}", Failure("write", error)),
         }
     }
 }
 
-/// Puts the text in place of a file's: it is written into a temporary file beside it, with the
-/// file's permissions, which then takes the file's name. Where that fails the file is as it was.
+/// Replaces the contents of a file by `text`. Writes a temporary file next to it, with the
+/// permissions of the file, and renames that file. If `file` is a symbolic link, the file at its
+/// end is replaced.
+///
+/// # Errors
+///
+/// Returns the reason if a step fails. The file is then unchanged.
 pub fn replace(rt: &HostRuntime, file: &str, text: &str) -> Result<(), Kept> {
     match target_of(rt, file)? {
         Some(target) => replace_target(rt, target.as_str(), text),
@@ -56,7 +66,7 @@ pub fn replace(rt: &HostRuntime, file: &str, text: &str) -> Result<(), Kept> {
     }
 }
 
-/// The file that a symbolic link leads to.
+/// Returns the path to which a symbolic link resolves, or `None` if the file is not a link.
 fn target_of(rt: &HostRuntime, file: &str) -> io::Result<Option<PathBuf>> {
     if !fs::symlink_metadata(rt, file)?.is_symlink() {
         return Ok(None);
@@ -64,7 +74,7 @@ fn target_of(rt: &HostRuntime, file: &str) -> io::Result<Option<PathBuf>> {
     Ok(Some(fs::canonicalize(rt, file)?))
 }
 
-/// Puts the text in place of that of a file that is no link.
+/// Replaces the contents of a file that is not a symbolic link.
 fn replace_target(rt: &HostRuntime, target: &str, text: &str) -> Result<(), Kept> {
     let permissions = fs::metadata(rt, target)?.permissions();
     if permissions.readonly() {
@@ -85,15 +95,15 @@ fn replace_target(rt: &HostRuntime, target: &str, text: &str) -> Result<(), Kept
     Ok(done?)
 }
 
-/// Why a temporary file is not made.
+/// Returns the reason that a temporary file was not created.
 fn not_made(temporary: String, error: io::Error) -> Kept {
     match error.kind() {
         io::ErrorKind::AlreadyExists => Kept::Busy(temporary),
-        _ => Kept::Unmade(temporary, error),
+        _ => Kept::NotCreated(temporary, error),
     }
 }
 
-/// Writes a temporary file, down to the disk.
+/// Sets the permissions of a temporary file, writes its contents, and syncs it to the disk.
 fn fill(file: &mut File, permissions: Permissions, text: &str) -> io::Result<()> {
     file.set_permissions(permissions)?;
     file.write_all(text.as_bytes())?;

@@ -1,12 +1,12 @@
-//! What `fmt` reports of a file.
+//! Reports of `fmt`.
 use std::{fmt, io};
-use wat_commands::ends::Failed;
-use wat_commands::named::Shown;
-use wat_commands::outcome::{Exit, Outcome};
-use wat_commands::respond::name_of;
-use wat_commands::run::RunFailure;
+use wat_tokens_run::ends::Failed;
+use wat_tokens_run::named::Shown;
+use wat_tokens_run::outcome::{Exit, Outcome};
+use wat_tokens_run::respond::name_of;
+use wat_tokens_run::run::RunFailure;
 
-/// A file as reports and lists name it.
+/// The name of a file, displayed as in reports and lists.
 #[derive(Clone, Copy)]
 pub struct Named<'a>(pub &'a str);
 
@@ -16,7 +16,7 @@ impl fmt::Display for Named<'_> {
     }
 }
 
-/// A call of the system that failed, in words.
+/// A failed system call: its name and its error.
 #[derive(Clone, Copy)]
 pub struct Failure<'a>(pub &'static str, pub &'a io::Error);
 
@@ -29,29 +29,29 @@ impl fmt::Display for Failure<'_> {
     }
 }
 
-/// Reports what came of a file, and answers the exit status.
+/// Reports an outcome for a file, and returns the exit status.
 pub fn report(rt: &HostRuntime, file: &str, outcome: &Outcome<'_>) -> Exit {
     let _ = outcome.report(rt.alloc(), Some(name_of(file)), &mut rt.stderr());
     outcome.exit(true)
 }
 
-/// Reports what the outcomes have no words for.
+/// Reports a message that no outcome has, and returns the exit status 2.
 pub fn complain<D: fmt::Display>(rt: &HostRuntime, file: &str, what: &D) -> Exit {
     let _ = eprintln!(rt; "wat_tokens: {}: {what}", Named(file));
     Outcome::Kept.exit(true)
 }
 
-/// Reports that standard output can't be written.
+/// Reports that standard output can't be written, and returns the exit status.
 pub fn not_written(rt: &HostRuntime, file: &str, failed: Failed) -> Exit {
     report(rt, file, &Outcome::Refused(RunFailure::Write(failed)))
 }
 
-/// Reports that the system did not open a file or folder.
+/// Reports that a file or folder can't be opened, and returns the exit status.
 pub fn not_opened(rt: &HostRuntime, file: &str, error: &io::Error) -> Exit {
     complain(rt, file, &Failure("open", error))
 }
 
-/// Names a file that is not laid out.
+/// Prints the name of a file that is not formatted, and returns the exit status.
 pub fn name(rt: &HostRuntime, file: &str) -> Exit {
     match println!(rt; "{}", Named(file)) {
         Ok(()) => Outcome::Differs.exit(true),

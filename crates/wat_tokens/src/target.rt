@@ -1,12 +1,13 @@
-//! The file that the bytes of a module are written to.
+//! The output file of `types` and `module`.
 ghost use Rattle.std.specs.Prelude.{◌≡◌, None, IfOk};
 
 use std::alloc::AllocError;
 use std::fs::File;
 use std::io::Write;
-use wat_commands::ends::{Failed, Sink};
+use wat_tokens_run::ends::{Failed, Sink};
 
-/// A file that is made, or emptied, before the first byte is written. Nothing happens to it otherwise.
+/// A file that is created, or emptied, before its first byte is written. It stays unchanged if no
+/// byte is written.
 #[derive(Drop)]
 pub struct Target<'a> {
     rt: &'a HostRuntime,
@@ -16,7 +17,7 @@ pub struct Target<'a> {
 }
 
 impl<'a> Target<'a> {
-    /// Returns the target of this name. Allocates a copy of the name.
+    /// Returns the target with this name. Allocates a copy of the name.
     pub fn new(rt: &'a HostRuntime, name: &str) -> Result<Target<'a>, AllocError>
         ensures { IfOk result (λ target. target.failure ≡ None) }
     {
@@ -49,7 +50,8 @@ impl Sink for Target<'_> {
     }
 }
 
-/// Writes bytes to a file, which is opened first if it is not. No bytes leave it as it is.
+/// Writes bytes to a file, which is created or emptied first if it is not yet open. Does nothing if
+/// `bytes` is empty.
 fn write(
     rt: &HostRuntime,
     name: &str,

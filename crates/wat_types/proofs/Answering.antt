@@ -1,4 +1,4 @@
--- What compiling answers, from what the parser answered and how many bytes there are.
+-- The result of compiling, from the result of parsing and the length of the contents.
 use Rattle.std.proofs.Common.{◌≡◌, ◌∙◌, ◌≤◌, ◌^◌, ℕ, List, arith, inl, inr, sym, ap, subst, length, Ok, Err}
 use Rattle.std.specs.Prelude.{Result, nat_lt, if◌then◌else◌}
 use Rattle.std.specs.Str.{IsUtf8}
@@ -21,12 +21,12 @@ compiled_too_long fs h = elim (cases_Bool (nat_lt (length (content fs)) (2 ^ 32)
   | inr t ↦ ap (λ b. if b then Ok (module_bytes fs) else Err too_long) t
 ]
 
--- the law of a source whose text is at hand
+-- The theorem for a source with the given text.
 pub spelled_is_read : ReadingIsSpelling → (s : Source) (text : List ℕ) (fs : List Signature) → IsUtf8 text → IsRead s → s.setting ≡ plain text → SpellsTypes text fs → whole module_types s ≡ Ok fs
 spelled_is_read law s text fs u r p h =
     let e : s.setting.text ≡ text = ap (λ x. x.text) p in
     (law s fs (subst IsUtf8 (sym e) u) r (p ∙ ap plain (sym e))).1 (subst (λ t. SpellsTypes t fs) (sym e) h)
 
--- what is spelled is what was read
+-- The function types that the grammar derives are those that were parsed.
 pub same_types : (m : Result (List Signature) Report) (fs gs : List Signature) → m ≡ Ok fs → m ≡ Ok gs → gs ≡ fs
 same_types m fs gs e f = let k : Ok gs ≡ Ok fs = sym f ∙ e in cc

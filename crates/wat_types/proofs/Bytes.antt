@@ -1,4 +1,4 @@
--- How long the bytes of types are: where their number is an `u32`, so is each length in them.
+-- Lengths of encodings: if the length of the section's contents is below 2^32, so is each length inside.
 use Rattle.std.proofs.Common.{◌≡◌, ◌∙◌, ◌≤◌, ◌<◌, ◌+◌, ◌^◌, inl, inr, ℕ, zero, suc, List, [], ◌∷◌, ◌++◌, arith, refl, sym, ap, length, length-append}
 use Rattle.std.specs.Prelude.{slice_index_or}
 use Rattle.std.proofs.lemmas.Bool.{cases_lt}
@@ -15,7 +15,7 @@ flat_signatures : (fs : List FuncType) → flat_map (λ f. func_bytes (signature
 flat_signatures [] = refl
 flat_signatures (f ∷ fs) = ap (λ bs. func_bytes (signature f) ++ bs) (flat_signatures fs)
 
--- the list of types, as `encode_slice` writes it
+-- The list of types, as `encode_slice` encodes it.
 pub content_is : (fs : List FuncType) → list_encoding (λ f. func_bytes (signature f)) fs ≡ content (signatures fs)
 unfolding content
 content_is fs = ap (λ bs. unsigned_leb128 (length fs) ++ bs) (flat_signatures fs) ∙ ap (λ n. unsigned_leb128 n ++ flat_map func_bytes (signatures fs)) (sym (length-map fs signature))
@@ -33,7 +33,7 @@ func_longer f =
     omega
     (arith, list_longer f.params, list_longer f.results, length-append (0x60 ∷ []) (list_encoding val_bytes f.params), length-append ((0x60 ∷ []) ++ list_encoding val_bytes f.params) (list_encoding val_bytes f.results))
 
--- each function type is shorter than all
+-- Each function type is at most as long as all together.
 func_within : (fs : List FuncType) (k : ℕ) (d : FuncType) → k < length fs → length (func_bytes (signature (slice_index_or fs k d))) ≤ length (flat_map func_bytes (signatures fs))
 func_within [] k d h = absurd (omega arith)
 func_within (f ∷ fs) zero d h = omega (arith, length-append (func_bytes (signature f)) (flat_map func_bytes (signatures fs)))
@@ -49,7 +49,7 @@ func_fits f n h l =
     let results : length f.results.items < 2 ^ 32 = omega (arith, func_longer (signature f), h, l) in
     ((params, λ k d h. tt), (results, λ k d h. tt))
 
--- where the bytes are few enough, all lengths are
+-- If the contents are shorter than 2^32 bytes, all lengths inside are below 2^32.
 pub all_lengths_fit : (fs : List FuncType) → length (content (signatures fs)) < 2 ^ 32 → ListFits (λ f. FuncFits (signature f)) fs
 unfolding content
 all_lengths_fit fs l =
@@ -58,7 +58,7 @@ all_lengths_fit fs l =
     let few : n < 2 ^ 32 = omega (arith, both, l) in
     (omega (arith, few, types_longer fs), λ k d h. func_fits (slice_index_or fs k d) n (func_within fs k d h) few)
 
--- a list that does not fit has too many bytes
+-- A list with a length of 2^32 or more has contents of 2^32 bytes or more.
 pub too_many : (fs : List FuncType) → ¬ ListFits (λ f. FuncFits (signature f)) fs → 2 ^ 32 ≤ length (content (signatures fs))
 too_many fs h = elim (cases_lt (length (content (signatures fs))) (2 ^ 32)) [
   | inl l ↦ absurd (h (all_lengths_fit fs l))
@@ -70,7 +70,7 @@ unfolding content unsigned_leb128
 none_fit [] e = omega arith
 none_fit (f ∷ fs) e = absurd (omega (arith, e))
 
--- the bytes in the order in which they are written
+-- The bytes in the order in which they are encoded.
 pub written_is : (fs : List FuncType) (bytes content_bytes : List ℕ) → (length fs ≡ 0 → ⊥) → content_bytes ≡ content (signatures fs)
     → bytes ≡ ((header ++ (0x01 ∷ [])) ++ unsigned_leb128 (length content_bytes)) ++ content_bytes → bytes ≡ module_bytes (signatures fs)
 written_is [] bytes c some e b = absurd (some refl)

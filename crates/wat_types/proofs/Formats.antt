@@ -51,7 +51,7 @@ definition = and_then (keyword (codes "type")) (λ at. and_then name (λ n. grou
 abbrev pub module_types : Format (List Signature)
 module_types = group (and_then (keyword (codes "module")) (λ at. many (group definition) refl))
 
--- These are the readings that the calls have.
+-- The readings of these formats are those of the parsers' contracts.
 
 val_is : val.reading ≡ meanings.val
 unfolding val meanings.val types.keyword standard_word standard_words

@@ -1,7 +1,7 @@
--- What the parser's calls read of a whole text is what the grammar spells with it.
+-- Parsing a whole text returns the function types that the grammar derives for it.
 use Rattle.std.proofs.Common.{◌≡◌, ℕ, List, [], sym, subst, None, Ok}
 use Rattle.std.specs.Str.{IsUtf8}
-use Rattle.wat_lex.specs.tokens.EverySetting.{TilingsAreOne}
+use Rattle.wat_lex.specs.tokens.EverySetting.{TilingsAreUnique}
 use Rattle.wat_lexer_parser.specs.lemmas.SpellingLaws.{reads_as_spelled, spelled_once}
 use Rattle.wat_lexer_parser.specs.places.Source.{Source, IsRead}
 use Rattle.wat_lexer_parser.specs.readings.Readings.{whole}
@@ -14,11 +14,11 @@ use Rattle.wat_types.specs.Signatures.{Signature}
 use Rattle.wat_types.proofs.Formats as formats
 use Rattle.wat_types.proofs.Spelled.{module_is, is_module}
 
-pub reads_module : TilingsAreOne → SomethingIsAllShown → OneThingShown → ReadsAsSpelled meanings.module_types formats.module_types.rule
+pub reads_module : TilingsAreUnique → SomethingIsAllShown → OneThingShown → ReadsAsSpelled meanings.module_types formats.module_types.rule
 reads_module one_tiling some one =
     subst (λ m. ReadsAsSpelled m formats.module_types.rule) formats.module_is (reads_as_spelled one_tiling some one formats.module_types.reading formats.module_types.rule formats.module_types.law)
 
--- the grammar's words for the same
+-- From the rule of the format to the grammar.
 to_grammar : (text : List ℕ) (fs : List Signature) → SpellsRule formats.module_types.rule (plain text) fs → SpellsTypes text fs
 to_grammar text fs h = record { tokens = h.tokens; shown = h.shown; spelled = module_is (ground_of text h.tokens None) h.tokens fs h.begins }
 

@@ -1,4 +1,4 @@
--- Lists of number types that are read: each takes a token, and all are joined.
+-- Lists of number types: each consumes a token, and all are concatenated.
 use Rattle.std.proofs.Common.{◌≡◌, ◌∙◌, ◌<◌, ℕ, List, [], ◌∷◌, ◌++◌, true, false, arith, length, map, refl, sym, ap, Ok}
 use Rattle.std.specs.List.{flat_map}
 use Rattle.std.proofs.lemmas.List.{length-map}
@@ -24,10 +24,10 @@ joined_map : {X V : Type 0} (f : X → List V) (xs : List X) → flat_map (λ vs
 joined_map f [] = refl
 joined_map f (x ∷ xs) = ap (λ vs. f x ++ vs) (joined_map f xs)
 
--- the values of lists that were read, joined
+-- The concatenation of the values of the lists.
 pub joined_read : {X V : Type 0} (f : X → List V) (sight : Sight) (m : Reading (List V)) (a : State) (xs : List X) (vs : List V) → (while_seen sight m a).answer ≡ Ok (map f xs) → vs ≡ flat_map f xs → (joined_while sight m a).answer ≡ Ok vs
 joined_read f sight m a xs vs h e = ap (known_as (λ vss. flat_map (λ vs. vs) vss)) h ∙ ap Ok (joined_map f xs ∙ sym e)
 
--- where there is one, memory may have been asked for
+-- If there is a list, the reading may allocate.
 pub joined_takes : {X V : Type 0} (f : X → List V) (sight : Sight) (m : Reading (List V)) (a : State) (xs : List X) → (while_seen sight m a).answer ≡ Ok (map f xs) → 0 < length xs → (joined_while sight m a).takes_memory ≡ true
 joined_takes f sight m a xs h l = some_takes sight m a (map f xs) h (omega (arith, l, length-map xs f))

@@ -1,4 +1,4 @@
--- The rules of function types are those of their grammar.
+-- The rules of the formats of function types are those of the grammar.
 use Rattle.std.proofs.Common.{◌≡◌, ◌∙◌, inl, inr, ℕ, List, [], ◌∷◌, Bool, true, false, refl, sym, ap, subst, Some, None, Ok, Err}
 use Rattle.std.specs.Prelude.{Option, Result, codes, bytes_eq, is_some, not, if◌then◌else◌}
 use Rattle.std.specs.List.{flat_map}
@@ -12,7 +12,7 @@ use Rattle.wat_lex.specs.declared.lexer.kinds.Token.{Token}
 use Rattle.wat_lex.specs.declared.lexer.kinds.TokenKind.{TokenKind}
 use Rattle.wat_lex.specs.declared.lexer.kinds.TokenKind.TheVariants.{Keyword, Id}
 use Rattle.wat_lexer_parser.specs.groups.Sorts.{is_close}
-use Rattle.wat_lexer_parser.specs.parser.Takers.{as_id, as_keyword, name_or_report, name_takes}
+use Rattle.wat_lexer_parser.specs.parser.Takers.{as_id, as_keyword, name_or_report, name_is_decoded}
 use Rattle.wat_lexer_parser.specs.readings.Types.{Spelled, spelling, as_owned_id, named_by}
 use Rattle.wat_lexer_parser.specs.rules.Rules.{Ground, Rule, Telling, One, one, InGroup, While, known_word, tells_kind, tells_second, tells_more}
 use Rattle.wat_lexer_parser.specs.rules.Rules as rules
@@ -38,7 +38,7 @@ spelled_word x w t k v e = cc
 word_read : (x w u : List ℕ) (t : Token) → IsWord x u t → spelling as_keyword w x t t.kind ≡ spells_by (bytes_eq u w)
 word_read x w u t h = ap (spelling as_keyword w x t) h.kind ∙ ap (λ a. spells_by (bytes_eq a w)) h.spells
 
--- A keyword.
+-- Keywords.
 
 one_word : (g : Ground) (w : List ℕ) (ts : List Token) (v : Unit {0}) (r : List Token) → One (spelling as_keyword w) g ts v r → (t : Token) × (t ∷ r ≡ ts) × IsWord g.text w t
 one_word g w _ v r (one {t = t} e) = let k = spelled_word g.text w t t.kind v e in (t, refl, record { kind = k.0; spells = k.1 })
@@ -56,7 +56,7 @@ seen_by false = refl
 sees_other : (g : Ground) (w u : List ℕ) (b : Bool) (t : Token) (r : List Token) → bytes_eq u w ≡ b → IsWord g.text u t → (a_keyword w).look g (t ∷ r) ≡ Ok b
 sees_other g w u b t r e h = ap known_word (word_read g.text w u t h) ∙ seen_by (bytes_eq u w) ∙ ap Ok e
 
--- Values.
+-- Number types.
 
 val_is : (g : Ground) (ts : List Token) (v : ValType) (r : List Token) → val.rule g ts v r → Val g.text ts v r
 unfolding val
@@ -93,7 +93,7 @@ is_val g _ _ r (f64 {t = t} h) =
       ),
     )
 
--- Lists: one lemma each way for any rule.
+-- Lists: one lemma in each direction, for any rule.
 
 star_of : {V : Type 0} (g : Ground) (look : Telling) (R : Rule V) (One : List Token → V → List Token → Type 0) → ((ts : List Token) (v : V) (r : List Token) → R g ts v r → One ts v r)
     → (ts : List Token) (vs : List V) (r : List Token) → While look R g ts vs r → Star One ts vs r
@@ -108,7 +108,7 @@ while_of g look R One f ts _ r e (grammar.more {r = us} {v = v} {vs = vs} h w) =
 vals_is : (g : Ground) (ts : List Token) (vs : List ValType) (r : List Token) → vals.rule g ts vs r → Star (Val g.text) ts vs r
 vals_is g ts vs r w = star_of g tells_more val.rule (Val g.text) (val_is g) ts vs r w
 
--- (result val*)
+-- `(result val*)`.
 returns_is : (g : Ground) (ts : List Token) (vs : List ValType) (r : List Token) → InGroup returns.rule g ts vs r → Returns g.text ts vs r
 unfolding returns
 returns_is g _ vs r (rules.group {o = o} {c = c} {ts = ts} opens h closes) =
@@ -126,7 +126,7 @@ is_returns g _ vs r (returned {w = w} {c = c} {ts = ts} opens h vals closes) =
     val_more g _ _ r (f32 h) = ap (λ k. Ok (not (is_close k))) h.kind
     val_more g _ _ r (f64 h) = ap (λ k. Ok (not (is_close k))) h.kind
 
--- An identifier.
+-- Identifiers.
 
 name_good : (x : List ℕ) (t : Token) (a : Result (List ℕ) LexError) (v : List ℕ) → ◌≡◌ {A = Option (Result (List ℕ) Report)} (Some (name_or_report x t a)) (Some (Ok v)) → a ≡ Ok v
 name_good x t (Ok n) v e = let k : n ≡ v = cc in ap Ok k
@@ -143,10 +143,10 @@ named_got b (Some (Err f)) v e = cc
 
 one_name : (g : Ground) (ts : List Token) (v : List ℕ × Bool) (r : List Token) → One as_owned_id g ts v r → (t : Token) × (t ∷ r ≡ ts) × IsName g.text t
 one_name g _ v r (one {t = t} e) =
-    let k = named_id g.text t t.kind v.0 (named_got (name_takes g.text t) (as_id g.text t t.kind) v e) in
+    let k = named_id g.text t t.kind v.0 (named_got (name_is_decoded g.text t) (as_id g.text t t.kind) v e) in
     (t, refl, record { kind = k.0; name = v.0; named = k.1 })
 
--- (param id val) or (param val*)
+-- `(param id val)` or `(param val*)`.
 param_by : (g : Ground) (o w c : Token) (ts us : List Token) (n : Option Spelled) (vs : List ValType) (r : List Token) → IsOpen o → IsWord g.text (codes "param") w → IsClose c → name.rule g ts n us → (named_or_all n).rule g us vs (c ∷ r) → Param g.text (o ∷ w ∷ ts) vs r
 param_by g o w c ts us (Some n) vs r opens word closes h k = elim h [
   | inl h ↦
@@ -165,7 +165,7 @@ param_is g _ vs r (rules.group {o = o} {c = c} {ts = ts} opens h closes) =
     let w = word_of_rule g (codes "param") ts h.0 h.1 h.2 in
     subst (λ ts. Param g.text (o ∷ ts) vs r) w.1 (param_by g o w.0 c h.1 h.3.1 h.3.0 vs r opens w.2 closes h.3.2 h.3.3)
 
--- (func param* result*)
+-- `(func param* result*)`.
 func_is : (g : Ground) (ts : List Token) (f : Signature) (r : List Token) → InGroup func.rule g ts f r → Func g.text ts f r
 unfolding func
 func_is g _ f r (rules.group {o = o} {c = c} {ts = ts} opens h closes) =
@@ -191,7 +191,7 @@ module_is g _ fs (rules.group {o = o} {c = c} {ts = ts} opens h closes) =
     let w = word_of_rule g (codes "module") ts h.0 h.1 h.2 in
     subst (λ ts. Module g.text (o ∷ ts) fs) w.1 (grammar.definitions opens w.2 (star_of g tells_more (InGroup definition.rule) (Definition g.text) (definition_is g) h.1 fs (c ∷ []) h.3) closes)
 
--- The other way round.
+-- The other direction: from the grammar to the rules.
 
 val_first : (g : Ground) (ts : List Token) (v : ValType) (r : List Token) → Val g.text ts v r → (t : Token) × (us : List Token) × (t ∷ us ≡ ts) × (t.kind ≡ Keyword)
 val_first g _ _ r (i32 {t = t} h) = (t, r, refl, h.kind)
@@ -213,11 +213,11 @@ vals_no_name g _ _ c r closes grammar.none = ap (no_name_by g c) closes
 vals_no_name g ts _ c r closes (grammar.more {r = us} {v = v} h w) = let k = val_first g ts v us h in subst (λ ts. tells_kind as_id g ts ≡ Ok false) k.2 (ap (no_name_by g k.0) k.3)
 
 abbrev identified_by : Ground → List ℕ → Token → Spelled
-identified_by g n t = record { name = n; owned = name_takes g.text t; generation = 0; span = t.offset }
+identified_by g n t = record { name = n; owned = name_is_decoded g.text t; generation = 0; span = t.offset }
 
 rule_of_name : (g : Ground) (t : Token) (r : List Token) → (h : IsName g.text t) → name.rule g (t ∷ r) (Some (identified_by g h.name t)) r
 rule_of_name g t r h =
-    let owned = name_takes g.text t in
+    let owned = name_is_decoded g.text t in
     let is = ap (as_id g.text t) h.kind ∙ ap (λ a. Some (name_or_report g.text t a)) h.named in
     let read = one (ap (named_by owned) is) in
     inl (ap (no_name_by g t) h.kind, (identified_by g h.name t, (((h.name, owned), t.offset), ((h.name, owned), read, refl), refl), refl))
@@ -232,7 +232,7 @@ is_param g _ _ r (grammar.named {w = w} {n = n} {c = c} {ts = ts} {v = v} opens 
 is_param g _ vs r (grammar.listed {w = w} {c = c} {ts = ts} opens h k closes) =
     (rules.group opens (w.offset, ts, rule_of_word g (codes "param") w ts h, (None, ts, inr (vals_no_name g ts vs c r closes k, (refl, refl)), is_vals g ts vs c r closes k)) closes, sees_other g (codes "param") (codes "param") true w ts refl h)
 
--- no param comes after a returns, nor after what is after the func
+-- No `param` follows a `result` or the end of the `func`.
 returns_no_param : (g : Ground) (ts : List Token) (rs : List (List ValType)) (c : Token) (r : List Token) → (a_keyword (codes "param")).look g r ≡ Ok false → Star (Returns g.text) ts rs (c ∷ r) → after_open g ts ≡ Ok false
 returns_no_param g _ _ c r e grammar.none = e
 returns_no_param g _ _ c r e (grammar.more (returned {w = w} {ts = ts} opens h listed closes) others) = sees_other g (codes "param") (codes "result") false w ts refl h

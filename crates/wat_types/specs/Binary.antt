@@ -1,5 +1,5 @@
--- WebAssembly specification, binary format: modules (modules, sections, type section), types (number types, function types),
--- conventions (vectors), values (integers).
+-- WebAssembly 2.0, chapter 5 (binary format): 5.1.3 (vectors), 5.2.2 (integers), 5.3.1 (number types), 5.3.6 (function
+-- types), 5.5.2 (sections), 5.5.4 (type section) and 5.5.16 (modules).
 use Rattle.std.specs.Prelude.{ℕ, ◌<◌, ◌^◌, List, [], ◌∷◌, ◌++◌, length}
 use Rattle.wat_lex.specs.binary.Encoding.{ListFits, list_encoding}
 use Rattle.wat_lex.specs.binary.Leb128.{unsigned_leb128}
@@ -16,31 +16,31 @@ val_byte F64 = 0x7C
 abbrev pub val_bytes : ValType → List ℕ
 val_bytes v = val_byte v ∷ []
 
--- a function type: 0x60, the list of its parameters, the list of its results
+-- A function type: 0x60, the vector of the parameter types, and the vector of the result types.
 unfoldable pub func_bytes : Signature → List ℕ
 func_bytes f = ((0x60 ∷ []) ++ list_encoding val_bytes f.params) ++ list_encoding val_bytes f.results
 
--- both lists have their lengths as `u32`
+-- The lengths of both vectors are below 2^32.
 abbrev pub FuncFits : Signature → Type 0
 FuncFits f = ListFits (λ (v : ValType). Unit {0}) f.params × ListFits (λ (v : ValType). Unit {0}) f.results
 
--- what the type section holds: a list of function types
+-- The contents of the type section: a vector of function types.
 unfoldable pub content : List Signature → List ℕ
 content fs = list_encoding func_bytes fs
 
--- the number of its bytes is an `u32`
+-- The size of the type section's contents, in bytes, is below 2^32.
 abbrev pub Fits : List Signature → Type 0
 Fits fs = length (content fs) < 2 ^ 32
 
--- the magic number and the version
+-- The magic number and the version of the format.
 abbrev pub header : List ℕ
 header = 0x00 ∷ 0x61 ∷ 0x73 ∷ 0x6D ∷ 0x01 ∷ 0x00 ∷ 0x00 ∷ 0x00 ∷ []
 
--- the type section: its number, how many bytes it holds, and these
+-- The type section: its id 0x01, the size of its contents as unsigned LEB128, and the contents.
 abbrev pub section : List Signature → List ℕ
 section fs = (0x01 ∷ []) ++ (unsigned_leb128 (length (content fs)) ++ content fs)
 
--- a module that holds nothing but these types; with none it has no section
+-- A module with these function types and nothing else. Without function types it has no section.
 abbrev pub module_bytes : List Signature → List ℕ
 module_bytes [] = header
 module_bytes (f ∷ fs) = header ++ section (f ∷ fs)

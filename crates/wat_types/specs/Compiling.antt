@@ -1,4 +1,4 @@
--- WebAssembly specification, text format and binary format: modules. What compiling a text answers.
+-- WebAssembly 2.0, 6.6.13 and 5.5.16 (modules, text and binary format). The results of compiling a text.
 use Rattle.std.specs.Prelude.{◌≡◌, ◌↔◌, ℕ, ◌^◌, nat_lt, false, List, length, codes, if◌then◌else◌, None, Result, Ok, Err}
 use Rattle.std.specs.Str.{IsUtf8}
 use Rattle.wat_lex.specs.errors.Errors.{Report, Custom}
@@ -13,25 +13,26 @@ use Rattle.wat_types.specs.Grammar.{Module}
 use Rattle.wat_types.specs.Meanings.{module_types}
 use Rattle.wat_types.specs.Signatures.{Signature}
 
--- a text, where neither confusing characters are allowed nor underscores strict
+-- The text, lexed with confusing characters rejected and underscores not strict.
 abbrev pub plain : List ℕ → Setting
 plain text = record { text = text; flags = record { allow = false; strict = false } }
 
--- the text is a module that holds nothing but these function types: its tokens that count are such a module, and then it ends
+-- The text is a module with these function types and nothing else: its visible tokens, without registered names, match
+-- `Module` of the grammar, and it has no error after them.
 pub record SpellsTypes (text : List ℕ) (fs : List Signature) : Type 0 where
   pub tokens : List Token
   pub shown : TextShows (plain text) no_names tokens None
   pub spelled : Module text tokens fs
 
--- the refusal of types whose bytes are too many for their number to be an `u32`
+-- The error for types whose section contents have 2^32 bytes or more.
 abbrev pub too_long : Report
 too_long = record { offset = 0; cause = Custom (codes "section too long"); excerpt = None }
 
--- the bytes of types, or that refusal
+-- The encoding of the types, or this error.
 abbrev pub compiled : List Signature → Result (List ℕ) Report
 compiled fs = if nat_lt (length (content fs)) (2 ^ 32) then Ok (module_bytes fs) else Err too_long
 
--- the same of what is read, or the refusal of the text
+-- The encoding of the types that were parsed, or the error of parsing them.
 abbrev pub compiled_by : Result (List Signature) Report → Result (List ℕ) Report
 compiled_by (Ok fs) = compiled fs
 compiled_by (Err f) = Err f
@@ -39,10 +40,10 @@ compiled_by (Err f) = Err f
 abbrev pub compiled_text : Source → Result (List ℕ) Report
 compiled_text s = compiled_by (whole module_types s)
 
--- what the parser's calls read of a whole text is what the grammar spells with it
+-- Theorem: parsing a whole text as a module returns these types if and only if the grammar derives them for the text.
 abbrev pub ReadingIsSpelling : Type 0
 ReadingIsSpelling = (s : Source) (fs : List Signature) → IsUtf8 s.setting.text → IsRead s → s.setting ≡ plain s.setting.text → (whole module_types s ≡ Ok fs) ↔ SpellsTypes s.setting.text fs
 
--- a text spells one list of function types at most
+-- Theorem: the grammar derives at most one list of function types for a text.
 abbrev pub SpellingIsOne : Type 0
 SpellingIsOne = (text : List ℕ) (fs gs : List Signature) → IsUtf8 text → SpellsTypes text fs → SpellsTypes text gs → fs ≡ gs

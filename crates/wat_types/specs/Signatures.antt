@@ -1,5 +1,4 @@
--- WebAssembly specification, text format, types: function types. A function type is the types of its parameters and of its results, in
--- their order.
+-- WebAssembly 2.0, 6.4.5 (function types): the types of the parameters and of the results, in source order.
 use Rattle.std.specs.Prelude.{List, map}
 use Rattle.wat_types.specs.declared.types.FuncType.{FuncType}
 use Rattle.wat_types.specs.declared.types.ValType.{ValType}
@@ -8,7 +7,7 @@ pub record Signature : Type 0 where
   pub params : List ValType
   pub results : List ValType
 
--- a function type as callers see it
+-- The contents of a `FuncType`, as callers see it.
 abbrev pub signature : FuncType → Signature
 signature f = record { params = f.params.items; results = f.results.items }
 

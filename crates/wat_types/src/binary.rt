@@ -1,4 +1,4 @@
-//! The bytes of function types in the binary format.
+//! Encodes function types in the binary format.
 ghost use Rattle.std.specs.Prelude.{◌≡◌, ◌≤◌, ◌^◌, IfOk, IsErrOf, length};
 ghost use Rattle.wat_types.specs.Binary.{Fits, content, module_bytes};
 ghost use Rattle.wat_types.specs.Signatures.{signatures};
@@ -7,14 +7,14 @@ use crate::types::{FuncType, ValType};
 use std::alloc::Global;
 use wat_lexer_parser::encode::{Encode, EncodeError, encode_slice};
 
-/// The magic number and the version.
+/// The magic number and the version of the format.
 const HEADER: [u8; 8] = [0x00, 0x61, 0x73, 0x6D, 0x01, 0x00, 0x00, 0x00];
-/// The number of the type section.
+/// The id of the type section.
 const TYPE_SECTION: u8 = 0x01;
-/// What a function type begins with.
+/// The first byte of a function type.
 const FUNCTION: u8 = 0x60;
 
-/// In one byte, as the standard's binary format has it.
+/// Encodes a number type as one byte.
 impl Encode for ValType {
     ghost use Rattle.wat_types.specs.Binary.{val_bytes};
 
@@ -37,7 +37,7 @@ impl Encode for ValType {
     }
 }
 
-/// A byte, the list of the parameters, and the list of the results.
+/// Encodes a function type as a byte and the vectors of its parameters and results.
 impl Encode for FuncType {
     ghost use Rattle.wat_types.specs.Binary.{FuncFits, func_bytes};
     ghost use Rattle.wat_types.specs.Signatures.{signature};
@@ -56,8 +56,13 @@ impl Encode for FuncType {
     }
 }
 
-/// The bytes of a module that holds nothing but these types. It is refused as `TooLong` only where
-/// its section holds more than `u32::MAX` bytes.
+/// Encodes a module with these function types and nothing else. Without function types, the module
+/// is a header alone.
+///
+/// # Errors
+///
+/// Returns `TooLong` only if the contents of the type section have more than `u32::MAX` bytes, and
+/// `Memory` if an allocation fails.
 pub(crate) fn module(alloc: Global, types: &[FuncType]) -> Result<Vec<u8>, EncodeError>
     ensures bytes { IfOk result (λ bytes. bytes.items ≡ module_bytes (signatures types.now)) }
     ensures fitting { IfOk result (λ _. Fits (signatures types.now)) }

@@ -1,9 +1,8 @@
-//! The law that joins what the parser's calls read of a text with what the grammar spells with it.
+//! The theorem that relates the parser with the grammar of modules.
 ghost use Rattle.wat_types.specs.Compiling.{ReadingIsSpelling, SpellingIsOne};
 
-/// A text is read as a module of these types exactly where the grammar spells them with it, for
-/// every text of UTF-8 and its raw tokens; and it spells no others. The function does nothing: its
-/// contract is the law.
+/// Theorem (no effect): parsing a text as a module returns these function types if and only if the
+/// grammar derives them for its visible tokens. The function types of a text are unique.
 pub fn reading_is_spelling()
     ensures same { ReadingIsSpelling }
     ensures one { SpellingIsOne }

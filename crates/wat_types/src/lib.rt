@@ -1,9 +1,8 @@
-//! The types of a WebAssembly module, from text to bytes: a crate over the parser of the text format
-//! and the integers of the binary format.
+//! A compiler for the function types of a WebAssembly module, over the parser of the text format.
 //!
-//! A text is one module that holds nothing but function types, as
-//! `(module (type (func (param i32) (result i64))))`. Its bytes are those of the standard's binary
-//! format: a header and, where there are types, their section.
+//! A source is one module with function types and nothing else, such as
+//! `(module (type (func (param i32) (result i64))))`. Its encoding in the binary format is a header
+//! and, if it has function types, the type section.
 #![tactic(auto)]
 
 ghost use Rattle.std.specs.Prelude.{◌≡◌, ◌<◌, ◌^◌, true, false, length, IfOk, List};
@@ -26,29 +25,33 @@ use wat_lexer_parser::encode::EncodeError;
 use wat_lexer_parser::parser::LazyBuffer;
 use wat_lexer_parser::token::Span;
 
-/// The bytes of the module that a text spells: a header and, where it has types, their section.
+/// Compiles a source to the binary format: a header and, if it has function types, their section.
 ///
-/// It answers bytes exactly where the text is one module that holds nothing but function types, by
-/// a part of the standard's text format (`specs/Grammar` says which), and these are its bytes by the
-/// standard's binary format. A section
-/// that would hold more than `u32::MAX` bytes is refused as `section too long` at the text's start;
-/// any other text with the error of the parser's call that refuses it. It may run out of memory.
+/// The source must be one module with function types and nothing else. `specs/Grammar` defines this
+/// part of the text format.
+///
+/// # Errors
+///
+/// Returns a lexical error, or an error at the first token that does not fit, if the source does
+/// not match the grammar. If the contents of the type section have more than `u32::MAX` bytes, the
+/// error is `section too long` at offset 0. The call also fails if an allocation fails.
 pub fn compile_types(alloc: Global, text: &str) -> Result<Vec<u8>, Error>
     requires { length text.now < 2 ^ 32 }
 
-    // The bytes are those of types that the text spells.
+    // The bytes encode function types that the grammar derives for the source.
     ensures bytes { IfOk result (λ bytes. (fs : List Signature) × SpellsTypes text.now fs × Fits fs
         × (bytes.items ≡ module_bytes fs)) }
 
-    // Where it spells types, the answer is their bytes, or that they are too many.
+    // If the grammar derives function types, the result is their encoding or `section too long`,
+    // unless an allocation fails.
     ensures spelled { (fs : List Signature) → SpellsTypes text.now fs →
         Answers true (λ bytes. bytes.items) (compiled fs) result }
 
-    // Any other refusal is that of what the parser's calls read.
+    // Any other error is that of parsing the source by its reading.
     ensures refused { (s : Source) → IsRead s → s.setting ≡ plain text.now → s.track ≡ false →
         Answers true (λ bytes. bytes.items) (compiled_text s) result }
 
-    // There are such raw tokens.
+    // Every source has raw tokens, so `refused` specifies the result for every source.
     ensures some { (s : Source) × IsRead s × (s.setting ≡ plain text.now) × (s.track ≡ false) }
 {
     has_tokens(text);
@@ -65,7 +68,7 @@ pub fn compile_types(alloc: Global, text: &str) -> Result<Vec<u8>, Error>
     }
 }
 
-/// A text has raw tokens.
+/// Lemma (no effect): the source has raw tokens.
 fn has_tokens(text: &str)
     ensures { (s : Source) × IsRead s × (s.setting ≡ plain text.now) × (s.track ≡ false) }
 {

@@ -1,4 +1,4 @@
-//! How a text spells the types of a module.
+//! Parses the function types of a module.
 ghost use Rattle.std.specs.Prelude.{◌≡◌, ◌≤◌, ◌<◌, IfOk, OnErr, length, map};
 ghost use Rattle.std.specs.List.{flat_map};
 ghost use Rattle.wat_lexer_parser.specs.readings.Reads.{IsKept, Reads};
@@ -46,7 +46,7 @@ impl<'a> Parse<'a> for ValType {
     }
 }
 
-/// The number type that a keyword stands for, which is read.
+/// Parses the keyword `K`, and returns the number type `of` that it denotes.
 fn number_type<'a, K: Parse<'a>>(parser: &mut Parser<'a>, of: ValType) -> Result<ValType, Error>
     ensures kept { IsKept parser.old parser.new }
     ensures on { parser.old.place ≤ parser.new.place }
@@ -57,7 +57,7 @@ fn number_type<'a, K: Parse<'a>>(parser: &mut Parser<'a>, of: ValType) -> Result
     Ok(of)
 }
 
-/// All number types before `)`.
+/// Parses all number types before `)`.
 fn vals(parser: &mut Parser<'_>) -> Result<Vec<ValType>, Error>
     ensures kept { IsKept parser.old parser.new }
     ensures on { parser.old.place ≤ parser.new.place }
@@ -66,14 +66,14 @@ fn vals(parser: &mut Parser<'_>) -> Result<Vec<ValType>, Error>
     parser.all_of::<ValType>()
 }
 
-/// The number types that come after a keyword, within the parentheses of both.
+/// The number types of a group with the keyword `K`, `param` or `result`.
 #[derive(Drop)]
 struct Listed<K> {
     types: Vec<ValType>,
     of: PhantomData<K>,
 }
 
-/// The types of all these lists.
+/// Concatenates the types of all these groups.
 fn joined<K>(alloc: Global, lists: &[Parens<Listed<K>>]) -> Result<Vec<ValType>, AllocError>
     ensures types { IfOk result (λ types.
         types.items ≡ flat_map (λ l. l.inner.types.items) lists.now) }
@@ -86,7 +86,7 @@ fn joined<K>(alloc: Global, lists: &[Parens<Listed<K>>]) -> Result<Vec<ValType>,
     Ok(types)
 }
 
-/// What is within the parentheses of a `param`.
+/// Parses the contents of a `(param ..)` group: an identifier and one type, or any number of types.
 impl<'a> Parse<'a> for Listed<kw::param> {
     ghost use Rattle.std.specs.Prelude.{List};
     ghost use Rattle.wat_types.specs.Meanings.{param};
@@ -116,7 +116,7 @@ impl<'a> Parse<'a> for Listed<kw::param> {
     }
 }
 
-/// What is within the parentheses of a `result`.
+/// Parses the contents of a `(result ..)` group.
 impl<'a> Parse<'a> for Listed<kw::result> {
     ghost use Rattle.std.specs.Prelude.{List};
     ghost use Rattle.wat_types.specs.Meanings.{returns};
@@ -138,7 +138,7 @@ impl<'a> Parse<'a> for Listed<kw::result> {
     }
 }
 
-/// The types of all `param`s.
+/// Parses all consecutive `(param ..)` groups, and concatenates their types.
 fn params(parser: &mut Parser<'_>) -> Result<Vec<ValType>, Error>
     ensures kept { IsKept parser.old parser.new }
     ensures on { parser.old.place ≤ parser.new.place }
@@ -148,7 +148,7 @@ fn params(parser: &mut Parser<'_>) -> Result<Vec<ValType>, Error>
     Ok(joined(parser.alloc(), &all)?)
 }
 
-/// The types of all `result`s.
+/// Parses all `(result ..)` groups before `)`, and concatenates their types.
 fn results(parser: &mut Parser<'_>) -> Result<Vec<ValType>, Error>
     ensures kept { IsKept parser.old parser.new }
     ensures on { parser.old.place ≤ parser.new.place }
@@ -158,7 +158,7 @@ fn results(parser: &mut Parser<'_>) -> Result<Vec<ValType>, Error>
     Ok(joined(parser.alloc(), &all)?)
 }
 
-/// What is within the parentheses of a `func`.
+/// Parses the contents of a `(func ..)` group.
 impl<'a> Parse<'a> for FuncType {
     ghost use Rattle.wat_types.specs.Meanings.{func};
     ghost use Rattle.wat_types.specs.Signatures.{Signature, signature};
@@ -178,7 +178,7 @@ impl<'a> Parse<'a> for FuncType {
     }
 }
 
-/// What is within the parentheses of a `type`. Its identifier is read and dropped.
+/// The contents of a `(type ..)` group, without its identifier.
 #[derive(Drop)]
 struct Definition {
     func: FuncType,
@@ -204,7 +204,7 @@ impl<'a> Parse<'a> for Definition {
     }
 }
 
-/// All types before `)`.
+/// Parses all `(type ..)` groups before `)`.
 fn definitions(parser: &mut Parser<'_>) -> Result<Vec<FuncType>, Error>
     ensures kept { IsKept parser.old parser.new }
     ensures on { parser.old.place ≤ parser.new.place }
@@ -219,7 +219,7 @@ fn definitions(parser: &mut Parser<'_>) -> Result<Vec<FuncType>, Error>
     Ok(types)
 }
 
-/// What is within the parentheses of a module.
+/// The contents of a `(module ..)` group.
 #[derive(Drop)]
 struct Fields {
     types: Vec<FuncType>,
@@ -245,7 +245,7 @@ impl<'a> Parse<'a> for Fields {
     }
 }
 
-/// A module that holds nothing but function types.
+/// A module with function types and nothing else.
 #[derive(Drop)]
 pub(crate) struct Module {
     pub(crate) types: Vec<FuncType>,

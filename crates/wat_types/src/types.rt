@@ -1,23 +1,23 @@
-//! Function types.
+//! Number types and function types.
 
 /// A number type.
 #[derive(Debug, Clone, Copy, PartialEq, Eq)]
 pub enum ValType {
-    /// An integer of 32 bits.
+    /// A 32-bit integer.
     I32,
-    /// An integer of 64 bits.
+    /// A 64-bit integer.
     I64,
-    /// A floating-point number of 32 bits.
+    /// A 32-bit floating-point number.
     F32,
-    /// A floating-point number of 64 bits.
+    /// A 64-bit floating-point number.
     F64,
 }
 
-/// The types of a function's parameters and of its results.
+/// A function type: the types of the parameters and of the results.
 #[derive(Debug, Drop)]
 pub struct FuncType {
-    /// The types of the parameters, in their order.
+    /// The types of the parameters, in source order.
     pub params: Vec<ValType>,
-    /// The types of the results, in their order.
+    /// The types of the results, in source order.
     pub results: Vec<ValType>,
 }

@@ -1,24 +1,23 @@
--- WebAssembly specification, text format, lexical format: keywords; and the annotations proposal: the names of
--- the custom, name, producers, dylink and branch hint annotations. Which words are standard, and at which place
--- each is, is this project's own table.
+-- WebAssembly 2.0, 6.2.2 (tokens: keywords), and the proposals for the custom, name, producers, dylink and branch hint
+-- annotations. The table of standard words and its order are this project's own.
 use Rattle.std.specs.Prelude.{ℕ, Bool, true, false, List, [], ◌∷◌, ◌++◌, ◌==◌, if◌then◌else◌, codes, slice_index_or}
 
--- how messages show a word: between backquotes, with `@` before it where it is an annotation's name
+-- The word as messages print it: in backquotes, after `@` if it is the name of an annotation.
 abbrev pub quoted : Bool → List ℕ → List ℕ
 quoted true word = codes "`@" ++ word ++ codes "`"
 quoted false word = codes "`" ++ word ++ codes "`"
 
--- a character before the first of the words
+-- The words, with the character in front of the first one.
 abbrev pub put_first : ℕ → List (List ℕ) → List (List ℕ)
 put_first c [] = (c ∷ []) ∷ []
 put_first c (word ∷ words) = (c ∷ word) ∷ words
 
--- the words of a line, which one space each parts
+-- The words of a line, which one space each separates.
 abbrev pub words_of : List ℕ → List (List ℕ)
 words_of [] = [] ∷ []
 words_of (c ∷ cs) = if c == 32 then [] ∷ words_of cs else put_first c (words_of cs)
 
--- the standard words, in the order of their places
+-- The standard keywords, in the order of their indices.
 unfoldable pub standard_words : List (List ℕ)
 standard_words =
     words_of (codes "after alias any anyref arg array arrayref assert_exception assert_exhaustion assert_invalid") ++
@@ -46,14 +45,14 @@ standard_words =
     words_of (codes "context.set thread.index thread.new-indirect thread.resume-later thread.suspend thread.yield thread.suspend-then-resume thread.yield-then-resume thread.suspend-then-promote thread.yield-then-promote") ++
     words_of (codes "cancellable version-suffix external-id")
 
--- the standard annotation names, in the order of their places
+-- The standard annotation names, in the order of their indices.
 unfoldable pub annotation_words : List (List ℕ)
 annotation_words = words_of (codes "custom name producers dylink.0 metadata.code.branch_hint")
 
--- the standard word at a place, which is empty past the last one
+-- The standard keyword at an index, or the empty word after the last one.
 unfoldable pub standard_word : ℕ → List ℕ
 standard_word place = slice_index_or standard_words place []
 
--- the standard annotation name at a place, which is empty past the last one
+-- The standard annotation name at an index, or the empty word after the last one.
 unfoldable pub annotation_word : ℕ → List ℕ
 annotation_word place = slice_index_or annotation_words place []

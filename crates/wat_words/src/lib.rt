@@ -1,5 +1,4 @@
-//! The words that keyword and annotation types are made of: the trait [`Word`],
-//! and the standard words.
+//! The trait [`Word`] of words for keyword and annotation types, and the standard words.
 #![tactic(auto)]
 
 ghost use Rattle.std.specs.Prelude.{◌≡◌, ℕ, Bool, true, false, List};
@@ -7,28 +6,27 @@ ghost use Rattle.wat_words.specs.Words.{annotation_word, quoted, standard_word};
 
 mod table;
 
-/// A word that a token must spell, as a type:
-/// a keyword, a reserved symbol or the name of an annotation.
+/// A keyword, a reserved token or the name of an annotation, as a type.
 pub trait Word {
     ghost AT: { Bool };
 
-    /// Whether the word is an annotation's name, which a text writes after `@`.
+    /// `true` if the word is the name of an annotation, which follows `@` in a text.
     const AT: bool;
 
     /// The bytes of the word.
     ghost text: { List ℕ };
 
-    /// The word as a text spells it, without the `@` of an annotation.
+    /// Returns the word, without the `@` of an annotation.
     fn word() -> &'static str
         ensures { result.now ≡ text };
 
-    /// The word as messages show it.
+    /// Returns the word as messages print it: in backquotes, with the `@` of an annotation.
     fn display() -> &'static str
         ensures { result.now ≡ quoted AT text };
 }
 
-/// The standard word at the place `I` of the table, counted from 0. Past the last one, at 232, the
-/// word is empty, and no token spells it.
+/// The standard keyword at index `I` of the table. The indices are 0 to 232. The word at a greater
+/// index is empty, and no token matches it.
 #[derive(Clone, Copy, Debug)]
 pub struct Std<const I: usize>;
 
@@ -48,8 +46,8 @@ impl<const I: usize> Word for Std<I> {
     }
 }
 
-/// The standard annotation name at the place `I` of the table, counted from 0. Past the last one,
-/// at 4, the word is empty, and no annotation has it.
+/// The standard annotation name at index `I` of the table. The indices are 0 to 4. The word at a
+/// greater index is empty, and no annotation matches it.
 #[derive(Clone, Copy, Debug)]
 pub struct StdAnnotation<const I: usize>;
 

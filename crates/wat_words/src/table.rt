@@ -1,10 +1,10 @@
-//! The tables of the words, each of which is here once.
+//! The tables of the standard words. Each word is listed once; its display is generated from it.
 
 ghost use Rattle.std.specs.Prelude.{◌≡◌, false, true, map, slice_index_or};
 ghost use Rattle.wat_words.specs.Words.{annotation_word, quoted, standard_word};
 
-/// The standard words in the order of their places, each as `words` or `displays` has it.
-/// Ten are in a row, which goes on indented where it is long.
+/// Passes the standard keywords, in the order of their indices, to the macro `words` or `displays`.
+/// A row has 10 keywords; a long row continues on indented lines.
 macro_rules! standard {
     ($entries:ident) => {
         $entries! {
@@ -56,8 +56,8 @@ macro_rules! standard {
     };
 }
 
-/// The standard annotation names in the order of their places,
-/// each as `words` or `displays` has it.
+/// Passes the standard annotation names, in the order of their indices, to the macro `words` or
+/// `displays`.
 macro_rules! annotations {
     ($entries:ident) => {
         $entries! {
@@ -67,14 +67,15 @@ macro_rules! annotations {
     };
 }
 
-/// The words after the first text, which is the sign that displays have before them.
+/// Expands to the array of the words. The first literal, the prefix of the displays, is not used.
 macro_rules! words {
     ($sign:literal $($word:literal)*) => {
         [$($word),*]
     };
 }
 
-/// The displays of the words after the first text, which is the sign that each has before it.
+/// Expands to the array of the displays: each word in backquotes, after the prefix that is the
+/// first literal.
 macro_rules! displays {
     ($sign:literal $($word:literal)*) => {
         [$(concat!("`", $sign, $word, "`")),*]
@@ -89,28 +90,30 @@ const ANNOTATIONS: [&str; 5] = annotations!(words);
 
 const ANNOTATION_DISPLAYS: [&str; 5] = annotations!(displays);
 
-/// The standard word at a place, or the empty word past the last one.
+/// Returns the standard keyword at an index, or the empty word after the last one.
 pub(crate) fn standard(place: usize) -> &'static str
     ensures { result.now ≡ standard_word place }
 {
     entry_at(&STANDARD, place, "")
 }
 
-/// The display of the standard word at a place.
+/// Returns the display of the standard keyword at an index, or that of the empty word after the
+/// last one.
 pub(crate) fn standard_display(place: usize) -> &'static str
     ensures { result.now ≡ quoted false (standard_word place) }
 {
     entry_at(&STANDARD_DISPLAYS, place, "``")
 }
 
-/// The standard annotation name at a place, or the empty word past the last one.
+/// Returns the standard annotation name at an index, or the empty word after the last one.
 pub(crate) fn annotation(place: usize) -> &'static str
     ensures { result.now ≡ annotation_word place }
 {
     entry_at(&ANNOTATIONS, place, "")
 }
 
-/// The display of the standard annotation name at a place.
+/// Returns the display of the standard annotation name at an index, or that of the empty word after
+/// the last one.
 pub(crate) fn annotation_display(place: usize) -> &'static str
     ensures { result.now ≡ quoted true (annotation_word place) }
 {

@@ -13,12 +13,12 @@
 mod generated {
     // It builds slices from the pointers that C passes, and strings from bytes that must be UTF-8.
     #[allow(unsafe_code)]
-    pub mod wat_parser_c;
-    pub mod wat_rows;
+    pub mod wat_c;
+    pub mod wat_c_records;
 }
 
 #[doc(inline)]
-pub use generated::{wat_parser_c as proved, wat_rows as rows};
+pub use generated::{wat_c as proved, wat_c_records as rows};
 
 #[cfg(test)]
 mod tests;

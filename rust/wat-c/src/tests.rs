@@ -2,7 +2,7 @@
 
 use crate::rows::counting::{Row, fill_counting};
 use crate::rows::links::link;
-use crate::rows::looks::look_in_numbers;
+use crate::rows::looks::look_as_integers;
 use crate::rows::rows::plain;
 use wat_lex::proved::lexer::Settings;
 use wat_lex::shim::alloc::Global;
@@ -33,7 +33,7 @@ fn look(text: &str, names: &[&str], place: usize) -> (u32, u32) {
     let end = |number| names[..=number].concat().len();
     let ends: Vec<usize> = (0..names.len()).map(end).collect();
     let bytes = names.concat();
-    let found = look_in_numbers(Global, text, &rows, why, place, bytes.as_bytes(), &ends);
+    let found = look_as_integers(Global, text, &rows, why, place, bytes.as_bytes(), &ends);
     (found.row(), found.status())
 }
 

@@ -38,7 +38,7 @@ mod error;
 )]
 mod generated {
     pub mod wat_format;
-    pub mod wat_lines;
+    pub mod wat_tokens_io;
 }
 mod options;
 // Names and signatures are those of Rattle's library.
@@ -53,7 +53,7 @@ pub use error::FormatError;
 pub use generated::wat_format as proved;
 /// The token lists of the program `wat_tokens`, and the sinks that the verified formatter writes to.
 #[doc(inline)]
-pub use generated::wat_lines as lines;
+pub use generated::wat_tokens_io as lines;
 pub use options::Options;
 pub use wat_lex::{LexError, Span};
 

@@ -34,12 +34,13 @@ extern crate alloc;
 )]
 #[allow(clippy::style, clippy::complexity, clippy::pedantic)]
 mod generated {
-    pub mod wat_fields;
-    pub mod wat_fields_read;
-    pub mod wat_instructions;
+    pub mod wat_module_ast;
+    pub mod wat_module_encoder;
+    pub mod wat_module_instructions;
+    pub mod wat_module_lexer;
+    pub mod wat_module_parser;
+    pub mod wat_module_tokens;
     pub mod wat_modules;
-    pub mod wat_pieces;
-    pub mod wat_sections;
     pub mod wat_types;
 }
 
@@ -51,8 +52,8 @@ pub use generated::wat_modules as proved;
 #[doc(inline)]
 pub use generated::wat_types as types;
 use generated::{
-    wat_fields as fields, wat_fields_read as reading, wat_instructions as instructions,
-    wat_pieces as pieces, wat_sections as sections,
+    wat_module_ast as ast, wat_module_encoder as encoder, wat_module_instructions as instructions,
+    wat_module_lexer as lexer, wat_module_parser as parser, wat_module_tokens as tokens,
 };
 use wat_lex::shim::alloc::Global;
 pub use wat_lex::{Error, Span};
@@ -91,7 +92,7 @@ pub fn parse_str(text: impl AsRef<str>) -> Result<Vec<u8>, Error> {
 }
 
 /// Asserts that a significant token occupies 6 bytes of memory.
-const _: () = assert!(size_of::<instructions::source::ShortToken>() == 6);
+const _: () = assert!(size_of::<tokens::stream::PackedToken>() == 6);
 
 /// The README, whose examples are run as doc tests.
 #[cfg(doctest)]

@@ -1,199 +1,94 @@
-//! Modules and their bytes by the standard's binary format, rejected texts, and deeply nested texts.
+//! The texts of `tests/modules.txt`, both compilers of types, and texts that are deep, long or cut.
 
+use std::collections::BTreeSet;
 use std::thread;
-use wat_modules::parse_str;
+use wat_lex::shim::alloc::Global;
+use wat_modules::types::compile_types;
+use wat_modules::{Error, parse_str};
 
 /// The magic number and the version, with which each module begins.
 const HEADER: &[u8] = b"\0asm\x01\0\0\0";
 
-/// Bodies of a function without parameters, each with its bytes in the code section.
-const BODIES: [(&str, &[u8]); 8] = [
-    ("", b"\x00\x0b"),
-    (
-        "(if (result i32) (i32.const 1) (then (i32.const 2)) (else (i32.const -3))) drop",
-        b"\x00\x41\x01\x04\x7f\x41\x02\x05\x41\x7d\x0b\x1a\x0b",
-    ),
-    // An `else` without instructions is encoded too.
-    (
-        "(if (i32.const 1) (then) (else))",
-        b"\x00\x41\x01\x04\x40\x05\x0b\x0b",
-    ),
-    (
-        "(local i32 i32) (local $z i32 ) (local i64) block $a br $a end",
-        b"\x02\x03\x7f\x01\x7e\x02\x40\x0c\x00\x0b\x0b",
-    ),
-    (
-        "i32.const 0 i32.load offset=0x1_00 align=1 drop",
-        b"\x00\x41\x00\x28\x00\x80\x02\x1a\x0b",
-    ),
-    (
-        "i64.const 0xffff_ffff_ffff_ffff loop $l (block $m (br $l) (br 0)) end $l",
-        b"\x00\x42\x7f\x03\x40\x02\x40\x0c\x01\x0c\x00\x0b\x0b\x0b",
-    ),
-    (
-        "f32.const 1.5 (f32.const -0x1p-149) (f32.const 16777217) f32.const -inf",
-        b"\x00\x43\0\0\xc0\x3f\x43\x01\0\0\x80\x43\0\0\x80\x4b\x43\0\0\x80\xff\x0b",
-    ),
-    (
-        "f64.const 0.1 (f64.const nan:0x4_0000_0000_0000) f64.const -18446744073709551617",
-        b"\x00\x44\x9a\x99\x99\x99\x99\x99\xb9\x3f\x44\0\0\0\0\0\0\xf4\x7f\x44\0\0\0\0\0\0\xf0\xc3\x0b",
-    ),
+/// The table of texts with their bytes or errors; its head describes the format.
+const TABLE: &str = include_str!("../../../tests/modules.txt");
+
+/// Other tables of `tests`, in some of whose lines are texts of modules.
+const OTHERS: [&str; 4] = [
+    include_str!("../../../tests/answers.txt"),
+    include_str!("../../../tests/layouts.txt"),
+    include_str!("../../../tests/runs.txt"),
+    include_str!("../../../tests/types.txt"),
 ];
 
-#[test]
-fn functions_have_their_bytes() {
-    for (body, bytes) in BODIES {
-        let length = u8::try_from(bytes.len()).unwrap();
-        let sections = b"\x01\x04\x01\x60\x00\x00\x03\x02\x01\x00\x0a";
-        let code = [&[length + 2, 1, length], bytes].concat();
-        let text = format!("(module (func {body}))");
-        assert_eq!(
-            parse_str(&text).unwrap(),
-            [HEADER, sections, &code].concat(),
-            "{text}"
-        );
+/// Returns the text that a line of a table represents.
+fn text_of(line: &str) -> String {
+    line.replace('⏎', "\n").replace('␠', " ")
+}
+
+/// Returns each text of the table, with its expected result.
+fn rows() -> Vec<(String, &'static str)> {
+    let is_row = |line: &&str| !line.starts_with('#');
+    let lines: Vec<&str> = TABLE.lines().filter(is_row).collect();
+    let wanted = |line: &'static str| line.strip_prefix("    ").expect("a result");
+    lines
+        .chunks(2)
+        .map(|pair| (text_of(pair[0]), wanted(pair[1])))
+        .collect()
+}
+
+/// Returns the result of a compiler as the table writes it.
+fn shown(outcome: Result<Vec<u8>, Error>) -> String {
+    match outcome {
+        Ok(bytes) => bytes
+            .iter()
+            .fold(String::new(), |hex, byte| format!("{hex}{byte:02x}")),
+        Err(error) => format!("{} at {}", error.message(), error.span().offset()),
     }
 }
 
 #[test]
-fn modules_have_their_bytes() {
-    for text in ["(module)", "", "(;;)"] {
-        assert_eq!(parse_str(text).unwrap(), HEADER);
+fn texts_have_the_results_of_the_table() {
+    let rows = rows();
+    assert!(rows.len() >= 169, "the table has {} texts", rows.len());
+    for (text, wanted) in rows {
+        assert_eq!(shown(parse_str(&text)), wanted, "{text}");
     }
-    let text = "(module $m (func (export \"a\") (param $x i32) (result i32) local.get $x))";
-    let sections = b"\x01\x06\x01\x60\x01\x7f\x01\x7f\x03\x02\x01\x00\x07\x05\x01\x01a\x00\x00\x0a\x06\x01\x04\x00\x20\x00\x0b";
+}
+
+/// Checks that `compile_types` and `parse_str` return the same bytes for each text of the tables for which both return bytes. A text that only the first
+/// compiles has two types of one name.
+#[test]
+fn both_compilers_write_the_same_bytes() {
+    let parts = OTHERS.iter().flat_map(|table| table.lines());
+    let parts = parts.filter_map(|line| line.find("(module").map(|at| text_of(&line[at..])));
+    let texts: BTreeSet<String> = rows()
+        .into_iter()
+        .map(|(text, _)| text)
+        .chain(parts)
+        .collect();
+    let (mut agreed, mut departures) = (0, Vec::new());
+    for text in &texts {
+        let Ok(types) = compile_types(Global, text) else {
+            continue;
+        };
+        match parse_str(text) {
+            Ok(bytes) => assert_eq!(bytes, Vec::from(types), "{text}"),
+            error => departures.push((text.as_str(), shown(error))),
+        }
+        agreed += 1;
+    }
+    println!("{agreed} of {} texts", texts.len());
+    assert!(agreed >= 13, "{agreed} of {} texts", texts.len());
+    let known = "(module (type $t (func)) (type $t (func)))";
     assert_eq!(
-        parse_str(String::from(text)).unwrap(),
-        [HEADER, sections].concat()
+        departures,
+        [(known, "duplicate identifier at 8".to_owned())]
     );
 }
 
 #[test]
-fn fields_have_their_bytes() {
-    let rows: [(&str, &[u8]); 11] = [
-        (
-            "(module (func (type 0)) (func (param i32)))",
-            b"\x01\x05\x01\x60\x01\x7f\x00\x03\x03\x02\x00\x00\x0a\x07\x02\x02\x00\x0b\x02\x00\x0b",
-        ),
-        (
-            "(module (func (type 0) (local $y i64) local.get $y) (func (param i32 i32)))",
-            b"\x01\x06\x01\x60\x02\x7f\x7f\x00\x03\x03\x02\x00\x00\x0a\x0b\x02\x06\x01\x01\x7e\x20\x02\x0b\x02\x00\x0b",
-        ),
-        (
-            "(module (func block (type 0) end))",
-            b"\x01\x04\x01\x60\x00\x00\x03\x02\x01\x00\x0a\x07\x01\x05\x00\x02\x00\x0b\x0b",
-        ),
-        (
-            "(module (func (param i32)) (type (func)) (type (func (param i32))))",
-            b"\x01\x08\x02\x60\x00\x00\x60\x01\x7f\x00\x03\x02\x01\x01\x0a\x04\x01\x02\x00\x0b",
-        ),
-        (
-            "(module (import \"m\" \"n\" (func $f (param i32))) (func $g call $f) (export \"e\" (func $g)))",
-            b"\x01\x08\x02\x60\x01\x7f\x00\x60\x00\x00\x02\x07\x01\x01m\x01n\x00\x00\x03\x02\x01\x01\x07\x05\x01\x01e\x00\x01\x0a\x06\x01\x04\x00\x10\x00\x0b",
-        ),
-        (
-            "(memory $m (export \"m\") 0x1 1_0)",
-            b"\x05\x04\x01\x01\x01\x0a\x07\x05\x01\x01m\x02\x00",
-        ),
-        (
-            "(module (table 1 2 funcref) (table $t (export \"t\") 0 externref))",
-            b"\x04\x08\x02\x70\x01\x01\x02\x6f\x00\x00\x07\x05\x01\x01t\x01\x01",
-        ),
-        (
-            "(module (global i32 i32.const 7) (global $g (export \"g\") (mut i64) (i64.const -1)))",
-            b"\x06\x0b\x02\x7f\x00\x41\x07\x0b\x7e\x01\x42\x7f\x0b\x07\x05\x01\x01g\x03\x01",
-        ),
-        (
-            "(module (start $f) (func) (func $f))",
-            b"\x01\x04\x01\x60\x00\x00\x03\x03\x02\x00\x00\x08\x01\x01\x0a\x07\x02\x02\x00\x0b\x02\x00\x0b",
-        ),
-        (
-            "(module (import \"m\" \"n\" (func $f)) (table 1 funcref) (elem func 0 $f) (elem (i32.const 0) $f))",
-            b"\x01\x04\x01\x60\x00\x00\x02\x07\x01\x01m\x01n\x00\x00\x04\x04\x01\x70\x00\x01\x09\x0c\x02\x01\x00\x02\x00\x00\x00\x41\x00\x0b\x01\x00",
-        ),
-        (
-            "(module (data \"a\") (memory (data \"b\" \"c\")) (data $d (memory 0) (offset i32.const 1) \"d\"))",
-            b"\x05\x04\x01\x01\x01\x01\x0b\x11\x03\x01\x01a\x00\x41\x00\x0b\x02bc\x00\x41\x01\x0b\x01d",
-        ),
-    ];
-    for (text, sections) in rows {
-        let bytes = parse_str(text).unwrap();
-        assert_eq!(bytes, [HEADER, sections].concat(), "{text}");
-    }
-}
-
-#[test]
-fn refusals_have_their_place() {
-    let rows = [
-        ("$m", "unexpected token", 0),
-        ("(func) (module)", "unknown keyword", 8),
-        ("(module) x", "unexpected token", 9),
-        ("(module (func nop)", "unexpected token", 18),
-        ("(module (data 0))", "unexpected token", 14),
-        ("(module (func (type 5)))", "unknown identifier", 20),
-        (
-            "(module (func (type 0)) (func (param i32) frob))",
-            "unknown keyword",
-            42,
-        ),
-        (
-            "(module (func) (import \"m\" \"n\" (func)))",
-            "import after a definition",
-            8,
-        ),
-        ("(module (memory +1))", "unexpected token", 16),
-        ("(module (table 1 func))", "unknown keyword", 17),
-        (
-            "(module (start 1) (start 2))",
-            "more than one start function",
-            8,
-        ),
-        (
-            "(module (export \"e\" (func $f)))",
-            "unknown identifier",
-            26,
-        ),
-        ("(module (func frob))", "unknown keyword", 14),
-        ("(module (func call $f))", "unknown identifier", 19),
-        ("(module (func block $a end $b))", "mismatching label", 27),
-        (
-            "(module (func i32.const 4294967296))",
-            "number out of range",
-            24,
-        ),
-        ("(module (func f32.const 1e39))", "number out of range", 24),
-        (
-            "(module (func f64.const nan:0x0))",
-            "number out of range",
-            24,
-        ),
-        ("(module (func i32.const 1.5))", "unexpected token", 24),
-        ("(module (func $f) (func $f))", "duplicate identifier", 8),
-        (
-            "(module (func (param $x i32) (local $x i32) nop))",
-            "duplicate identifier",
-            44,
-        ),
-        ("(module (func (export \"\\ff\")))", "name is not UTF-8", 22),
-        // Groups without a closing parenthesis, and closing parentheses without a group.
-        ("(func $f) (start $f", "unexpected token", 19),
-        ("(func $f (start $f)", "unknown keyword", 10),
-        ("(func) ) (func)", "unexpected token", 7),
-        ("(func $f)) (start $f)", "unexpected token", 9),
-        ("(module (func)))", "unexpected token", 15),
-        // Lexical errors.
-        ("(module (func \"", "unexpected end-of-file", 15),
-        ("(module (; ", "unterminated block comment", 8),
-    ];
-    for (text, message, place) in rows {
-        let error = parse_str(text).expect_err(text);
-        assert_eq!(
-            (error.message().as_str(), error.span().offset()),
-            (message, place),
-            "{text}"
-        );
-    }
-    let error = parse_str("(module\n  (func nop) ?)").unwrap_err();
+fn an_error_shows_its_line() {
+    let error = parse_str(String::from("(module\n  (func nop) ?)")).unwrap_err();
     assert_eq!(
         error.to_string(),
         "unexpected token\n     --> <anon>:2:14\n      |\n    2 |   (func nop) ?)\n      |              ^"

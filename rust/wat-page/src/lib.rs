@@ -1,7 +1,7 @@
 //! The WebAssembly module of the npm package and of the page. [`page`] has a function that lexes a text and writes a row for each of its tokens;
 //! [`whole`] has functions that format a text and compile a module of function types.
 //!
-//! [`page`] is generated from the verified sources of `wat_page` by `tools/erase`. Arguments from JavaScript must follow rules 1, 5 and 6 of
+//! [`page`] is generated from the verified sources of `wat_wasm` by `tools/erase`. Arguments from JavaScript must follow rules 1, 5 and 6 of
 //! `include/wat.h`; the text need not be UTF-8. `lexer.js` of the package arranges the memory according to these rules.
 #![warn(missing_docs)]
 #![deny(improper_ctypes_definitions, unsafe_code)]
@@ -13,7 +13,7 @@
 // It builds slices from the pointers that JavaScript passes.
 #[allow(unsafe_code)]
 mod generated {
-    pub mod wat_page;
+    pub mod wat_wasm;
 }
 #[cfg(target_family = "wasm")]
 mod memory;
@@ -24,4 +24,4 @@ mod tests;
 pub mod whole;
 
 #[doc(inline)]
-pub use generated::wat_page as page;
+pub use generated::wat_wasm as page;

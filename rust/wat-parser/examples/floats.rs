@@ -1,5 +1,5 @@
-//! Reads the lines that `tools/c/floats.c` prints: a number and its bits as `F32` and as `F64`, with `-` for a number that has none and `?` for any
-//! bits. Prints the number of lines, or exits with status 1 at the first difference.
+//! Reads the lines that `tools/test/c/floats.c` prints: a number and its bits as `F32` and as `F64`, with `-` for a number that has none and `?` for
+//! any bits. Prints the number of lines, or exits with status 1 at the first difference.
 
 use std::io;
 use std::process::ExitCode;

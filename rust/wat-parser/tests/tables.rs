@@ -286,9 +286,9 @@ fn names() {
             drop(first);
             let twice = parser.cur_span().offset();
             drop(again);
-            let taken_back = parser.cur_span().offset();
+            let truncate_on_error = parser.cur_span().offset();
             parser.parse::<Option<u32>>()?;
-            (before, registered, twice, taken_back)
+            (before, registered, twice, truncate_on_error)
         })
     };
     assert_eq!(shown("(@note 1) 2"), "(10, 0, 0, 10)");

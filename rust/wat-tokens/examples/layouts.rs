@@ -1,5 +1,5 @@
 //! Formats each line of standard input, and prints the formatted text as a line, or `fault` if there is a lexical error, for
-//! `tools/compare_layouts.py`. In a line `\n`, `\r`, `\t` and `\\` stand for a line feed, a carriage return, a tab and a backslash.
+//! `tools/differential/compare_formatters.py`. In a line `\n`, `\r`, `\t` and `\\` mean a line feed, a carriage return, a tab and a backslash.
 
 use std::io::{self, Write};
 use wat_format::FormatError;

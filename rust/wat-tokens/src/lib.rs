@@ -36,10 +36,10 @@
     clippy::manual_unwrap_or_default
 )]
 mod generated {
-    pub mod wat_commands;
-    pub mod wat_lists;
-    pub mod wat_options;
     pub mod wat_tokens;
+    pub mod wat_tokens_args;
+    pub mod wat_tokens_output;
+    pub mod wat_tokens_run;
 }
 
 // Names and signatures are those of Rattle's library, whose documentation describes their errors.
@@ -48,7 +48,8 @@ pub mod shim;
 
 #[doc(inline)]
 pub use generated::{
-    wat_commands as commands, wat_lists as lists, wat_options as options, wat_tokens as program,
+    wat_tokens as program, wat_tokens_args as options, wat_tokens_output as lists,
+    wat_tokens_run as commands,
 };
 #[doc(inline)]
 pub use wat_format::lines;

@@ -1,10 +1,12 @@
 //! The table of runs: tests of the program that cargo builds, and of the functions `run_list`, `run_sig` and `run_play`.
+#![cfg(unix)]
 
 #[path = "../../wat-lex/tests/refusing/mod.rs"]
 mod refusing;
 mod table;
 
 use refusing::granting;
+use std::ffi::{OsStr, OsString};
 use std::fs;
 use std::io::{self, Read, Write};
 use std::path::{Path, PathBuf};
@@ -27,13 +29,23 @@ impl Folder {
         let path = std::env::temp_dir().join(format!("wat_tokens-{}-runs", std::process::id()));
         fs::create_dir(&path).unwrap();
         for (name, text) in &table.files {
-            fs::write(path.join(name), text).unwrap();
+            let path = path.join(name);
+            if is_folder(name) {
+                fs::create_dir(path).unwrap();
+            } else {
+                fs::write(path, text).unwrap();
+            }
         }
         Folder(path)
     }
 
-    fn text(&self, name: &str) -> Vec<u8> {
-        fs::read(self.0.join(name)).unwrap()
+    /// Returns `true` if a file has this text, or is the folder of this name.
+    fn has(&self, (name, text): &(OsString, Vec<u8>)) -> bool {
+        let path = self.0.join(name);
+        if is_folder(name) {
+            return path.is_dir();
+        }
+        fs::read(path).is_ok_and(|read| read == *text)
     }
 }
 
@@ -43,7 +55,12 @@ impl Drop for Folder {
     }
 }
 
-fn run_program(words: &[String], input: &[u8], folder: &Path) -> Answer {
+/// Returns `true` if a name of the table is that of a folder.
+fn is_folder(name: &OsStr) -> bool {
+    name.as_encoded_bytes().ends_with(b"/")
+}
+
+fn run_program(words: &[OsString], input: &[u8], folder: &Path) -> Answer {
     let mut running = Command::new(env!("CARGO_BIN_EXE_wat_tokens"))
         .args(words)
         .current_dir(folder)
@@ -70,8 +87,8 @@ fn the_program_does_what_the_table_says() {
         let answer = run_program(words, &record.input, &folder.0);
         assert_eq!(answer, record.answer, "{words:?}");
     }
-    let stays = |(name, text): &(String, Vec<u8>)| folder.text(name) == *text;
-    assert!(table.files.iter().all(stays), "a file is other than it was");
+    let stay = table.files.iter().all(|file| folder.has(file));
+    assert!(stay, "a file is other than it was");
 }
 
 /// One of the three functions, with its arguments except the text.
@@ -156,7 +173,7 @@ fn answer_of((ended, output): (Result<Option<Error>, RunError>, Vec<u8>)) -> Ans
 
 /// A test case of the table whose command is one of the three functions.
 struct Case<'a> {
-    words: &'a [String],
+    words: &'a [OsString],
     asked: Asked,
     settings: Settings,
     record: &'a Record,
@@ -178,7 +195,9 @@ fn cases(table: &Table) -> Vec<Case<'_>> {
     let is_asked = |record: &Record| !record.answer.report.starts_with(b"usage");
     let cases = table.runs().filter(|(_, record)| is_asked(record));
     let cases = cases.filter_map(|(words, record)| {
-        let (settings, rest) = settings_of(words);
+        let text = |word: &OsString| word.to_str().map(str::to_owned);
+        let texts: Vec<String> = words.iter().map(text).collect::<Option<_>>()?;
+        let (settings, rest) = settings_of(&texts);
         Some(Case {
             words,
             asked: asked(rest)?,

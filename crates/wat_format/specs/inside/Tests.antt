@@ -1,4 +1,4 @@
--- Tests of sorts.
+-- Predicates on sorts.
 use Rattle.std.specs.Prelude.{Bool, true, false}
 use Rattle.wat_format.specs.declared.sort.Sort.{Sort}
 use Rattle.wat_format.specs.declared.sort.Sort.TheVariants.{Open, Close, Comment, Mark, At}
@@ -19,8 +19,8 @@ abbrev pub is_mark : Sort → Bool
 is_mark Mark = true
 is_mark y = false
 
--- it may be apart from a `(` before it
-abbrev pub may_part : Sort → Bool
-may_part Mark = true
-may_part At = true
-may_part y = false
+-- `keeps_space_after_open sort`: whitespace between a `(` and this token is kept.
+abbrev pub keeps_space_after_open : Sort → Bool
+keeps_space_after_open Mark = true
+keeps_space_after_open At = true
+keeps_space_after_open y = false

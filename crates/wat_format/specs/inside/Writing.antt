@@ -1,4 +1,4 @@
--- What is kept while a text is written a block at a time.
+-- Relations for writing a formatted text block by block.
 use Rattle.std.specs.Prelude.{◌≡◌, ◌<◌, ◌+◌, ◌^◌, ◌++◌, ℕ, List, Option, None}
 use Rattle.std.specs.Io.KnownBytes.{Appends}
 use Rattle.std.specs.Str.{IsCharBoundary}
@@ -6,35 +6,36 @@ use Rattle.wat_lex.specs.tokens.Setting.{Setting}
 use Rattle.wat_lex.specs.tokens.Tiling.{TokenAt, MaximalTiling}
 use Rattle.wat_lex.specs.declared.lexer.kinds.Token.{Token}
 use Rattle.wat_format.specs.Layout.{State, laid}
-use Rattle.wat_lines.specs.Streams.{AppendsPrefix}
+use Rattle.wat_tokens_io.specs.Streams.{AppendsPrefix}
 use Rattle.wat_format.specs.Streams.{AppendsPart}
 use Rattle.wat_format.specs.declared.stream.WriteError.{WriteError}
 use Rattle.wat_format.specs.declared.stream.WriteError.TheVariants.{Fault, Failed}
 
--- a token at a place, and the place after it
+-- `TokenIsAt s p t`: `t` is the token at offset `p`. It is not empty, and its end is a char boundary less than 2^32.
 pub record TokenIsAt (s : Setting) (p : ℕ) (t : Token) : Type 0 where
   pub token : TokenAt s p t
   pub some : 0 < t.len
   pub boundary : IsCharBoundary s.text (p + t.len)
   pub short : t.offset + t.len < 2 ^ 32
 
--- bytes of a block, from its start, were written and taken away
+-- `Drains old new block block'`: the first bytes of the block are written to the sink and removed from the block.
 pub record Drains (old new : Option (List ℕ)) (block block' : List ℕ) : Type 0 where
   pub first : List ℕ
   pub all : block ≡ first ++ block'
   pub appended : Appends old new first
 
--- a write failed, and the sink holds a prefix of these bytes more
+-- `StopsShort old new bytes error`: a write failed, and a prefix of these bytes is appended to the sink.
 abbrev pub StopsShort : Option (List ℕ) → Option (List ℕ) → List ℕ → WriteError → Type 0
 StopsShort old new bytes (Failed cause) = AppendsPrefix old new bytes
 StopsShort old new bytes e = ⊥
 
--- the text has no fault, and so the error is no fault
+-- `CutsShort s old new error`: the error of a text without lexical errors, of whose formatted text a prefix is written.
 abbrev pub CutsShort : Setting → Option (List ℕ) → Option (List ℕ) → WriteError → Type 0
 CutsShort s old new (Fault fault) = ⊥
 CutsShort s old new e = AppendsPart s old new
 
--- The same while a text is written whose layout is `answer`: what was written, and what is not yet, of which a block is gathered.
+-- `Remains s result p state old new block`: the state at offset `p` while the formatted text `result` is written. A
+-- part of it was written, the block is the next part, and the rest is that of the tokens from `p` on.
 pub record Remains (s : Setting) (answer : List ℕ) (p : ℕ) (state : State) (old new : Option (List ℕ)) (block : List ℕ) : Type 0 where
   pub written : List ℕ
   pub appended : Appends old new written

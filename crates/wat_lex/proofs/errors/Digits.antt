@@ -63,7 +63,8 @@ some_left : (at rest : ℕ) → rest < 10 ^ at → (rest ≡ 0 → ⊥) → 0 < 
 some_left zero rest l n = absurd (n (omega (arith, l)))
 some_left (suc a) rest l n = omega arith
 
--- what holds while the digits of a number are written from the last place back
+-- The invariant while the digits of a number are written from the last one back: the digits of the rest, before those
+-- in the buffer from the index at on, are those of the number.
 pub record Written (base number : ℕ) (at rest : ℕ) (room : List ℕ) : Type 0 where
   pub some : 0 < at
   pub within : at ≤ 20

@@ -4,17 +4,17 @@ use Rattle.std.specs.Prelude.{replicate}
 use Rattle.std.proofs.lemmas.Bool.{cases_lt}
 use Rattle.std.proofs.lemmas.List.{append-nil, take_all, drop_all, drop-drop, take-append-le}
 use Rattle.std.proofs.Math.Seq.{take-append-add, take-append_seam, drop-append-add}
-use Rattle.wat_lex.specs.errors.LaidPieces.{Laid, LaysMore}
-use Rattle.wat_lex.specs.errors.Rendering.{laid_over}
+use Rattle.wat_lex.specs.errors.LaidPieces.{Laid, WritesAfter}
+use Rattle.wat_lex.specs.errors.Rendering.{overwrite_start}
 
 -- a text that fits, and one that does not
-laid_short : (text before : List ℕ) → length text ≤ length before → laid_over text before ≡ text ++ drop (length text) before
+laid_short : (text before : List ℕ) → length text ≤ length before → overwrite_start text before ≡ text ++ drop (length text) before
 laid_short text before l = ap (λ x. x ++ drop (length text) before) (take_all (length before) text l)
 
-laid_long : (text before : List ℕ) → length before ≤ length text → laid_over text before ≡ take (length before) text
+laid_long : (text before : List ℕ) → length before ≤ length text → overwrite_start text before ≡ take (length before) text
 laid_long text before l = ap (λ x. take (length before) text ++ x) (drop_all (length text) before l) ∙ append-nil (take (length before) text)
 
--- count bytes of a text are written at the place
+-- A text is written to the buffer at an index, as far as it fits: its first count bytes.
 module _ (before already bytes text bytes' : List ℕ) (at count : ℕ) (h : Laid before already bytes at)
     (room : count ≡ min (length text) (length bytes - at)) (wrote : bytes' ≡ take at bytes ++ (take count text ++ drop (at + count) bytes)) where
   fits : length already ≤ length before → bytes ≡ already ++ drop (length already) before
@@ -26,7 +26,7 @@ module _ (before already bytes text bytes' : List ℕ) (at count : ℕ) (h : Lai
       let parts = length-append (take (length before) already) (drop (length already) before) in
       omega (arith, over, parts, length-take (length before) already, length-drop (length already) before)
 
-  -- what comes before the place, where the old text fits
+  -- The bytes before the index are the text that was written first, if that fits.
   fitting_front : length already ≤ length before → take at bytes ≡ already
   fitting_front l =
       let end : at ≡ length already = omega (arith, h.place, l) in
@@ -37,7 +37,7 @@ module _ (before already bytes text bytes' : List ℕ) (at count : ℕ) (h : Lai
       let end : at ≡ length already = omega (arith, h.place, l) in
       ap (λ k. drop (k + n) bytes) end ∙ ap (drop (length already + n)) (fits l) ∙ drop-append-add already (drop (length already) before) n ∙ drop-drop n (length already) before
 
-  all_fits : length already + length text ≤ length before → bytes' ≡ laid_over (already ++ text) before
+  all_fits : length already + length text ≤ length before → bytes' ≡ overwrite_start (already ++ text) before
   all_fits l =
       let first : length already ≤ length before = omega (arith, l) in
       let all : count ≡ length text = omega (arith, room, long, h.place, l) in
@@ -50,7 +50,7 @@ module _ (before already bytes text bytes' : List ℕ) (at count : ℕ) (h : Lai
       ∙ ap (λ n. (already ++ text) ++ drop n before) (sym sum)
       ∙ sym (laid_short (already ++ text) before (omega (arith, l, sum)))
 
-  part_fits : length already ≤ length before → length before ≤ length already + length text → bytes' ≡ laid_over (already ++ text) before
+  part_fits : length already ≤ length before → length before ≤ length already + length text → bytes' ≡ overwrite_start (already ++ text) before
   part_fits first l =
       let rest : length already + count ≡ length before = omega (arith, room, long, h.place, first, l) in
       let sum = length-append already text in
@@ -60,7 +60,7 @@ module _ (before already bytes text bytes' : List ℕ) (at count : ℕ) (h : Lai
       ∙ sym (take-append-add already text count) ∙ ap (λ n. take n (already ++ text)) rest
       ∙ sym (laid_long (already ++ text) before (omega (arith, l, sum)))
 
-  none_fits : length before ≤ length already → bytes' ≡ laid_over (already ++ text) before
+  none_fits : length before ≤ length already → bytes' ≡ overwrite_start (already ++ text) before
   none_fits l =
       let end : at ≡ length bytes = omega (arith, h.place, long, l) in
       let none : count ≡ 0 = omega (arith, room, end) in
@@ -80,10 +80,10 @@ module _ (before already bytes text bytes' : List ℕ) (at count : ℕ) (h : Lai
     place = let sum = length-append already text in omega (arith, room, long, h.place, sum);
   }
 
-pub lays_nothing : (bytes : List ℕ) (at : ℕ) → at ≤ length bytes → LaysMore bytes at [] bytes at
+pub lays_nothing : (bytes : List ℕ) (at : ℕ) → at ≤ length bytes → WritesAfter bytes at [] bytes at
 lays_nothing bytes at l = record { within = l; long = refl; more = λ before already h. subst (λ s. Laid before s bytes at) (sym (append-nil already)) h }
 
-pub lays_then : (a b c s t all : List ℕ) (i j k : ℕ) → LaysMore a i s b j → LaysMore b j t c k → s ++ t ≡ all → LaysMore a i all c k
+pub lays_then : (a b c s t all : List ℕ) (i j k : ℕ) → WritesAfter a i s b j → WritesAfter b j t c k → s ++ t ≡ all → WritesAfter a i all c k
 lays_then a b c s t all i j k first second e = record {
   within = second.within;
   long = second.long ∙ first.long;

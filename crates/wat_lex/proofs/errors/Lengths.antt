@@ -1,7 +1,7 @@
 -- How long a message can be.
 use Rattle.std.proofs.Common.{◌≤◌, ℕ, List, ◌++◌, length, arith, length-append}
 use Rattle.std.specs.Prelude.{◌==◌, ◌&&◌, nat_le, codes}
-use Rattle.wat_lex.specs.errors.Messages.{lower_hex, unicode_escape, shown_char, quoted_char, message}
+use Rattle.wat_lex.specs.errors.Messages.{lower_hex, unicode_escape, escaped_char, quoted_char, message}
 use Rattle.wat_lex.specs.declared.lexer.faults.LexError.{LexError}
 use Rattle.wat_lex.specs.declared.lexer.faults.LexError.TheVariants.{DanglingBlockComment, Unexpected, InvalidStringElement, InvalidStringEscape, InvalidHexDigit, InvalidDigit, Expected, UnexpectedEof, NumberTooBig, InvalidUnicodeValue, LoneUnderscore, ConfusingUnicode, InvalidUtf8Id, EmptyId, EmptyAnnotation}
 use Rattle.wat_lex.specs.lemmas.Lengths.{length_if, length_digits}
@@ -9,7 +9,7 @@ use Rattle.wat_lex.specs.lemmas.Lengths.{length_if, length_digits}
 length_escape : (c : ℕ) → length (unicode_escape c) ≤ 68
 length_escape c = omega (arith, length-append (lower_hex c) (codes "}"), length_digits 16 c)
 
-length_shown_char : (c : ℕ) → length (shown_char c) ≤ 68
+length_shown_char : (c : ℕ) → length (escaped_char c) ≤ 68
 length_shown_char c =
     length_if (c == 9) _ _ 68 (omega arith)
     (length_if (c == 13) _ _ 68 (omega arith)
@@ -19,9 +19,9 @@ length_shown_char c =
     (length_if (nat_le 0x20 c && nat_le c 0x7E) _ _ 68 (omega arith) (length_escape c))))))
 
 length_quoted : (c : ℕ) → length (quoted_char c) ≤ 70
-length_quoted c = omega (arith, length-append (shown_char c) (codes "'"), length_shown_char c)
+length_quoted c = omega (arith, length-append (escaped_char c) (codes "'"), length_shown_char c)
 
--- a text of so many bytes before a character
+-- A message of a text of at most 60 bytes and a quoted character has at most 200 bytes.
 length_about : (text : List ℕ) (c : ℕ) → length text ≤ 60 → length (text ++ quoted_char c) ≤ 200
 length_about text c l = omega (arith, length-append text (quoted_char c), length_quoted c, l)
 

@@ -1,4 +1,4 @@
--- The places of line feeds, and a binary search in them.
+-- The offsets of line feeds, and a binary search in them.
 use Rattle.std.proofs.Common.{◌≡◌, ◌<◌, ◌≤◌, ◌+◌, ◌-◌, ℕ, zero, suc, Bool, true, false, not, cond, ltb, List, [], ◌∷◌, ◌++◌, length, get_or, take, drop, refl, arith, ap, sym, ◌∙◌, subst, length-append, inl, inr}
 use Rattle.std.specs.Prelude.{Some, None}
 use Rattle.std.specs.List.{count_by, suffix_len}
@@ -19,7 +19,7 @@ count = count_by is_line_feed
 pub count_chunk : (text : List ℕ) (i n : ℕ) → count_by is_line_feed (drop i text) ≡ count_by is_line_feed (chunk i n text) + count_by is_line_feed (drop (i + n) text)
 count_chunk text i n = ap count (chunk-drop i n text) ∙ sum_by-append (λ b. cond (is_line_feed b) 1 0) (chunk i n text) (drop (i + n) text)
 
--- ---- how many come before a place
+-- ---- the number of line feeds before an offset
 
 mono : (xs : List ℕ) (m n : ℕ) → m ≤ n → count (take m xs) ≤ count (take n xs)
 mono xs m n l = subst (λ x. count x ≤ count (take n xs)) (take-take m n xs l) (sum_by-take-le (λ b. cond (is_line_feed b) 1 0) (take n xs) m)

@@ -179,7 +179,7 @@ count_none : (xs : List ℕ) → All (λ x. feed x ≡ false) xs → count_by is
 count_none [] h = refl
 count_none (x ∷ xs) h = count_no x xs (h 0 0 (omega arith)) ∙ count_none xs (λ k d l. h (suc k) d (omega (arith, l)))
 
--- a text up to a place, cut at its last line's start
+-- A text whose last line begins at the offset start.
 module _ (s : List ℕ) (start : ℕ) (e : length s ≡ start + since s) where
   start_within : start ≤ length s
   start_within = omega (arith, e)

@@ -15,18 +15,18 @@ use denote.Param.Members.{Mut}
 use denote.Ref.{Bor}
 use lib.Utf8.{encode}
 use Rattle.wat_lex.specs.grammar.Classes.{is_confusing}
-use Rattle.wat_lex.specs.errors.Rendering.{shown_in_line}
+use Rattle.wat_lex.specs.errors.Rendering.{rendered_char}
 use Rattle.wat_lex.specs.errors.ShownView.{between}
 use Rattle.wat_lex.specs.lemmas.Lengths.{shown_none}
 
--- the characters that are shown of a text
+-- The characters that are displayed of a text.
 abbrev pub all_shown : List ℕ → List ℕ
-all_shown text = flat_map shown_in_line (chars text)
+all_shown text = flat_map rendered_char (chars text)
 
 -- ---- a character comes off, from the front and from the back
 
-pub first_off : (text rest : List ℕ) (c : ℕ) → IsUtf8 text → text ≡ encode c ++ rest → all_shown text ≡ shown_in_line c ++ all_shown rest
-first_off text rest c u e = ap (flat_map shown_in_line) (chars_past_char text rest c u e)
+pub first_off : (text rest : List ℕ) (c : ℕ) → IsUtf8 text → text ≡ encode c ++ rest → all_shown text ≡ rendered_char c ++ all_shown rest
+first_off text rest c u e = ap (flat_map rendered_char) (chars_past_char text rest c u e)
 
 -- no character has a later character's byte as its first
 pub lead_byte : (c : ℕ) → 128 ≤ get_or (encode c) 0 0 → 192 ≤ get_or (encode c) 0 0
@@ -41,16 +41,16 @@ utf8_before text rest c u e =
     let cut : IsCharBoundary text (length rest) = (omega (arith, long), λ _ high. subst (λ b. 192 ≤ b) (sym here) (lead_byte c (subst (λ b. 128 ≤ b) here high))) in
     subst IsUtf8 (ap (take (length rest)) e ∙ take-append_seam rest (encode c)) (IsUtf8-take text (length rest) u cut)
 
-pub last_off : (text rest : List ℕ) (c : ℕ) → IsUtf8 text → text ≡ rest ++ encode c → all_shown text ≡ all_shown rest ++ shown_in_line c
+pub last_off : (text rest : List ℕ) (c : ℕ) → IsUtf8 text → text ≡ rest ++ encode c → all_shown text ≡ all_shown rest ++ rendered_char c
 last_off text rest c u e =
     let before = utf8_before text rest c u e in
     let whole : chars rest ++ c ∷ [] ≡ chars text = chars_from_encodes (chars rest ++ c ∷ []) text u
     (encodes-append (chars rest) (c ∷ []) ∙ ap (λ x. x ++ (encode c ++ [])) (encodes-chars rest before) ∙ ap (λ x. rest ++ x) (append-nil (encode c)) ∙ sym e) in
-    sym (ap (flat_map shown_in_line) whole) ∙ flat_map-append shown_in_line (chars rest) (c ∷ []) ∙ ap (λ x. all_shown rest ++ x) (append-nil (shown_in_line c))
+    sym (ap (flat_map rendered_char) whole) ∙ flat_map-append rendered_char (chars rest) (c ∷ []) ∙ ap (λ x. all_shown rest ++ x) (append-nil (rendered_char c))
 
--- ---- those that are dropped are passed over
+-- ---- characters that are dropped are skipped
 
-is_dropped : (c : ℕ) → is_confusing c ≡ true → shown_in_line c ≡ []
+is_dropped : (c : ℕ) → is_confusing c ≡ true → rendered_char c ≡ []
 is_dropped c k = sym (shown_none c (λ e. absurd (true≢false (sym k ∙ ap is_confusing e))) k)
 
 from_not : (b : Bool) → false ≡ not b → b ≡ true
@@ -85,10 +85,10 @@ module _ {F : Type 0} {g : Mut F (Bor ℕ × Unit {0}) Bool} (f : F)
       (more.0, off ∙ ap (λ d. all_shown (chars_rest y.0) ++ d) dropped ∙ append-nil _ ∙ more.1, more.2)
 
   nothing_left : (text : List ℕ) → length text ≡ 0 → all_shown text ≡ []
-  nothing_left text e = ap all_shown (nil_from_length text e) ∙ ap (flat_map shown_in_line) chars-nil
+  nothing_left text e = ap all_shown (nil_from_length text e) ∙ ap (flat_map rendered_char) chars-nil
 
   pub found_first : (s u : Chars) (r : Option ℕ) → IsUtf8 (chars_rest s) → FindsItem chars_steps g s f r u
-      → MatchOption r ((all_shown (chars_rest s) ≡ []) × (all_shown (chars_rest u) ≡ [])) (λ c. (is_confusing c ≡ false) × (all_shown (chars_rest s) ≡ shown_in_line c ++ all_shown (chars_rest u)))
+      → MatchOption r ((all_shown (chars_rest s) ≡ []) × (all_shown (chars_rest u) ≡ [])) (λ c. (is_confusing c ≡ false) × (all_shown (chars_rest s) ≡ rendered_char c ++ all_shown (chars_rest u)))
   found_first s u None b h =
       let passed = passed_front s h.2.0 h.0 f h.1 refl b h.2.1 h.3 in
       let last = h.2.2 in
@@ -101,7 +101,7 @@ module _ {F : Type 0} {g : Mut F (Bor ℕ × Unit {0}) Bool} (f : F)
       (to_not (is_confusing c) call.1, passed.1 ∙ first_off (chars_rest h.2.0) (chars_rest u) c passed.0 last.0)
 
   pub found_last : (s u : Chars) (r : Option ℕ) → IsUtf8 (chars_rest s) → FindsItem chars_steps_back g s f r u
-      → MatchOption r ((all_shown (chars_rest s) ≡ []) × (all_shown (chars_rest u) ≡ [])) (λ c. (is_confusing c ≡ false) × (all_shown (chars_rest s) ≡ all_shown (chars_rest u) ++ shown_in_line c))
+      → MatchOption r ((all_shown (chars_rest s) ≡ []) × (all_shown (chars_rest u) ≡ [])) (λ c. (is_confusing c ≡ false) × (all_shown (chars_rest s) ≡ all_shown (chars_rest u) ++ rendered_char c))
   found_last s u None b h =
       let passed = passed_back s h.2.0 h.0 f h.1 refl b h.2.1 h.3 in
       let last = h.2.2 in

@@ -1,4 +1,4 @@
--- Stretches of a line that are shown as they are, and those that are shown in a column a byte.
+-- Stretches of a line that are displayed unchanged, and those that are displayed in one column per byte.
 use Rattle.std.proofs.Common.{◌≡◌, ◌≢◌, ◌<◌, ◌≤◌, ◌+◌, ℕ, zero, suc, Bool, true, false, cond, List, [], ◌∷◌, ◌++◌, length, get_or, take, drop, refl, arith, true≢false, eq-eqb, ap, sym, ◌∙◌, subst, length-append, take-append-drop, zero-add, inl, inr}
 use Rattle.std.specs.Prelude.{flat_map, ◌&&◌, ◌==◌, Option, Some, None, IsNone, MatchOption, if◌then◌else◌}
 use Rattle.std.specs.Fmt.{is_char_start}
@@ -18,7 +18,7 @@ use Rattle.memchr.specs.Find.{IsFirstByte, is_byte}
 use Rattle.unicode_width.specs.Width.{str_width}
 use Rattle.unicode_width.proofs.Rules.{str_width-printable}
 use Rattle.wat_lex.specs.errors.LineBytes.{is_kept, is_by_columns}
-use Rattle.wat_lex.specs.errors.Rendering.{shown_in_line, shown_line, is_boundary, columns}
+use Rattle.wat_lex.specs.errors.Rendering.{rendered_char, rendered_line, is_boundary, columns}
 use Rattle.wat_lex.specs.grammar.Classes.{is_confusing}
 use Rattle.wat_lex.specs.inside.ScannedLexemes.{FirstConfusing}
 use Rattle.wat_lex.specs.lemmas.Lengths.{shown_tab, shown_none, shown_self}
@@ -28,19 +28,19 @@ use Rattle.wat_lex.proofs.inside.Confusing.{Leadless, clear_text, encode_some, l
 
 -- ---- a line in two
 
-pub shown_append : (xs ys : List ℕ) → IsUtf8 xs → shown_line (xs ++ ys) ≡ shown_line xs ++ shown_line ys
+pub shown_append : (xs ys : List ℕ) → IsUtf8 xs → rendered_line (xs ++ ys) ≡ rendered_line xs ++ rendered_line ys
 shown_append xs ys u =
-    ap (λ cs. encodes (flat_map shown_in_line cs)) (chars-append xs ys u) ∙ ap encodes (flat_map-append shown_in_line (chars xs) (chars ys)) ∙ encodes-append (all_shown xs) (all_shown ys)
+    ap (λ cs. encodes (flat_map rendered_char cs)) (chars-append xs ys u) ∙ ap encodes (flat_map-append rendered_char (chars xs) (chars ys)) ∙ encodes-append (all_shown xs) (all_shown ys)
 
-pub shown_nothing : (line : List ℕ) → length line ≡ 0 → shown_line line ≡ []
-shown_nothing line e = ap shown_line (nil_from_length line e) ∙ ap (λ cs. encodes (flat_map shown_in_line cs)) chars-nil
+pub shown_nothing : (line : List ℕ) → length line ≡ 0 → rendered_line line ≡ []
+shown_nothing line e = ap rendered_line (nil_from_length line e) ∙ ap (λ cs. encodes (flat_map rendered_char cs)) chars-nil
 
--- ---- characters that are shown as they are
+-- ---- characters that are displayed unchanged
 
-kept_chars : (cs : List ℕ) → NonePass (λ c. c == 9) cs → NonePass is_confusing cs → flat_map shown_in_line cs ≡ cs
+kept_chars : (cs : List ℕ) → NonePass (λ c. c == 9) cs → NonePass is_confusing cs → flat_map rendered_char cs ≡ cs
 kept_chars [] h k = refl
 kept_chars (c ∷ cs) h k =
-    ap (λ x. x ++ flat_map shown_in_line cs) (sym (shown_self c (λ e. true≢false (sym (eq-eqb c 9 e) ∙ h.0)) k.0)) ∙ ap (λ x. c ∷ x) (kept_chars cs h.1 k.1)
+    ap (λ x. x ++ flat_map rendered_char cs) (sym (shown_self c (λ e. true≢false (sym (eq-eqb c 9 e) ∙ h.0)) k.0)) ∙ ap (λ x. c ∷ x) (kept_chars cs h.1 k.1)
 
 abbrev Tabless : List ℕ → Type 0
 Tabless bs = (k : ℕ) → k < length bs → get_or bs k 0 ≢ 9
@@ -58,11 +58,11 @@ tabless_chars (c ∷ cs) h = (
   tabless_chars cs (λ k l e. h (length (encode c) + k) (omega (arith, length-append (encode c) (encodes cs))) (get_or-append-add (encode c) (encodes cs) k 0 ∙ e)),
 )
 
-kept_text : (bs : List ℕ) → IsUtf8 bs → Tabless bs → NonePass is_confusing (chars bs) → shown_line bs ≡ bs
+kept_text : (bs : List ℕ) → IsUtf8 bs → Tabless bs → NonePass is_confusing (chars bs) → rendered_line bs ≡ bs
 kept_text bs u h k = ap encodes (kept_chars (chars bs) (tabless_chars (chars bs) (subst Tabless (sym (encodes-chars bs u)) h)) k) ∙ encodes-chars bs u
 
 pub shown_itself : (text : List ℕ) (tab : Option ℕ) (f : Option (ℕ × ℕ)) → IsUtf8 text → IsFirstByte (is_byte 9) text tab
-    → MatchOption f (NonePass is_confusing (chars text)) (λ f. FirstConfusing text f.0 f.1) → IsNone tab → IsNone f → shown_line text ≡ text
+    → MatchOption f (NonePass is_confusing (chars text)) (λ f. FirstConfusing text f.0 f.1) → IsNone tab → IsNone f → rendered_line text ≡ text
 shown_itself text None None u t f a b = kept_text text u (λ k l e. t k (omega arith) l (eq-eqb (get_or text k 0) 9 e)) f
 shown_itself text (Some x) f u t k a b = absurd (true≢false a)
 shown_itself text None (Some x) u t k a b = absurd (true≢false b)
@@ -84,13 +84,13 @@ kept_byte line n k e l =
     let below : k < n = omega (arith, l, length-take-le n line within) in
     ap is_kept (get_or-take n line k 0 below) ∙ prefix_len_passes is_kept line k 0 (omega (arith, e, below))
 
-pub kept_front : (line : List ℕ) (n : ℕ) → IsUtf8 line → n ≡ prefix_len is_kept line → shown_line line ≡ take n line ++ shown_line (drop n line)
+pub kept_front : (line : List ℕ) (n : ℕ) → IsUtf8 line → n ≡ prefix_len is_kept line → rendered_line line ≡ take n line ++ rendered_line (drop n line)
 kept_front line n u e =
     let front : IsUtf8 (take n line) = IsUtf8-take line n u (kept_boundary line n e) in
     let tabless : Tabless (take n line) = λ k l q. both_ways (is_kept 9) refl (subst (λ x. is_kept x ≡ true) q (kept_byte line n k e l)) in
     let leadless : Leadless (take n line) = λ k l q. both_ways (is_kept 0xE2) refl (subst (λ x. is_kept x ≡ true) q (kept_byte line n k e l)) in
-    ap shown_line (sym (take-append-drop n line)) ∙ shown_append (take n line) (drop n line) front
-    ∙ ap (λ x. x ++ shown_line (drop n line)) (kept_text (take n line) front tabless (clear_text (take n line) front leadless))
+    ap rendered_line (sym (take-append-drop n line)) ∙ shown_append (take n line) (drop n line) front
+    ∙ ap (λ x. x ++ rendered_line (drop n line)) (kept_text (take n line) front tabless (clear_text (take n line) front leadless))
 
 -- ---- the first character of a line
 
@@ -104,18 +104,18 @@ module _ (line rest : List ℕ) (c : ℕ) (u : IsUtf8 line) (here : line ≡ enc
   pub shorter_after : length (drop (len_utf8 c) line) < length line
   shorter_after = omega (arith, ap length here, length-append (encode c) rest, encode_some c, ap length after_first)
 
-  first_shown : shown_line line ≡ encodes (shown_in_line c) ++ shown_line (drop (len_utf8 c) line)
-  first_shown = ap encodes (first_off line rest c u here) ∙ encodes-append (shown_in_line c) (all_shown rest) ∙ ap (λ x. encodes (shown_in_line c) ++ shown_line x) (sym after_first)
+  first_shown : rendered_line line ≡ encodes (rendered_char c) ++ rendered_line (drop (len_utf8 c) line)
+  first_shown = ap encodes (first_off line rest c u here) ∙ encodes-append (rendered_char c) (all_shown rest) ∙ ap (λ x. encodes (rendered_char c) ++ rendered_line x) (sym after_first)
 
-  pub first_as : (s : List ℕ) → encodes (shown_in_line c) ≡ s → shown_line line ≡ s ++ shown_line (drop (len_utf8 c) line)
-  first_as s e = first_shown ∙ ap (λ x. x ++ shown_line (drop (len_utf8 c) line)) e
+  pub first_as : (s : List ℕ) → encodes (rendered_char c) ≡ s → rendered_line line ≡ s ++ rendered_line (drop (len_utf8 c) line)
+  first_as s e = first_shown ∙ ap (λ x. x ++ rendered_line (drop (len_utf8 c) line)) e
 
-  pub own_bytes : (c ≡ 9 → ⊥) → is_confusing c ≡ false → encodes (shown_in_line c) ≡ take (len_utf8 c) line
+  pub own_bytes : (c ≡ 9 → ⊥) → is_confusing c ≡ false → encodes (rendered_char c) ≡ take (len_utf8 c) line
   own_bytes n f =
       ap encodes (sym (shown_self c n f)) ∙ append-nil (encode c) ∙ sym (take-append_seam (encode c) rest)
       ∙ ap (λ k. take k (encode c ++ rest)) (length-encode c) ∙ ap (take (len_utf8 c)) (sym here)
 
-  pub no_bytes : (c ≡ 9 → ⊥) → is_confusing c ≡ true → encodes (shown_in_line c) ≡ []
+  pub no_bytes : (c ≡ 9 → ⊥) → is_confusing c ≡ true → encodes (rendered_char c) ≡ []
   no_bytes n t = ap encodes (sym (shown_none c n t))
 
 -- ---- a column a byte
@@ -166,16 +166,16 @@ small_clear b l =
       | inr f ↦ f
     ]
 
--- what is shown of a byte
+-- The displayed form of a byte: printable ASCII, and not empty.
 record InColumns (s : List ℕ) : Type 0 where
   printable : list_all (is_in_range 0x20 0x7E) s ≡ true
   some : 0 < length s
 
-byte_columns : (b : ℕ) → is_by_columns b ≡ true → InColumns (shown_in_line b)
+byte_columns : (b : ℕ) → is_by_columns b ≡ true → InColumns (rendered_char b)
 byte_columns b h =
     elim (or_cases (is_in_range 0x20 0x7E b) (b == 9) h) [
       | inl p ↦
-          let one : b ∷ [] ≡ shown_in_line b = shown_self b (no_tab b p) (small_clear b (printable_small b p)) in
+          let one : b ∷ [] ≡ rendered_char b = shown_self b (no_tab b p) (small_clear b (printable_small b p)) in
           subst InColumns one (record { printable = ap (λ x. x && true) p; some = omega arith })
       | inr t ↦ subst InColumns (shown_tab b (eqb-true b 9 t)) (record { printable = refl; some = omega arith })
     ]
@@ -184,25 +184,25 @@ record InColumnsAll (bs s : List ℕ) : Type 0 where
   printable : list_all (is_in_range 0x20 0x7E) s ≡ true
   long : length bs ≤ length s
 
-in_columns : (bs : List ℕ) → list_all is_by_columns bs ≡ true → InColumnsAll bs (flat_map shown_in_line bs)
+in_columns : (bs : List ℕ) → list_all is_by_columns bs ≡ true → InColumnsAll bs (flat_map rendered_char bs)
 in_columns [] e = record { printable = refl; long = omega arith }
 in_columns (b ∷ bs) e =
     let parts = and_parts (is_by_columns b) (list_all is_by_columns bs) e in
     let first = byte_columns b parts.0 in
     let rest = in_columns bs parts.1 in
     record {
-      printable = all_append (is_in_range 0x20 0x7E) (shown_in_line b) (flat_map shown_in_line bs) first.printable rest.printable;
-      long = omega (arith, first.some, rest.long, length-append (shown_in_line b) (flat_map shown_in_line bs));
+      printable = all_append (is_in_range 0x20 0x7E) (rendered_char b) (flat_map rendered_char bs) first.printable rest.printable;
+      long = omega (arith, first.some, rest.long, length-append (rendered_char b) (flat_map rendered_char bs));
     }
 
 either_way : (b : Bool) (w n : ℕ) → w ≡ n → (if b then w else n) ≡ n
 either_way true w n e = e
 either_way false w n e = refl
 
-pub columns_are_bytes : (line : List ℕ) (n : ℕ) → n ≤ length line → n ≡ prefix_len is_by_columns (take n line) → columns (shown_line line) n ≡ n
+pub columns_are_bytes : (line : List ℕ) (n : ℕ) → n ≤ length line → n ≡ prefix_len is_by_columns (take n line) → columns (rendered_line line) n ≡ n
 columns_are_bytes line n l e =
     let front = take n line in
-    let s = flat_map shown_in_line front in
+    let s = flat_map rendered_char front in
     let size : length front ≡ n = length-take-le n line l in
     let all = all_pass is_by_columns front (sym e ∙ sym size) in
     let ascii : IsAscii front = all_ascii is_by_columns by_columns_small front all in
@@ -210,16 +210,16 @@ columns_are_bytes line n l e =
     let printable = shape.printable in
     let s_ascii : IsAscii s = all_ascii (is_in_range 0x20 0x7E) printable_small s printable in
     let room : n ≤ length s = let long = shape.long in omega (arith, long, size) in
-    let shown_front : shown_line front ≡ s = ap (λ cs. encodes (flat_map shown_in_line cs)) (chars-IsAscii front ascii) ∙ encodes-IsAscii s s_ascii in
-    let whole : shown_line line ≡ s ++ shown_line (drop n line) =
-    ap shown_line (sym (take-append-drop n line)) ∙ shown_append front (drop n line) (IsUtf8-from_ascii front ascii) ∙ ap (λ x. x ++ shown_line (drop n line)) shown_front in
-    let first : take n (shown_line line) ≡ take n s = ap (take n) whole ∙ take-append-le n s (shown_line (drop n line)) room in
-    let text : chars (take n (shown_line line)) ≡ take n s = ap chars first ∙ chars-IsAscii (take n s) (IsAscii-take s n s_ascii) in
-    let wide : str_width false (chars (take n (shown_line line))) ≡ n =
+    let shown_front : rendered_line front ≡ s = ap (λ cs. encodes (flat_map rendered_char cs)) (chars-IsAscii front ascii) ∙ encodes-IsAscii s s_ascii in
+    let whole : rendered_line line ≡ s ++ rendered_line (drop n line) =
+    ap rendered_line (sym (take-append-drop n line)) ∙ shown_append front (drop n line) (IsUtf8-from_ascii front ascii) ∙ ap (λ x. x ++ rendered_line (drop n line)) shown_front in
+    let first : take n (rendered_line line) ≡ take n s = ap (take n) whole ∙ take-append-le n s (rendered_line (drop n line)) room in
+    let text : chars (take n (rendered_line line)) ≡ take n s = ap chars first ∙ chars-IsAscii (take n s) (IsAscii-take s n s_ascii) in
+    let wide : str_width false (chars (take n (rendered_line line))) ≡ n =
     ap (str_width false) text ∙ str_width-printable false (take n s) (all_take (is_in_range 0x20 0x7E) n s printable) ∙ length-take-le n s room in
-    either_way (is_boundary (shown_line line) n) (str_width false (chars (take n (shown_line line)))) n wide
+    either_way (is_boundary (rendered_line line) n) (str_width false (chars (take n (rendered_line line)))) n wide
 
--- ---- a front that is shown as it is
+-- ---- a prefix that is displayed unchanged
 
 starts_char : (b : ℕ) → (128 ≤ b → 192 ≤ b) → is_char_start b ≡ true
 starts_char b h = grind (arith, nat_tests)
@@ -237,12 +237,12 @@ boundary_to text n h =
       | inr l ↦ past_end_starts text n l
     ]
 
-pub columns_of_front : (line : List ℕ) (n : ℕ) → IsUtf8 line → IsCharBoundary line n → shown_line (take n line) ≡ take n line → str_width false (chars (take n line)) ≡ columns (shown_line line) n
+pub columns_of_front : (line : List ℕ) (n : ℕ) → IsUtf8 line → IsCharBoundary line n → rendered_line (take n line) ≡ take n line → str_width false (chars (take n line)) ≡ columns (rendered_line line) n
 columns_of_front line n u b e =
     let front = take n line in
     let size : length front ≡ n = length-take-le n line b.0 in
-    let whole : shown_line line ≡ front ++ shown_line (drop n line) =
-    ap shown_line (sym (take-append-drop n line)) ∙ shown_append front (drop n line) (IsUtf8-take line n u b) ∙ ap (λ x. x ++ shown_line (drop n line)) e in
-    let seam : IsCharBoundary (shown_line line) n = subst (IsCharBoundary (shown_line line)) size (IsCharBoundary-at_seam (shown_line line) front (shown_line (drop n line)) whole (shown_utf8 (drop n line) (IsUtf8-drop line n u b))) in
-    let first : take n (shown_line line) ≡ front = ap (take n) whole ∙ ap (λ k. take k (front ++ shown_line (drop n line))) (sym size) ∙ take-append_seam front (shown_line (drop n line)) in
-    sym (ap (λ b. if b then str_width false (chars (take n (shown_line line))) else n) (boundary_to (shown_line line) n seam) ∙ ap (λ t. str_width false (chars t)) first)
+    let whole : rendered_line line ≡ front ++ rendered_line (drop n line) =
+    ap rendered_line (sym (take-append-drop n line)) ∙ shown_append front (drop n line) (IsUtf8-take line n u b) ∙ ap (λ x. x ++ rendered_line (drop n line)) e in
+    let seam : IsCharBoundary (rendered_line line) n = subst (IsCharBoundary (rendered_line line)) size (IsCharBoundary-at_seam (rendered_line line) front (rendered_line (drop n line)) whole (shown_utf8 (drop n line) (IsUtf8-drop line n u b))) in
+    let first : take n (rendered_line line) ≡ front = ap (take n) whole ∙ ap (λ k. take k (front ++ rendered_line (drop n line))) (sym size) ∙ take-append_seam front (rendered_line (drop n line)) in
+    sym (ap (λ b. if b then str_width false (chars (take n (rendered_line line))) else n) (boundary_to (rendered_line line) n seam) ∙ ap (λ t. str_width false (chars t)) first)

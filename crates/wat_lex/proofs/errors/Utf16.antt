@@ -125,7 +125,7 @@ by_bytes text n u = by_characters (chars text) n ∙ ap (λ t. total (take n t))
 no_units : (cs : List ℕ) (n : ℕ) → n ≡ 0 → utf16_units n cs ≡ 0
 no_units cs n e = ap (λ k. utf16_units k cs) e ∙ none_begin cs
 
--- ---- places, whose line and column in bytes are known
+-- ---- offsets whose line and column in bytes are known
 
 module _ (text : List ℕ) (offset : ℕ) (place : ℕ × ℕ) (is : place ≡ line_and_column text offset) where
   pub at_start : place.1 ≡ 0 → (place.0, 0) ≡ utf16_line_and_column text offset

@@ -92,7 +92,7 @@ pub none_closes : (s : List ℕ) (n : ℕ) → 0 < n → Reaches s n [] → (r :
 none_closes s zero p h r g = absurd (omega arith)
 none_closes s (suc n) p h r g = let k = h.from r g in at_nil k.0 k.1
 
--- the steps, by places of the whole text
+-- ---- the steps, by offsets in the whole text
 drop_two : (s : List ℕ) (i : ℕ) → i + 1 < length s → drop i s ≡ get_or s i 0 ∷ get_or s (i + 1) 0 ∷ drop (i + 2) s
 drop_two s i h =
     let e : drop i s ≡ get_or s i 0 ∷ drop (i + 1) s = drop_more s i 0 (omega arith) in
@@ -133,11 +133,11 @@ other_at s i n h p g a b =
     step_other s (drop (i + 1) s) (get_or s i 0) n p (subst (λ x. Reaches s n x) e g)
     (λ x y z. a x (omega (arith, l)) (sym f ∙ z)) (λ x y z. b x (omega (arith, l)) (sym f ∙ z))
 
--- from place i to place j of a text there is no `;`
+-- Between the offsets i and j of a text there is not any `;`.
 abbrev NoSemicolon : List ℕ → ℕ → ℕ → Type 0
 NoSemicolon s i j = (k : ℕ) → i ≤ k → k < j → get_or s k 0 ≢ 59
 
--- from place i to place j of a text no `(` comes before a `;`
+-- Between the offsets i and j of a text, `(` is not followed by `;`.
 abbrev NoOpening : List ℕ → ℕ → ℕ → Type 0
 NoOpening s i j = (k : ℕ) → i ≤ k → k < j → get_or s k 0 ≡ 40 → k + 1 < length s → get_or s (k + 1) 0 ≡ 59 → ⊥
 
@@ -163,7 +163,7 @@ other_before s i m k e a b q =
     let passes = prefix_len_passes other_than_semicolon (drop i s) (k - i) 0 (omega arith) in
     both_ways (other_than_semicolon 59) refl (subst (λ x. other_than_semicolon x ≡ true) here passes)
 
--- the next `;` is reached, or the end, if no `(` from place i on comes before it
+-- The next `;`, or the end, is reached from the offset i, if the byte before it is not `(`.
 pub semicolon_reached : (s : List ℕ) (i m n : ℕ) → m ≡ prefix_len other_than_semicolon (drop i s) → i + m ≤ length s → (i < i + m → get_or s (i + m - 1) 0 ≡ 40 → ⊥) → 0 < n → Reaches s n (drop i s) → Reaches s n (drop (i + m) s)
 semicolon_reached s i m n e l a p h =
     let none : NoSemicolon s i (i + m) = λ k x y. other_before s i m k e x y in

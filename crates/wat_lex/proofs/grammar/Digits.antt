@@ -71,7 +71,7 @@ row_parted hex text t d a h = record { on = λ r k. h.on r (parted a k); back = 
 row_next : (hex : Bool) (text t : List ℕ) (d e : ℕ) → is_digit hex d ≡ true → is_digit hex e ≡ true → Row hex text (d ∷ e ∷ t) → Row hex text (e ∷ t)
 row_next hex text t d e a b h = record { on = λ r k. h.on r (next a k); back = λ r s k. digits_next hex d e t r b (h.back r s k) s }
 
--- the same at a place of the text
+-- A text from an index on is the byte there, and then the text after it.
 at : (text : List ℕ) (i : ℕ) → i < length text → drop i text ≡ get_or text i 0 ∷ drop (i + 1) text
 at text i l = drop_more text i 0 l
 

@@ -1,4 +1,4 @@
--- A word that begins as no number does is no number.
+-- A word that does not begin like a number is not a number.
 use Rattle.std.proofs.Common.{◌≡◌, ◌≢◌, ℕ, List, [], ◌∷◌, sym, ◌∙◌, subst, ap, Bool, false, cond, ◌||◌}
 use Rattle.std.specs.Prelude.{◌==◌}
 use Rattle.std.specs.Char.{is_ascii_digit}
@@ -38,14 +38,15 @@ none c t n = record {
     tail : (hex : Bool) → Decimals hex (c ∷ t) → ⊥
     tail hex (decimals {t = s} h k) = no_integral c t s n.digit hex h
 
--- a character that is no sign begins its own word
+-- A word whose first character is not a sign is its own unsigned part.
 own : (c : ℕ) (t : List ℕ) → c ≢ 43 → c ≢ 45 → unsigned (c ∷ t) ≡ c ∷ t
 own c t p m = ap (λ b. cond (b || c == 45) t (c ∷ t)) (ne_eqb c 43 p) ∙ ap (λ b. cond b t (c ∷ t)) (ne_eqb c 45 m)
 
 pub begins_none : (c : ℕ) (t : List ℕ) → BeginsNone c → (kind : TokenKind) → Number (c ∷ t) kind → ⊥
 begins_none c t n = no_number (c ∷ t) (subst NoNumber (sym (own c t n.plus n.minus)) (none c t n))
 
--- one whose second character is not that of `inf` or `nan` is none either, if its first is no digit and no sign
+-- A word is not a number if its first character is neither a digit nor a sign, and its second is not that of `inf` or
+-- `nan`.
 pub second_none : (c d : ℕ) (t : List ℕ) → is_ascii_digit c ≡ false → c ≢ 43 → c ≢ 45 → d ≢ 110 → d ≢ 97 → (kind : TokenKind) → Number (c ∷ d ∷ t) kind → ⊥
 second_none c d t n p m i a = no_number (c ∷ d ∷ t) (subst NoNumber (sym (own c (d ∷ t) p m)) (record {
   inf = λ e. i (second e);
@@ -64,7 +65,7 @@ second_none c d t n p m i a = no_number (c ∷ d ∷ t) (subst NoNumber (sym (ow
     tail : (hex : Bool) → Decimals hex (c ∷ d ∷ t) → ⊥
     tail hex (decimals {t = s} h k) = no_integral c (d ∷ t) s n hex h
 
--- one character is none, if it is no digit and no sign
+-- A word of one character is not a number if the character is neither a digit nor a sign.
 pub one_none : (c : ℕ) → is_ascii_digit c ≡ false → c ≢ 43 → c ≢ 45 → (kind : TokenKind) → Number (c ∷ []) kind → ⊥
 one_none c n p m = no_number (c ∷ []) (subst NoNumber (sym (own c [] p m)) (record {
   inf = λ e. cc;

@@ -1,4 +1,4 @@
--- A block comment ends at one place, and a string is read in one way.
+-- The end of a block comment and the value of a string are unique.
 use Rattle.std.proofs.Common.{◌≡◌, ◌⊎◌, ◌≤◌, ◌+◌, ◌*◌, ◌&&◌, ℕ, List, [], ◌∷◌, ◌++◌, refl, arith, ap, sym, ◌∙◌, subst, Bool, true, false, not, ◌||◌, inl, inr, cond, append_assoc}
 use Rattle.std.specs.Prelude.{Some, Option, encode_utf8, ◌==◌}
 use Rattle.std.proofs.lemmas.Bool.{both_ways, or_cases, and_parts, eqb-true, false≢true}
@@ -13,7 +13,7 @@ use Rattle.wat_lex.specs.declared.lexer.faults.LexError.{LexError}
 use Rattle.wat_lex.specs.declared.lexer.settings.Settings.{Settings}
 use Rattle.wat_lex.proofs.grammar.Comments.{at_close, at_plain, at_lone_semicolon, at_lone_paren, at_nested}
 
--- a block comment ends at one place
+-- The end of a block comment is unique.
 pub closes_unique : (t r q : List ℕ) → Closes t r → Closes t q → r ≡ q
 closes_unique t r q close k = at_close r q k
 closes_unique t r q (plain {c = c} {t = s} a b h) k = closes_unique s r q h (at_plain c s q k a b)

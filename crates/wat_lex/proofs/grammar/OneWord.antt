@@ -213,7 +213,7 @@ run_form flags k w r h e =
     let run : Run flags (w ++ r) h.0 r = subst (λ y. Run flags (y ++ r) h.0 r) f (t.again r) in
     in_class Joined flags k w r (run_class flags (w ++ r) r h.0 h.1 run) (record { pieces = h.0; run = run; kind = h.3; ends = e })
 
--- a run is no punctuation
+-- A run is not punctuation.
 run_no_punctuation : (flags : Settings) (w : List ℕ) (ps : List Piece) → ps ≢ [] → Run flags w ps [] → Punctuation w → ⊥
 run_no_punctuation flags w ps n none m = n refl
 run_no_punctuation flags w ps n (idchar {c = c} h k) m =

@@ -22,7 +22,8 @@ plain_exponent hex [] t s at h n e = absurd (s refl)
 plain_exponent hex (c ∷ w) t s at h n e =
     exponent_of hex c w h (λ k. n (ap unsigned at ∙ k)) (subst (λ x. prefix_len is_ascii_digit (unsigned x) ≡ length (unsigned x)) at e)
 
--- the same of so many bytes of a text, after whose first one the body is
+-- The first len bytes of a text are an exponent without underscores, if the body after their letter is a sign or none,
+-- and digits.
 pub exponent_is_at : (hex : Bool) (text body : List ℕ) (len : ℕ) → len ≤ length text → 1 ≤ len → body ≡ drop 1 (take len text) → is_exponent_letter hex (get_or (take len text) 0 0) ≡ true → length (unsigned body) ≢ 0 → length (unsigned body) ≤ prefix_len is_ascii_digit (drop (len - length (unsigned body)) text) → PlainExponent hex (take len text)
 exponent_is_at hex text body len within one at letter some h =
     let n = length (unsigned body) in
@@ -97,7 +98,7 @@ word_dotted (c ∷ t) (suc n) within one d =
     let e : suc n - 1 ≡ n = omega arith in
     ap (λ x. x ∷ take n t) d ∙ ap (λ k. 46 ∷ take k t) (sym e)
 
--- what follows a dot, of so many bytes of a text
+-- The first len bytes of a text begin with a dot: they are a fraction, with or without an exponent after it.
 module _ (hex : Bool) (text w : List ℕ) (len : ℕ) (n : ℕ) (at : w ≡ 46 ∷ take (len - 1) (drop 1 text)) (digits : n ≡ prefix_len (is_digit hex) (drop 1 text)) where
   pub tail_digits : len - 1 ≤ n → PlainTail hex w
   tail_digits h = subst (PlainTail hex) (sym at) (tail_of_digits hex (take (len - 1) (drop 1 text)) (taken_pass (is_digit hex) (len - 1) (drop 1 text) (omega (arith, h, digits))))
@@ -111,7 +112,7 @@ module _ (hex : Bool) (text w : List ℕ) (len : ℕ) (n : ℕ) (at : w ≡ 46 �
       ap (λ k. drop n (take k after)) (sym parts) ∙ drop-take n (len - 1 - n) after ∙ ap (take (len - 1 - n)) (drop-drop n 1 text) in
       subst (PlainTail hex) (sym at) (tail_of_parts hex (take (len - 1) after) n (omega (arith, digits, same)) (subst (PlainExponent hex) (sym there) x))
 
--- first digits of so many bytes of a text, and what follows them
+-- The first len bytes of a text are digits, and then a fraction, an exponent or both.
 pub decimals_of : (hex : Bool) (text : List ℕ) (len n : ℕ) → n ≡ prefix_len (is_digit hex) text → n ≢ 0 → n < len → PlainTail hex (take (len - n) (drop n text)) → PlainDecimals hex (take len text)
 decimals_of hex text len n digits some fewer tail =
     let same : prefix_len (is_digit hex) (take len text) ≡ n = taken_prefix (is_digit hex) len text (omega (arith, digits, fewer)) ∙ sym digits in

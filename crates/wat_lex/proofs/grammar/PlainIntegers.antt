@@ -39,7 +39,7 @@ no_underscore hex (d ∷ t) e =
     let other : d ≢ 95 = λ z. underscore_no_digit hex (sym (ap (is_digit hex) z) ∙ k.first) in
     ap (λ b. b || has_underscores t) (ne_eqb d 95 other) ∙ no_underscore hex t k.others
 
--- a sign is no underscore
+-- A sign is not an underscore.
 pub signed_no_underscore : (w : List ℕ) → has_underscores (unsigned w) ≡ false → has_underscores w ≡ false
 signed_no_underscore [] e = refl
 signed_no_underscore (c ∷ w) e =
@@ -94,7 +94,7 @@ taken_pass p (suc k) (x ∷ xs) h =
       | inr e ↦ absurd (omega (arith, h, ap (λ b. cond b (1 + prefix_len p xs) 0) e))
     ]
 
--- what is without its sign of the word of so many bytes comes before the word's end
+-- The first len bytes of a text without their sign are the last n of them.
 pub unsigned_is_at : (text : List ℕ) (len n : ℕ) → len ≤ length text → n ≡ length (unsigned (take len text)) → n ≤ len → unsigned (take len text) ≡ take n (drop (len - n) text)
 unsigned_is_at text len n within e fits =
     let w = take len text in
@@ -107,7 +107,7 @@ pub digits_of_word : (text : List ℕ) (len n : ℕ) → len ≤ length text →
 digits_of_word text len n within e fits h =
     subst (λ x. prefix_len is_ascii_digit x ≡ length x) (sym (unsigned_is_at text len n within e fits)) (taken_pass is_ascii_digit n (drop (len - n) text) h)
 
--- the same of what comes after the first so many of its bytes
+-- The first len bytes of a text without their sign and k bytes after it are the last n of them.
 pub end_is_at : (text : List ℕ) (len n k : ℕ) → len ≤ length text → k + n ≡ length (unsigned (take len text)) → drop k (unsigned (take len text)) ≡ take n (drop (len - n) text)
 end_is_at text len n k within e =
     let w = take len text in

@@ -1,4 +1,4 @@
--- Numbers of which bits tell where digits are: what passes from a place on in the word of so many bytes of a text.
+-- Numbers whose digits a bit mask tells: parts of the first len bytes of a text, from an index on.
 use Rattle.std.proofs.Common.{◌≡◌, ◌≢◌, ◌≤◌, ◌<◌, ◌+◌, ◌-◌, ℕ, zero, suc, List, [], ◌∷◌, length, take, drop, get_or, refl, arith, ap, sym, ◌∙◌, subst, Bool, true, false, cond, ◌||◌}
 use Rattle.std.specs.Prelude.{◌==◌}
 use Rattle.std.specs.Char.{is_ascii_digit}
@@ -11,7 +11,7 @@ use Rattle.wat_lex.specs.declared.lexer.kinds.Sign.TheVariants as sign
 use Rattle.wat_lex.proofs.grammar.PlainFloats.{decimals_then, exponent_is_at, first_passes, tail_of_digits, tail_of_parts}
 use Rattle.wat_lex.proofs.grammar.PlainIntegers.{taken_pass, unsigned_is_shorter}
 
--- the word from a place on
+-- The first len bytes of a text from the index i on.
 pub word_from : (text : List ℕ) (len i : ℕ) → i ≤ len → drop i (take len text) ≡ take (len - i) (drop i text)
 word_from text len i h =
     let parts : i + (len - i) ≡ len = omega arith in
@@ -34,7 +34,8 @@ module _ (p : ℕ → Bool) (text : List ℕ) (len i : ℕ) where
   pub all_pass : i ≤ len → len - i ≤ prefix_len p (drop i text) → prefix_len p (drop i (take len text)) ≡ length (drop i (take len text))
   all_pass fits h = subst (λ x. prefix_len p x ≡ length x) (sym (word_from text len i fits)) (taken_pass p (len - i) (drop i text) h)
 
--- an exponent from a place on, after whose letter the body is
+-- The first len bytes of a text are an exponent without underscores from the index i on, if the body after its letter
+-- is a sign or none, and digits.
 pub short_exponent : (hex : Bool) (text body : List ℕ) (len i : ℕ) → len ≤ length text → i < len → body ≡ drop 1 (take (len - i) (drop i text)) → is_exponent_letter hex (get_or (take (len - i) (drop i text)) 0 0) ≡ true
     → length (unsigned body) ≢ 0 → length (unsigned body) ≤ prefix_len is_ascii_digit (drop (len - length (unsigned body)) text) → PlainExponent hex (drop i (take len text))
 short_exponent hex text body len i within one at letter some h =
@@ -46,7 +47,7 @@ short_exponent hex text body len i within one at letter some h =
     subst (PlainExponent hex) (sym (word_from text len i (omega arith)))
     (exponent_is_at hex (drop i text) body (len - i) room (omega arith) at letter some (subst (λ x. n ≤ prefix_len is_ascii_digit x) (sym there) h))
 
--- what follows a dot from a place on
+-- The first len bytes of a text from the index i on, at which there is a dot.
 module _ (hex : Bool) (text : List ℕ) (len i : ℕ) (within : len ≤ length text) (place : i < len) (dot : get_or text i 0 ≡ 46) where
   from_dot : drop i (take len text) ≡ 46 ∷ drop (i + 1) (take len text)
   from_dot = dot_there i text len within place dot ∙ ap (λ t. 46 ∷ t) (drop-drop 1 i (take len text))
@@ -65,7 +66,7 @@ module _ (hex : Bool) (text : List ℕ) (len i : ℕ) (within : len ≤ length t
       subst (PlainTail hex) (sym from_dot) (tail_of_parts hex (drop (i + 1) (take len text)) n (some_pass (is_digit hex) text len (i + 1) n fits h)
       (subst (PlainExponent hex) (sym (drop-drop n (i + 1) (take len text))) x))
 
--- first digits from a place on, and what follows them
+-- The first len bytes of a text from the index i on are digits, and then a fraction, an exponent or both.
 pub short_decimals : (hex : Bool) (text : List ℕ) (len i n : ℕ) → i + n ≤ len → n ≢ 0 → n ≤ prefix_len (is_digit hex) (drop i text) → PlainTail hex (drop (i + n) (take len text)) → PlainDecimals hex (drop i (take len text))
 short_decimals hex text len i n fits some h tail =
     decimals_then hex (drop i (take len text)) n (some_pass (is_digit hex) text len i n fits h) some (subst (PlainTail hex) (sym (drop-drop n i (take len text))) tail)

@@ -9,7 +9,7 @@ use Rattle.wat_lex.proofs.grammar.Digits.{digits_one, stops_at}
 pub stops_nil : (hex : Bool) → Stops hex []
 stops_nil hex h = h
 
--- a letter of an exponent is no digit
+-- A letter of an exponent is not a digit.
 letter_no_digit : (hex : Bool) (c : ℕ) → is_exponent_letter hex c ≡ true → is_digit hex c ≡ false
 letter_no_digit true c h = elim (or_cases (112 == c) _ h) [ inl e ↦ subst (λ x. is_digit true x ≡ false) (eqb-true 112 c e) refl | inr r ↦ elim (or_cases (80 == c) _ r) [ inl e ↦ subst (λ x. is_digit true x ≡ false) (eqb-true 80 c e) refl | inr q ↦ cc ] ]
 letter_no_digit false c h = elim (or_cases (101 == c) _ h) [ inl e ↦ subst (λ x. is_digit false x ≡ false) (eqb-true 101 c e) refl | inr r ↦ elim (or_cases (69 == c) _ r) [ inl e ↦ subst (λ x. is_digit false x ≡ false) (eqb-true 69 c e) refl | inr q ↦ cc ] ]

@@ -1,4 +1,5 @@
--- Tests of blocks of bytes by vectors: what a lane holds, and what the mask of a test says of a text. They are for any test.
+-- Tests of blocks of bytes by vectors: what a lane holds, and what the mask of a test says of a text. They are for any
+-- test.
 use Rattle.std.proofs.Common.{◌≡◌, ◌≢◌, ℕ, zero, ◌+◌, ◌-◌, ◌*◌, ◌/◌, ◌%◌, ◌^◌, ◌<◌, ◌≤◌, Bool, true, false, not, cond, eqb, List, [], ◌∷◌, suc, map, length, take, drop, get_or, replicate, bit_and, bit_or, Fits, w8, refl, sym, ap, ap₂, ◌∙◌, subst, arith}
 use Rattle.std.specs.List.{prefix_len}
 use Rattle.std.specs.Simd.Lanes.{chunk, mask_l, top, zip2, Each1}
@@ -19,7 +20,7 @@ use Rattle.wat_lex.specs.inside.Blocks.{failures, FirstFailures, GoesOn}
 abbrev pub IsBlock : List ℕ → Type 0
 IsBlock v = (length v ≡ 16) × Each1 (Fits w8) v
 
--- places in a table of 16
+-- Indices into a table of 16 entries.
 pub record Places (js : List ℕ) : Type 0 where
   pub long : length js ≡ 16
   pub small : Each1 (λ j. j < 16) js
@@ -51,7 +52,7 @@ looked_up_from table i (j ∷ js) room small =
     ap₂ (λ b k. cond b 0 (get_or table k 0) ∷ swz_l w8 16 table (suc i) js) (lt-leb 128 j (omega (arith, small.0))) first
     ∙ ap (λ rest. get_or table j 0 ∷ rest) (looked_up_from table (suc i) js (omega arith) small.1)
 
--- what a table holds at places that were computed from the bytes v, each by f
+-- The entries of a table at indices that were computed from the bytes v, each by f.
 pub looked_up : (table : List ℕ) (f : ℕ → ℕ) (v js : List ℕ) → Places js → js ≡ map f v → swz_l w8 16 table 0 js ≡ map (λ x. get_or table (f x) 0) v
 looked_up table f v js h e =
     looked_up_from table 0 js (omega (arith, h.long)) h.small ∙ ap (map (λ j. get_or table j 0)) e ∙ map-map (λ j. get_or table j 0) f v
@@ -71,7 +72,8 @@ same_on_bytes : (f g : ℕ → Bool) → agree_below f g 256 ≡ true → (v : L
 same_on_bytes f g all [] h = refl
 same_on_bytes f g all (x ∷ xs) h = ap₂ (λ b bs. b ∷ bs) (agree_below_at f g 256 x all h.0.fits) (same_on_bytes f g all xs h.1)
 
--- The lanes z were computed from the bytes v, each by f, and the top bit of f x is set just where x fails the test: that is
+-- The lanes z were computed from the bytes v, each by f, and the top bit of f x is set just where x fails the test:
+-- that is
 -- evaluated at each of the 256 bytes.
 pub failures_from_lanes : (p : ℕ → Bool) (f : ℕ → ℕ) (v z : List ℕ) → IsBlock v → z ≡ map f v → agree_below (λ x. top 7 (f x)) (λ x. not (p x)) 256 ≡ true → mask_l (map (top 7) z) % 2 ^ 64 ≡ failures p v
 failures_from_lanes p f v z h e all =
@@ -188,12 +190,12 @@ ends_within p text n stops =
 pub outside : (f : ℕ → ℕ → ℕ) (v : List ℕ) (a b : ℕ) → length v ≡ 16 → zip2 bit_or (zip2 f v (replicate 16 a)) (zip2 f (replicate 16 b) v) ≡ map (λ x. bit_or (f x a) (f b x)) v
 outside f v a b long = zip2_of_maps bit_or _ _ v (zip2_splat f v 16 a long) (zip2_splat_left f b 16 v long)
 
--- the same of lanes that were computed from the bytes
+-- The lanes z, computed from the bytes v by g, are each compared with two numbers, a and b.
 pub outside_of : (f : ℕ → ℕ → ℕ) (g : ℕ → ℕ) (v z : List ℕ) (a b : ℕ) → length v ≡ 16 → z ≡ map g v → zip2 bit_or (zip2 f z (replicate 16 a)) (zip2 f (replicate 16 b) z) ≡ map (λ x. bit_or (f (g x) a) (f b (g x))) v
 outside_of f g v z a b long e =
     zip2_of_maps bit_or _ _ v (beside_splat f g v a long e) (zip2_of_maps f _ g v (splat_is_map v 16 b long) e)
 
--- ---- bits from a place on
+-- ---- bits from an index on
 
 -- a bit for each byte that fails, and m after them
 abbrev failures_and : (ℕ → Bool) → List ℕ → ℕ → ℕ

@@ -21,7 +21,7 @@ NonePass_push : (p : ℕ → Bool) (xs : List ℕ) (c : ℕ) → NonePass p xs �
 NonePass_push p [] c h e = (e, tt)
 NonePass_push p (x ∷ xs) c h e = (h.0, NonePass_push p xs c h.1 e)
 
--- the characters before the place are not confusing, and take so many bytes
+-- The characters before the offset at are not confusing.
 pub record Searched (text : List ℕ) (at : ℕ) : Type 0 where
   pub prefix : List ℕ
   pub cut : chars text ≡ prefix ++ chars (drop at text)
@@ -67,7 +67,7 @@ NonePass-append : (p : ℕ → Bool) (xs ys : List ℕ) → NonePass p xs → No
 NonePass-append p [] ys h g = g
 NonePass-append p (x ∷ xs) ys h g = (h.0, NonePass-append p xs ys h.1 g)
 
--- bytes that begin no confusing character are passed over
+-- Bytes with which confusing characters do not begin are skipped.
 pub searched_skip : (text : List ℕ) (at n : ℕ) → Searched text at → IsCharBoundary (drop at text) n → Leadless (take n (drop at text)) → Searched text (at + n)
 searched_skip text at n h b l =
     let r = drop at text in
@@ -84,7 +84,7 @@ searched_skip text at n h b l =
       utf8 = subst IsUtf8 past (IsUtf8-drop r n h.utf8 b);
     }
 
--- a character that is not confusing is passed over
+-- A character that is not confusing is skipped.
 pub searched_more : (text next : List ℕ) (at c : ℕ) → Searched text at → drop at text ≡ encode c ++ next → is_confusing c ≡ false → Searched text (at + len_utf8 c)
 searched_more text next at c h e f =
     let past : drop (at + len_utf8 c) text ≡ next = drop_past_char text next at c e in

@@ -259,7 +259,7 @@ pub row_good : (flags : Settings) (first : ℕ) (start rest : List ℕ) (n last 
 row_good flags first start rest n last value true r f = absurd cc
 row_good flags first start rest n last value false r f = record { row = r; is = f.0; value_is = f.1 }
 
--- what a reader of an escape answers
+-- The result of a reader of an escape: the escape's value, or its error.
 abbrev pub Reading : Settings → List ℕ → List ℕ → List ℕ → Result EscapeValue Broken → Type 0
 Reading flags prefix old new result = IfOk result (λ e. Escaped flags prefix old new (escape_bytes e)) × IfErr result (Breaks flags prefix old)
 

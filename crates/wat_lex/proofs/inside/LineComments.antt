@@ -199,7 +199,7 @@ found_unexpected flags text rest c u e f =
 fails_at : (p : ℕ → Bool) (c : ℕ) → (p c ≡ true → ⊥) → p c ≡ false
 fails_at p c h = elim (cases_Bool (p c)) [ inl t ↦ absurd (h t) | inr f ↦ f ]
 
--- the first place of a byte that passes is how many before it do not
+-- The index of the first byte that passes a test is the number of bytes before it that do not.
 pub first_place : (p : ℕ → Bool) (bs : List ℕ) (r : Option ℕ) → IsFirstByte p bs r → unwrap_or r (length bs) ≡ prefix_len (λ c. not (p c)) bs
 first_place p bs None h = sym (prefix_len_is (λ c. not (p c)) bs (length bs) 0 (omega arith) (λ k l. ap not (fails_at p (get_or bs k 0) (h k (omega arith) l))) (λ l. absurd (omega arith)))
 first_place p bs (Some n) h =

@@ -65,7 +65,7 @@ either p q i (suc n) =
 chunk_more : (s : List ℕ) (i n : ℕ) → i < length s → chunk i (suc n) s ≡ get_or s i 0 ∷ chunk (i + 1) n s
 chunk_more s i n l = ap (take (suc n)) (drop_more s i 0 l)
 
--- where one byte is at a place and another after it
+-- The mask of the n offsets from i on at which the byte a is followed by the byte b.
 pub pairs : (s : List ℕ) (a b i n : ℕ) → i + n + 1 ≤ length s
     → bit_and (mask_l (map (λ x. eqb x a) (chunk i n s))) (mask_l (map (λ x. eqb x b) (chunk (i + 1) n s))) ≡ passing (λ k. eqb (get_or s k 0) a && eqb (get_or s (k + 1) 0) b) i n
 pairs s a b i zero l = refl
@@ -76,7 +76,7 @@ pairs s a b i (suc n) l =
     ∙ and_bits (eqb (get_or s i 0) a) (eqb (get_or s (i + 1) 0) b) (f (chunk (i + 1) n s)) (g (chunk (i + 1 + 1) n s))
     ∙ ap (λ x. cond (eqb (get_or s i 0) a && eqb (get_or s (i + 1) 0) b) 1 0 + 2 * x) (pairs s a b (i + 1) n (omega arith))
 
--- how many of n places from i on pass a test
+-- The number of the n offsets from i on that pass a test.
 pub total : (ℕ → Bool) → ℕ → ℕ → ℕ
 total p i zero = 0
 total p i (suc n) = cond (p i) 1 0 + total p (i + 1) n
@@ -98,7 +98,7 @@ unfolding total
 ones_passing p i zero = no_ones
 ones_passing p i (suc n) = ones-mask_l_cons (p i) (map p (range_with_len (i + 1) n)) ∙ ap (λ x. cond (p i) 1 0 + x) (ones_passing p (i + 1) n)
 
--- whether the last of n places from i on passes a test, where b says it of the place before
+-- `true` if the last of the n offsets from i on passes a test. For n = 0 it is b, the result at the offset before i.
 pub at_last : (ℕ → Bool) → ℕ → ℕ → Bool → Bool
 at_last p i zero b = b
 at_last p i (suc n) b = at_last p (i + 1) n (p i)
@@ -145,11 +145,11 @@ opens_by s k a e n = ap (λ x. eqb x 40 && eqb (get_or s (k + 1) 0) 59) e ∙ ap
 closes_by : (s : List ℕ) (k a : ℕ) → get_or s k 0 ≡ a → eqb a 59 ≡ false → closes_at s k ≡ false
 closes_by s k a e n = ap (λ x. eqb x 59 && eqb (get_or s (k + 1) 0) 41) e ∙ ap (λ t. t && eqb (get_or s (k + 1) 0) 41) n
 
--- a delimiter is at a place
+-- A delimiter of a comment begins at an offset.
 abbrev pub delimits : List ℕ → ℕ → Bool
 delimits s k = opens_at s k || closes_at s k
 
--- no `(;` at a place has a `;)` at the next, of n places from i on
+-- If `(;` begins at the offset i, then `;)` does not begin at i + 1. For n = 0 it is trivial.
 Next : List ℕ → ℕ → ℕ → Type 0
 Next s i zero = Unit {0}
 Next s i (suc n) = opens_at s i ≡ true → closes_at s (i + 1) ≡ false
@@ -172,7 +172,7 @@ apart_from s i (suc n) e =
     let none : rest ≡ 0 = omega (arith, f) in
     (not_both (opens_at s i) (closes_at s (i + 1)) rest f, apart_from s (i + 1) n none)
 
--- where the place before one has a delimiter, this one has none
+-- If b, which says that a delimiter begins at the offset before i, then none begins at i. For n = 0 it is trivial.
 Quiet : List ℕ → ℕ → ℕ → Bool → Type 0
 Quiet s i zero b = Unit {0}
 Quiet s i (suc n) b = b ≡ true → (opens_at s i ≡ false) × (closes_at s i ≡ false)
@@ -199,7 +199,7 @@ either_way : (b : Bool) → (b ≡ true) ⊎ (b ≡ false)
 either_way true = inl refl
 either_way false = inr refl
 
--- what is reached after a place of which b says whether the place before it has a delimiter
+-- The state after the offset i of a block: the number of open comments, which is above n, and the text that it reaches.
 record Stepped (s : List ℕ) (i n level : ℕ) : Type 0 where
   now : ℕ
   enough : n < now
@@ -307,7 +307,8 @@ last_of s i opens closes m =
 pub one_last : (s : List ℕ) (i opens closes : ℕ) → Masks s i opens closes → bit_or opens closes / 2 ^ 15 ≤ 1
 one_last s i opens closes m = omega (arith, last_of s i opens closes m, one_at_most (at_last (delimits s) i 16 false))
 
--- after a block whose delimiters are apart so many comments are open
+-- After a block whose delimiters do not overlap, the number of open comments is that before it, with the opening
+-- delimiters added and the closing ones subtracted.
 pub past_block : (s : List ℕ) (i level opens closes : ℕ) → Masks s i opens closes → i + 16 < length s → 16 < level → bit_and opens (closes / 2 ^ 1) ≡ 0 → Reaches s level (drop i s)
     → Reaches s (level + count_ones opens - count_ones closes) (drop (i + (16 + bit_or opens closes / 2 ^ 15)) s)
 past_block s i level opens closes m l d e h =

@@ -12,7 +12,7 @@ use Rattle.wat_lex.specs.tokens.Faults.{Fault, begins_word, unexpected, dangling
 use Rattle.wat_lex.specs.tokens.Setting.{allowing}
 use Rattle.wat_lex.specs.inside.ScannedLexemes.{LexemeFound}
 use Rattle.wat_lex.specs.inside.ScannedRuns.{RunFound, IsKindOfRun}
-use Rattle.wat_lex.specs.inside.Outlines.{HasKind, IsRefused, Outlined, BeginsWord, IsShapeOfRun}
+use Rattle.wat_lex.specs.inside.Outlines.{HasKind, BeginsWithFault, Outlined, BeginsWord, IsShapeOfRun}
 use Rattle.wat_lex.specs.declared.lexer.settings.Settings.{Settings}
 use Rattle.wat_lex.specs.declared.lexer.faults.LexError.{LexError}
 use Rattle.wat_lex.specs.declared.lexer.kinds.Shape.{Shape}
@@ -35,10 +35,10 @@ first_passes p (b ∷ bs) l e = ap (λ x. cond x (1 + prefix_len p bs) 0) e
 pub whitespace_there : (flags : Settings) (text : List ℕ) (n : ℕ) → IsUtf8 text → 0 < length text → is_whitespace (get_or text 0 0) ≡ true → n ≡ 1 + prefix_len is_whitespace (drop 1 text) → LexemeFound flags text (record { kind = kind.Whitespace; len = n })
 whitespace_there flags text n u l t e = found_whitespace flags text n u l t (e ∙ sym (first_passes is_whitespace text l t))
 
-pub refused_there : (flags : Settings) (text : List ℕ) → IsUtf8 text → 0 < length text → begins_word (get_or text 0 0) ≡ false → IsRefused flags text
+pub refused_there : (flags : Settings) (text : List ℕ) → IsUtf8 text → 0 < length text → begins_word (get_or text 0 0) ≡ false → BeginsWithFault flags text
 refused_there flags text u l n = by u.0 (sym u.1.1)
   where
-    by : (cs : List ℕ) → text ≡ encodes cs → IsRefused flags text
+    by : (cs : List ℕ) → text ≡ encodes cs → BeginsWithFault flags text
     by [] e = absurd (omega (arith, ap length e))
     by (c ∷ cs) e = (_, found_unexpected flags text (encodes cs) c u e n)
 
@@ -86,17 +86,17 @@ pub named_annotation : (word : List ℕ) → 0 < length word → get_or word 0 0
 named_annotation [] l e = absurd (omega arith)
 named_annotation (c ∷ cs) l e = ap (λ x. named_kind (x ∷ cs)) e
 
--- where a word is there is no fault
-pub word_no_fault : (flags : Settings) (text : List ℕ) (lexeme : Lexeme) → LexemeFound flags text lexeme → IsRefused flags text → ⊥
+-- A text that begins with a token does not begin with a lexical error.
+pub word_no_fault : (flags : Settings) (text : List ℕ) (lexeme : Lexeme) → LexemeFound flags text lexeme → BeginsWithFault flags text → ⊥
 word_no_fault flags text lexeme h r = let f = r.1 in no_word_at_fault flags (chars text) lexeme.kind h.word h.rest r.0.error f.at h.is_at f.fault
 
-pub run_no_fault : (flags : Settings) (text : List ℕ) (found : Pieces) → IsUtf8 text → 0 < length text → is_run_char (get_or text 0 0) ≡ true → RunFound flags text found → IsRefused flags text → ⊥
+pub run_no_fault : (flags : Settings) (text : List ℕ) (found : Pieces) → IsUtf8 text → 0 < length text → is_run_char (get_or text 0 0) ≡ true → RunFound flags text found → BeginsWithFault flags text → ⊥
 run_no_fault flags text found u l b f r =
     let k = some_kind f.pieces in
     word_no_fault flags text (record { kind = k.kind; len = found.len }) (run_lexeme flags text found k.kind u l b f k.is) r
 
 -- a text with a fault is not empty
-pub refused_some : (flags : Settings) (text : List ℕ) → IsRefused flags text → 0 < length text
+pub refused_some : (flags : Settings) (text : List ℕ) → BeginsWithFault flags text → 0 < length text
 refused_some flags [] r = let f = r.1 in absurd (fault_some flags r.0.error f.at (chars []) chars-nil f.fault)
 refused_some flags (b ∷ bs) r = omega arith
 
@@ -123,7 +123,7 @@ unfolding encode
 line_bytes text t u e = let k = sym (encodes-chars text u) ∙ ap encodes e in (ap (λ x. get_or x 0 0) k, ap (λ x. get_or x 1 0) k)
 
 -- a text with a fault that begins neither a run nor a comment begins no word
-pub refused_other : (flags : Settings) (text : List ℕ) → IsUtf8 text → is_run_char (get_or text 0 0) ≡ false → ((get_or text 0 0 ≡ 40) × (get_or text 1 0 ≡ 59) → ⊥) → ((get_or text 0 0 ≡ 59) × (get_or text 1 0 ≡ 59) → ⊥) → IsRefused flags text → begins_word (get_or text 0 0) ≡ false
+pub refused_other : (flags : Settings) (text : List ℕ) → IsUtf8 text → is_run_char (get_or text 0 0) ≡ false → ((get_or text 0 0 ≡ 40) × (get_or text 1 0 ≡ 59) → ⊥) → ((get_or text 0 0 ≡ 59) × (get_or text 1 0 ≡ 59) → ⊥) → BeginsWithFault flags text → begins_word (get_or text 0 0) ≡ false
 refused_other flags text u n b m r = let f = r.1 in by (chars text) refl (fault_start flags (chars text) r.0.error f.at f.fault)
   where
     no_comment : (s : List ℕ) → chars text ≡ s → CommentStart s → ⊥

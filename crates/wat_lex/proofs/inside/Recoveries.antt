@@ -1,4 +1,4 @@
--- Steps of the functions that pass over what a fault covers.
+-- Steps of the functions that skip what a lexical error covers.
 use Rattle.std.proofs.Common.{◌≡◌, ◌≢◌, ◌≤◌, ◌<◌, ◌+◌, ◌-◌, ◌⊎◌, ℕ, Bool, true, false, List, [], ◌∷◌, ◌++◌, length, drop, get_or, not, ◌&&◌, refl, arith, ap, sym, ◌∙◌, subst, length-append, length-drop, inl, inr}
 use Rattle.std.specs.Prelude.{IsTrue, ◌==◌}
 use Rattle.std.specs.Str.{chars, IsUtf8, IsCharBoundary}
@@ -9,12 +9,12 @@ use lib.Utf8.{encode, encodes}
 use Rattle.wat_lex.specs.grammar.Classes.{quote, size, is_run_char, is_line_end, Begins}
 use Rattle.wat_lex.specs.grammar.Runs.{Piece, Run, none}
 use Rattle.wat_lex.specs.grammar.Words.{WordIsAt}
-use Rattle.wat_lex.specs.inside.Outlines.{IsRefused}
+use Rattle.wat_lex.specs.inside.Outlines.{BeginsWithFault}
 use Rattle.wat_lex.specs.inside.Recovered.{PassedIn, PassedTo, BeginsFault, BeginsComment, Covered, SomeCovered}
 use Rattle.wat_lex.specs.inside.ScannedLexemes.{LexemeFound}
-use Rattle.wat_lex.specs.inside.ScannedStrings.{StringRefused}
+use Rattle.wat_lex.specs.inside.ScannedStrings.{StringFaultFound}
 use Rattle.wat_lex.specs.tokens.Faults.{Fault, FaultAt, IsComment, unexpected, dangling, confusing, in_string}
-use Rattle.wat_lex.specs.tokens.Recovery.{is_inside, is_escaped, PassesString, closed, line_end, text_end, escape, inside, Covers, character, opening, comment, run, ResumesAt}
+use Rattle.wat_lex.specs.tokens.Recovery.{is_inside, is_escaped, SkipsString, closed, line_end, text_end, escape, inside, Covers, character, opening, comment, run, ResumesAt}
 use Rattle.wat_lex.specs.tokens.Setting.{Setting, allowing}
 use Rattle.wat_lex.specs.declared.lexer.settings.Settings.{Settings}
 use Rattle.wat_lex.specs.declared.lexer.kinds.TokenKind.{TokenKind}
@@ -58,7 +58,7 @@ passed_char text rest c u t l i n =
       utf8 = subst IsUtf8 (sym b.1) t.utf8;
       some = omega arith;
       range = omega arith;
-      passes = λ r p. subst (λ x. PassesString x r) (sym t.spelled) (inside i n (subst (λ x. PassesString (chars x) r) b.1 p));
+      passes = λ r p. subst (λ x. SkipsString x r) (sym t.spelled) (inside i n (subst (λ x. SkipsString (chars x) r) b.1 p));
     }
 
 pub passed_escape : (text rest : List ℕ) → IsUtf8 text → text ≡ 92 ∷ rest → Took text 92 rest → Begins is_escaped (chars rest) → PassedIn text 2
@@ -75,15 +75,15 @@ passed_escape text rest u e t b = by (chars rest) refl b
           some = omega arith;
           range = let m = s.0 in omega (arith, ap length e, m);
           passes = λ r p.
-              subst (λ x. PassesString x r) (sym (t.spelled ∙ ap (λ x. 92 ∷ x) next.chars))
-              (escape g (subst (λ x. PassesString (chars x) r) two p));
+              subst (λ x. SkipsString x r) (sym (t.spelled ∙ ap (λ x. 92 ∷ x) next.chars))
+              (escape g (subst (λ x. SkipsString (chars x) r) two p));
         }
 
--- what is passed over up to a place, whatever follows
+-- The bytes before the offset at belong to a string with an error, whatever follows.
 pub record Passing (text : List ℕ) (at : ℕ) : Type 0 where
   pub utf8 : IsUtf8 (drop at text)
   pub range : at ≤ length text
-  pub passes : (r : List ℕ) → PassesString (chars (drop at text)) r → PassesString (chars text) r
+  pub passes : (r : List ℕ) → SkipsString (chars (drop at text)) r → SkipsString (chars text) r
 
 pub passing_start : (text : List ℕ) → IsUtf8 text → Passing text 0
 passing_start text u = record { utf8 = u; range = omega arith; passes = λ r p. p }
@@ -94,7 +94,7 @@ passing_more text at n h k =
     record {
       utf8 = subst IsUtf8 past k.utf8;
       range = let a = h.range in let b = k.range in omega (arith, a, b, length-drop at text);
-      passes = λ r p. h.passes r (k.passes r (subst (λ x. PassesString (chars x) r) (sym past) p));
+      passes = λ r p. h.passes r (k.passes r (subst (λ x. SkipsString (chars x) r) (sym past) p));
     }
 
 rest_size : (text : List ℕ) (at : ℕ) → at ≤ length text → IsUtf8 (drop at text) → at + size (chars (drop at text)) ≡ length text
@@ -110,7 +110,7 @@ passed_quote text at h e =
           let u = subst IsUtf8 past k.utf8 in
           record {
             rest = chars (drop (at + 1) text);
-            passes = h.passes _ (subst (λ x. PassesString x (chars (drop (at + 1) text))) (sym (k.chars ∙ ap (λ x. 34 ∷ chars x) past)) closed);
+            passes = h.passes _ (subst (λ x. SkipsString x (chars (drop (at + 1) text))) (sym (k.chars ∙ ap (λ x. 34 ∷ chars x) past)) closed);
             place = rest_size text (at + 1) (omega (arith, l)) u;
           }
     ]
@@ -133,19 +133,19 @@ passed_line text at h n q = by (chars (drop at text)) refl n
     by : (cs : List ℕ) → chars (drop at text) ≡ cs → (Begins is_inside cs → ⊥) → PassedTo text at
     by [] e m = record {
       rest = [];
-      passes = h.passes [] (subst (λ x. PassesString x []) (sym e) text_end);
+      passes = h.passes [] (subst (λ x. SkipsString x []) (sym e) text_end);
       place = ap (λ x. at + size x) (sym e) ∙ rest_size text at h.range h.utf8;
     }
     by (c ∷ t) e m = record {
       rest = c ∷ t;
-      passes = h.passes (c ∷ t) (subst (λ x. PassesString x (c ∷ t)) (sym e) (line_end (ends c (c == quote) (is_line_end c) (ne_eqb c quote (not_quote c t e)) m)));
+      passes = h.passes (c ∷ t) (subst (λ x. SkipsString x (c ∷ t)) (sym e) (line_end (ends c (c == quote) (is_line_end c) (ne_eqb c quote (not_quote c t e)) m)));
       place = ap (λ x. at + size x) (sym e) ∙ rest_size text at h.range h.utf8;
     }
 
 -- ---- a run
 
 pub run_covered : (flags : Settings) (text : List ℕ) (len ids strs : ℕ) (f : LexFault) (n : ℕ) → Joined flags text len ids strs → len < length text → get_or text len 0 ≡ 34
-    → StringRefused flags (drop (len + 1) text) f → PassedTo (drop (len + 1) text) n → SomeCovered flags text (len + 1 + n)
+    → StringFaultFound flags (drop (len + 1) text) f → PassedTo (drop (len + 1) text) n → SomeCovered flags text (len + 1 + n)
 run_covered flags text len ids strs f n j l e w p =
     let inner = drop (len + 1) text in
     let run_to : Run flags (chars text) _ (34 ∷ chars inner) = j.run [] (34 ∷ chars inner) (subst (λ x. Run flags x [] (34 ∷ chars inner)) (sym (past_quote flags text len ids strs j l e)) none) in
@@ -159,10 +159,10 @@ run_covered flags text len ids strs f n j l e w p =
       };
     }
 
-pub run_goes_wrong : (flags : Settings) (text : List ℕ) (len ids strs : ℕ) → IsUtf8 text → IsRefused flags text → is_run_char (get_or text 0 0) ≡ true → Joined flags text len ids strs → (len < length text → get_or text len 0 ≢ 34) → ⊥
+pub run_goes_wrong : (flags : Settings) (text : List ℕ) (len ids strs : ℕ) → IsUtf8 text → BeginsWithFault flags text → is_run_char (get_or text 0 0) ≡ true → Joined flags text len ids strs → (len < length text → get_or text len 0 ≢ 34) → ⊥
 run_goes_wrong flags text len ids strs u h r j q = run_no_fault flags text _ u (refused_some flags text h) r (joined_end flags text len ids strs j q) h
 
-pub refused_by : (flags : Settings) (text : List ℕ) (e : LexError) → IsUtf8 text → BeginsFault flags text e → IsRefused flags text
+pub refused_by : (flags : Settings) (text : List ℕ) (e : LexError) → IsUtf8 text → BeginsFault flags text e → BeginsWithFault flags text
 refused_by flags text e u h =
     let fits = fault_fits flags (chars text) e h.0 h.1 in
     (record { offset = length text - size h.0; error = e }, record { at = h.0; fault = h.1; place = omega (arith, fits, ap length (encodes-chars text u)) })
@@ -245,7 +245,7 @@ comment_covered flags text kind n c u k h = record {
   place = omega (arith, h.len, size-append h.word h.rest, ap size h.is_at.cut, ap length (encodes-chars text u));
 }
 
-pub comment_there : (flags : Settings) (text : List ℕ) → BeginsComment flags text → IsRefused (allowing flags) text → ⊥
+pub comment_there : (flags : Settings) (text : List ℕ) → BeginsComment flags text → BeginsWithFault (allowing flags) text → ⊥
 comment_there flags text h r = no_word_at_fault (allowing flags) (chars text) h.kind h.word h.rest r.0.error r.1.at h.is_at r.1.fault
 
 -- ---- the whole text

@@ -10,7 +10,7 @@ use Rattle.std.specs.Str.{chars, IsUtf8}
 use Rattle.wat_lex.specs.grammar.Classes.{Each, Begins, is_idchar, is_run_char}
 use Rattle.wat_lex.specs.grammar.Runs.{Piece, Idchar, Quoted, Run, none, idchar, string}
 use Rattle.wat_lex.specs.tokens.Faults.{in_string}
-use Rattle.wat_lex.specs.inside.ScannedStrings.{StringTaken, StringRefused}
+use Rattle.wat_lex.specs.inside.ScannedStrings.{StringTaken, StringFaultFound}
 use Rattle.wat_lex.specs.inside.ScannedLexemes.{Refused}
 use Rattle.wat_lex.specs.inside.ScannedRuns.{RunFound, idchar_count, string_count}
 use Rattle.wat_lex.specs.declared.lexer.settings.Settings.{Settings}
@@ -18,7 +18,7 @@ use Rattle.wat_lex.specs.declared.lexer.faults.LexFault.{LexFault}
 use Rattle.wat_lex.proofs.grammar.AsciiPrefixes.{Led, led, not_begun, ascii_prefix}
 use Rattle.wat_lex.proofs.inside.LineComments.{idchar_ascii}
 
--- the pieces of so many bytes, and what any run of the rest makes of them
+-- The first len bytes of a text are pieces of a run. Any run of the rest continues them.
 pub record Joined (flags : Settings) (text : List ℕ) (len ids strs : ℕ) : Type 0 where
   pub pieces : List Piece
   pub run : (qs : List Piece) (r : List ℕ) → Run flags (chars (drop len text)) qs r → Run flags (chars text) (pieces ++ qs) r
@@ -69,7 +69,7 @@ joined_start flags text n u e =
     } in
     subst (λ x. Joined flags text x x 0) (sym e) made
 
--- a text with a byte below 128 at a place
+-- The byte after the first len bytes of a text is c, which is ASCII.
 at_byte : (flags : Settings) (text : List ℕ) (len ids strs c : ℕ) → Joined flags text len ids strs → len < length text → get_or text len 0 ≡ c → c < 128 → Led (drop len text) c
 at_byte flags text len ids strs c j l e s =
     led (drop len text) c j.utf8 (omega (arith, length-drop len text)) (ap (λ x. get_or x 0 0) (drop_more text len 0 l) ∙ e) s
@@ -129,7 +129,7 @@ joined_end flags text len ids strs j e = record {
           | inr t ↦ quote_first d ds k (eqb-true d 34 t)
         ]
 
-pub joined_wrong : (flags : Settings) (text : List ℕ) (len ids strs : ℕ) (f : LexFault) → Joined flags text len ids strs → len < length text → get_or text len 0 ≡ 34 → StringRefused flags (drop (len + 1) text) f → Refused flags text (record { offset = len + 1 + f.offset; error = f.error })
+pub joined_wrong : (flags : Settings) (text : List ℕ) (len ids strs : ℕ) (f : LexFault) → Joined flags text len ids strs → len < length text → get_or text len 0 ≡ 34 → StringFaultFound flags (drop (len + 1) text) f → Refused flags text (record { offset = len + 1 + f.offset; error = f.error })
 joined_wrong flags text len ids strs f j l e w = record {
   at = w.at;
   fault = in_string (j.run [] (34 ∷ chars (drop (len + 1) text)) (subst (λ x. Run flags x [] (34 ∷ chars (drop (len + 1) text))) (sym (past_quote flags text len ids strs j l e)) none)) w.fault;

@@ -69,7 +69,7 @@ keyword_of_two (c ∷ d ∷ t) (suc (suc m)) p a b i n =
 idchar_is_run_char : (c : ℕ) → is_idchar c ≡ true → is_run_char c ≡ true
 idchar_is_run_char c e = ap (λ b. b || c == quote) e
 
--- what begins a text and is no blank, no parenthesis and no punctuation begins a run
+-- A byte that begins a token and is neither whitespace, a parenthesis, `;` nor punctuation begins a run.
 pub begins_run : (c : ℕ) (s : Start) → Begun c s → s ≢ start.Whitespace → s ≢ start.OpenParen → s ≢ start.CloseParen → s ≢ start.Semicolon → s ≢ start.Punctuation → s ≢ start.Other → is_run_char c ≡ true
 begins_run c start.Whitespace h w o p s m f = absurd (w refl)
 begins_run c start.OpenParen h w o p s m f = absurd (o refl)

@@ -1,4 +1,4 @@
--- The elements of a string, each at its place in the text.
+-- The elements of a string, each at its offset in the text.
 use Rattle.std.proofs.Common.{◌≡◌, ◌≢◌, ◌≤◌, ◌<◌, ◌+◌, ◌-◌, ◌*◌, ℕ, List, [], ◌∷◌, ◌++◌, length, take, drop, get_or, refl, arith, ap, sym, ◌∙◌, subst, true, false, not, ◌&&◌, length-append, inl, inr, lit<}
 use Rattle.std.specs.Prelude.{encode_utf8, slice_index, ◌==◌}
 use Rattle.std.specs.List.{prefix_len}
@@ -13,7 +13,7 @@ use lib.Utf8.{encode, encodes}
 use Rattle.wat_lex.specs.grammar.Classes.{size, Each, is_hex, is_confusing}
 use Rattle.wat_lex.specs.grammar.Strings.{Element, raw, byte, Quoted, ends, more, is_raw, is_control}
 use Rattle.wat_lex.specs.tokens.StringFaults.{StringFault, later, no_quote, control, confusing}
-use Rattle.wat_lex.specs.inside.ScannedStrings.{Escaped, Breaks, BeginsByteEscape, ElementTaken, StringTaken, StringRefused, is_plain}
+use Rattle.wat_lex.specs.inside.ScannedStrings.{Escaped, Breaks, BeginsByteEscape, ElementTaken, StringTaken, StringFaultFound, is_plain}
 use Rattle.wat_lex.specs.declared.lexer.scan.strings.Broken.{Broken}
 use Rattle.wat_lex.specs.declared.lexer.faults.LexError.{LexError}
 use Rattle.wat_lex.specs.declared.lexer.faults.LexError.TheVariants.{InvalidStringElement, UnexpectedEof, ConfusingUnicode}
@@ -53,22 +53,22 @@ element_escaped flags text mid rest value u t l e =
     let s = e.shorter in
     element_to flags text rest value u e.utf8 (subst (λ x. Element flags x value (chars rest)) (sym t.spelled) e.element) (omega arith)
 
-pub element_missing : (flags : Settings) (text : List ℕ) → length text ≡ 0 → StringRefused flags text (record { offset = 0; error = UnexpectedEof })
+pub element_missing : (flags : Settings) (text : List ℕ) → length text ≡ 0 → StringFaultFound flags text (record { offset = 0; error = UnexpectedEof })
 element_missing flags text l = record { at = []; fault = subst (λ x. StringFault flags x UnexpectedEof []) (sym (at_end text l)) no_quote; place = sym l }
 
-refused_here : (flags : Settings) (text rest : List ℕ) (c : ℕ) (e : LexError) → Took text c rest → StringFault flags (c ∷ chars rest) e (c ∷ chars rest) → StringRefused flags text (record { offset = 0; error = e })
+refused_here : (flags : Settings) (text rest : List ℕ) (c : ℕ) (e : LexError) → Took text c rest → StringFault flags (c ∷ chars rest) e (c ∷ chars rest) → StringFaultFound flags text (record { offset = 0; error = e })
 refused_here flags text rest c e t f = record { at = chars text; fault = subst (λ x. StringFault flags x e x) (sym t.spelled) f; place = let s = t.size_is in omega arith }
 
-pub element_control : (flags : Settings) (text rest : List ℕ) (c : ℕ) → Took text c rest → is_control c ≡ true → StringRefused flags text (record { offset = 0; error = InvalidStringElement c })
+pub element_control : (flags : Settings) (text rest : List ℕ) (c : ℕ) → Took text c rest → is_control c ≡ true → StringFaultFound flags text (record { offset = 0; error = InvalidStringElement c })
 element_control flags text rest c t e = refused_here flags text rest c (InvalidStringElement c) t (control e)
 
-pub element_confusing : (flags : Settings) (text rest : List ℕ) (c : ℕ) → Took text c rest → flags.allow ≡ false → is_confusing c ≡ true → StringRefused flags text (record { offset = 0; error = ConfusingUnicode c })
+pub element_confusing : (flags : Settings) (text rest : List ℕ) (c : ℕ) → Took text c rest → flags.allow ≡ false → is_confusing c ≡ true → StringFaultFound flags text (record { offset = 0; error = ConfusingUnicode c })
 element_confusing flags text rest c t a e = refused_here flags text rest c (ConfusingUnicode c) t (confusing a e)
 
 pub escape_fits : (flags : Settings) (text mid : List ℕ) (broken : Broken) → Took text 92 mid → Breaks flags (92 ∷ []) mid broken → broken.left ≤ length text
 escape_fits flags text mid broken t b = omega (arith, string_fault_fits flags (92 ∷ chars mid) broken.error b.at b.fault, b.place, t.size_is, ap size t.spelled)
 
-pub element_escape : (flags : Settings) (text mid : List ℕ) (broken : Broken) → Took text 92 mid → Breaks flags (92 ∷ []) mid broken → StringRefused flags text (record { offset = length text - broken.left; error = broken.error })
+pub element_escape : (flags : Settings) (text mid : List ℕ) (broken : Broken) → Took text 92 mid → Breaks flags (92 ∷ []) mid broken → StringFaultFound flags text (record { offset = length text - broken.left; error = broken.error })
 element_escape flags text mid broken t b = record {
   at = b.at;
   fault = subst (λ x. StringFault flags x broken.error b.at) (sym t.spelled) b.fault;
@@ -102,7 +102,7 @@ byte_taken flags text u h =
     let e = byte_escaped flags text u h in
     record { value = (16 * digit_value (slice_index text 1) + digit_value (slice_index text 2)) ∷ []; element = e.element; utf8 = IsUtf8-drop text 3 u e.boundary; some = omega arith; range = h.long }
 
--- ---- elements up to a place
+-- ---- elements up to an offset
 
 -- what ends the text from there on as a string ends the whole as one
 pub record Continues (flags : Settings) (text : List ℕ) (at : ℕ) : Type 0 where

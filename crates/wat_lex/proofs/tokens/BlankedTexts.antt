@@ -1,4 +1,4 @@
--- A text with white bytes over those of a token: its bytes and its characters before the token, in its place, and after it.
+-- A text with white bytes over those of a token: its bytes and its characters before the token, over it, and after it.
 use Rattle.std.proofs.Common.{◌≡◌, ◌≤◌, ◌<◌, ◌+◌, ◌-◌, ℕ, zero, suc, List, [], ◌∷◌, ◌++◌, length, take, drop, refl, arith, ap, sym, ◌∙◌, append_assoc, length-append, length-drop}
 use Rattle.std.specs.Prelude.{IsTrue}
 use Rattle.std.specs.Str.{chars, IsAscii, IsUtf8, IsCharBoundary}

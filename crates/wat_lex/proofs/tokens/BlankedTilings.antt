@@ -126,7 +126,7 @@ white_after s from to (t ∷ ts) e u b h g =
       }
     ]
 
--- the white space token from q on, where only white space comes before the comment, up to the place
+-- The whitespace token from the offset q up to the offset at, if there is only whitespace between q and the comment.
 white_token : ℕ → ℕ → Token
 white_token q at = record { kind = Whitespace; offset = q; len = at - q }
 
@@ -213,7 +213,7 @@ one_more s c white q to t ts here l h r =
       tiling = (h, r.tiling);
     }
 
--- the comment is at the place or after it
+-- The offset of the comment is at least p.
 reaches : (s : Setting) (p to : ℕ) (c : Token) (b r : List Token) → Tiling s p to (b ++ c ∷ r) → p ≤ c.offset
 reaches s p to c [] r h = let o = h.0.offset in omega (arith, o)
 reaches s p to c (t ∷ b) r h = let o = h.0.offset in omega (arith, o, reaches s (t.offset + t.len) to c b r h.1)

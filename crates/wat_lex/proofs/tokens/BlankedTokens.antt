@@ -1,4 +1,5 @@
--- The tokens of a text with white bytes over a comment: those before it and after it are as they were, and one white space token
+-- The tokens of a text with white bytes over a comment: those before it and after it are as they were, and one white
+-- space token
 -- is between them.
 use Rattle.std.proofs.Common.{◌≡◌, ◌≢◌, ◌≤◌, ◌<◌, ◌+◌, ℕ, List, [], ◌∷◌, ◌++◌, take, drop, refl, arith, ap, sym, ◌∙◌, subst, append_assoc, length-drop, inl, inr, Bool, true, ◌||◌}
 use Rattle.std.specs.Prelude.{Option, Some, None, ◌==◌, IsTrue}
@@ -53,7 +54,7 @@ no_line_before (c ∷ x) o (inr e) =
 white_no_semicolon : (c : ℕ) → is_whitespace c ≡ true → (c == semicolon) ≡ true → ⊥
 white_no_semicolon c = set_apart (λ d. d == semicolon) (32 ∷ 10 ∷ 13 ∷ 9 ∷ []) c (refl, (refl, (refl, (refl, tt))))
 
--- What may be followed by a comment may be followed by white space, but for white space.
+-- Every token except whitespace that a comment may follow, whitespace may follow.
 follows_white : (k : TokenKind) (w x : List ℕ) (c : ℕ) (t : List ℕ) → IsTrue (is_whitespace c) → k ≢ Whitespace → Begins opens_comment x → MayFollow k w x → MayFollow k w (c ∷ t)
 follows_white Whitespace w x c t i n o h = absurd (n refl)
 follows_white LineComment w x c t i n o h = absurd (no_line_before x o h)
@@ -92,7 +93,7 @@ follows_blanks k w (d ∷ m) x c t i n o h = follows_first k w d m x (c ∷ t) h
 abbrev pub over : Setting → Token → List ℕ → Setting
 over s c white = with_other_text s (overwritten s.text c white)
 
--- a comment at its place in a text, and white bytes as many as it has
+-- A comment of a text, and whitespace bytes of its length.
 pub record CommentIn (s : Setting) (c : Token) (white : List ℕ) : Type 0 where
   pub utf8 : IsUtf8 s.text
   pub first : IsCharBoundary s.text c.offset

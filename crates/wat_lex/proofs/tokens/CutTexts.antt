@@ -1,4 +1,4 @@
--- The tokens of a text that is cut, but for its last, are tokens of the whole.
+-- The tokens of a prefix of a text, except its last, are tokens of the text.
 use Rattle.std.proofs.Common.{Bool, ◌≡◌, ◌≢◌, ◌≤◌, ◌+◌, ◌-◌, ℕ, List, [], ◌∷◌, ◌++◌, take, drop, refl, arith, ap, sym, ◌∙◌, subst, append_assoc, inl, inr}
 use Rattle.std.specs.Prelude.{Option, Some, None, ◌==◌}
 use Rattle.std.proofs.lemmas.List.{take-append-drop, drop-take, drop-drop, drop_at, length-take-le}
@@ -63,7 +63,7 @@ prefix_utf8 text n p u b c l =
 prefix_boundary : (text : List ℕ) (n p : ℕ) → IsUtf8 text → IsCharBoundary text n → IsCharBoundary text p → p ≤ n → IsCharBoundary (take n text) p
 prefix_boundary text n p u b c l = IsCharBoundary-from_drop (take n text) p (omega (arith, length-take-le n text b.0)) (prefix_utf8 text n p u b c l)
 
--- the characters from a place on are those of the prefix and those after it
+-- The characters of a text from the offset q on are those of the prefix, and then those after the prefix.
 prefix_chars : (text : List ℕ) (n q : ℕ) → IsUtf8 text → IsCharBoundary text n → IsCharBoundary (take n text) q → chars (drop q text) ≡ chars (drop q (take n text)) ++ chars (drop n text)
 prefix_chars text n q u b c =
     let l : q ≤ n = omega (arith, c.0, length-take-le n text b.0) in

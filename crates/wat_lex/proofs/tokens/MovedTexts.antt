@@ -1,4 +1,4 @@
--- The tokens from a place on are those of the text that begins there, moved.
+-- The tokens from an offset on are those of the text that begins there, with their offsets moved.
 use Rattle.std.proofs.Common.{◌≡◌, ◌≤◌, ◌+◌, ◌-◌, ℕ, List, [], ◌∷◌, length, drop, refl, arith, ap, sym, subst, length-drop}
 use Rattle.std.specs.Prelude.{Option, Some, None}
 use Rattle.std.proofs.lemmas.List.{drop-drop}
@@ -61,7 +61,7 @@ into_ending s p q (Some f) l h = into_fault s p q f l h
 from_start : (s : Setting) (p to : ℕ) (ts : List Token) → Tiling s (p + 0) to ts → Tiling s p to ts
 from_start s p to ts h = let k : p + 0 ≡ p = omega arith in subst (λ x. Tiling s x to ts) k h
 
--- a token from a place on, as the text that begins there has it
+-- A token of a text from the offset p on is a token of the text that begins there.
 from_token : (s : Setting) (p q : ℕ) (u : Token) → TokenAt s (p + q) u → TokenAt (text_from s p) q (record u { offset = q })
 unfolding text_from
 from_token s p q u h = record {
@@ -99,7 +99,7 @@ pub tiling_ends : (s : Setting) (p to : ℕ) (ts : List Token) → IsUtf8 s.text
 tiling_ends s p to [] u b h = subst (IsCharBoundary s.text) h b
 tiling_ends s p to (t ∷ ts) u b h = tiling_ends s (t.offset + t.len) to ts u (after s p t u b h.0) h.1
 
--- a fault is reported at its place or after it
+-- A lexical error is reported at its offset or after it.
 fault_after : (s : Setting) (q : ℕ) (f : LexFault) → IsUtf8 s.text → IsCharBoundary s.text q → FaultAt s q f → q ≤ f.offset
 fault_after s q f u b h =
     let rest = drop q s.text in

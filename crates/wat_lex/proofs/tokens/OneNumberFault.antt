@@ -94,7 +94,7 @@ past_last d ds more t u x h e stop not_good (inr g) =
     let k = last_alone ds more t u x h e stop in
     not_good (subst (λ y. EndsInUnderscore (ds ++ x ∷ y) → ⊥) k g.0) (subst (λ y. IsScalar (hex_value (d ∷ ds ++ x ∷ y))) k g.1)
 
--- a fault of a number, by its place
+-- An error in the number of `\u{..}` is reported at a character, or at the end of the text.
 stopped : (flags : Settings) (d : ℕ) (s : List ℕ) (e : LexError) (at : List ℕ) → NumberFault flags d s e at → Stopped flags d s e at ⊎ Ended flags d s e at
 unfolding Goes
 stopped flags d s e at (too_big {e = x} {t = t} ds k h i big_value) = inl (record {

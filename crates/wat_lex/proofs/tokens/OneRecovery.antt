@@ -7,7 +7,7 @@ use Rattle.wat_lex.specs.grammar.Classes.{quote, size, is_line_end}
 use Rattle.wat_lex.specs.grammar.Runs.{Piece, Run, none, idchar, string}
 use Rattle.wat_lex.specs.grammar.Words.{WordIsAt}
 use Rattle.wat_lex.specs.tokens.Faults.{IsComment}
-use Rattle.wat_lex.specs.tokens.Recovery.{is_inside, PassesString, closed, line_end, text_end, escape, inside, Covers, character, opening, comment, run, ResumesAt}
+use Rattle.wat_lex.specs.tokens.Recovery.{is_inside, SkipsString, closed, line_end, text_end, escape, inside, Covers, character, opening, comment, run, ResumesAt}
 use Rattle.wat_lex.specs.tokens.Setting.{Setting, allowing}
 use Rattle.wat_lex.specs.tokens.StringFaults.{StringFault, later, no_quote, control, confusing, no_escape, bad_escape, no_second, bad_second, no_open, bad_open, no_digit, bad_digit, number, NumberFault, too_big, doubled, lone, no_scalar, no_brace, no_more}
 use Rattle.wat_lex.specs.declared.lexer.settings.Settings.{Settings}
@@ -24,7 +24,7 @@ use Rattle.wat_lex.proofs.tokens.Scans.{word_some}
 pub inside_no_line_end : (c : ℕ) → IsTrue (is_inside c) → IsTrue (is_line_end c) → ⊥
 inside_no_line_end c h k = both_ways (not (is_line_end c)) (ap not k) (and_parts (not (c == quote)) (not (is_line_end c)) h).1
 
-pub passes_unique : (s r q : List ℕ) → PassesString s r → PassesString s q → r ≡ q
+pub passes_unique : (s r q : List ℕ) → SkipsString s r → SkipsString s q → r ≡ q
 passes_unique s r q closed closed = refl
 passes_unique s r q closed (line_end h) = absurd (false≢true h)
 passes_unique s r q closed (inside h n p) = absurd (false≢true h)
@@ -115,19 +115,19 @@ covers_unique flags s e f r q k (run {t = t} {at = at} g h p) (character {c = c}
 covers_unique flags s e f r q k (run {t = t} {at = at} g h p) opening = absurd (no_start flags t e f at h k refl)
 covers_unique flags s e f r q k (run {t = t} {ps = ps} g x p) (comment {w = w} {kind = m} i h) = absurd (comment_run flags s m w q ps t i h g)
 covers_unique flags s e f r q k (run {t = t} {at = a} {ps = ps} g h p) (run {t = u} {at = b} {ps = qs} x y o) =
-    passes_unique t r q p (subst (λ z. PassesString z q) (sym (run_string_unique flags s t u a b ps qs e f g h x y)) o)
+    passes_unique t r q p (subst (λ z. SkipsString z q) (sym (run_string_unique flags s t u a b ps qs e f g h x y)) o)
 
 pub resumes_once : (s : Setting) (p : ℕ) (f : LexFault) (q r : ℕ) → ResumesAt s p f q → ResumesAt s p f r → q ≡ r
 resumes_once s p f q r h g =
     let same = covers_unique s.flags _ f.error f.error h.rest g.rest refl h.covers g.covers in
     omega (arith, h.place, g.place, ap size same)
 
--- what is passed over, and then the rest
+-- r is a suffix of s: the text after what is skipped.
 pub record Passed (s r : List ℕ) : Type 0 where
   pub prefix : List ℕ
   pub cut : s ≡ prefix ++ r
 
-pub passes_cut : (s r : List ℕ) → PassesString s r → Passed s r
+pub passes_cut : (s r : List ℕ) → SkipsString s r → Passed s r
 passes_cut s r closed = record { prefix = quote ∷ []; cut = refl }
 passes_cut s r (line_end h) = record { prefix = []; cut = refl }
 passes_cut s r text_end = record { prefix = []; cut = refl }

@@ -1,4 +1,4 @@
--- What is at a place is one thing, and so there is one maximal tiling from it.
+-- There is exactly one thing at an offset, and so there is one maximal tiling from it.
 use Rattle.std.proofs.Common.{◌≡◌, ◌+◌, ℕ, List, [], ◌∷◌, ◌++◌, length, drop, refl, arith, ap, sym, ◌∙◌, subst}
 use Rattle.std.specs.Prelude.{Option, Some, None, Result, Ok, Err}
 use Rattle.std.proofs.lemmas.List.{drop_all}
@@ -8,7 +8,7 @@ use Rattle.wat_lex.specs.grammar.Classes.{size}
 use Rattle.wat_lex.specs.tokens.Faults.{FaultAt}
 use Rattle.wat_lex.specs.tokens.Setting.{Setting}
 use Rattle.wat_lex.specs.tokens.Tiling.{TokenAt, Tiling, EndsAt}
-use Rattle.wat_lex.specs.tokens.UniqueTilings.{AnswerAt, OneTiling}
+use Rattle.wat_lex.specs.tokens.UniqueTilings.{ResultAt, OneTiling}
 use Rattle.wat_lex.specs.declared.lexer.kinds.Token.{Token}
 use Rattle.wat_lex.specs.declared.lexer.faults.LexFault.{LexFault}
 use Rattle.wat_lex.proofs.tokens.Scans.{word_some}
@@ -46,7 +46,7 @@ no_fault_left s p f e h = fault_some s.flags f.error h.at (chars (drop p s.text)
 pub token_no_fault : (s : Setting) (p : ℕ) (t : Token) (f : LexFault) → TokenAt s p t → FaultAt s p f → ⊥
 token_no_fault s p t f h k = no_word_at_fault s.flags (chars (drop p s.text)) t.kind h.word h.rest f.error k.at h.is_at k.fault
 
-pub is_at_one : (s : Setting) (p : ℕ) (q r : Result (Option Token) LexFault) → AnswerAt s p q → AnswerAt s p r → q ≡ r
+pub is_at_one : (s : Setting) (p : ℕ) (q r : Result (Option Token) LexFault) → ResultAt s p q → ResultAt s p r → q ≡ r
 is_at_one s p (Ok None) (Ok None) h g = refl
 is_at_one s p (Ok None) (Ok (Some u)) h g = absurd (no_token_left s p u (nothing_left s.text p h) g)
 is_at_one s p (Ok None) (Err f) h g = absurd (no_fault_left s p f (nothing_left s.text p h) g)
@@ -57,7 +57,7 @@ is_at_one s p (Err e) (Ok None) h g = absurd (no_fault_left s p e (nothing_left 
 is_at_one s p (Err e) (Ok (Some u)) h g = absurd (token_no_fault s p u e g h)
 is_at_one s p (Err e) (Err f) h g = ap Err (fault_one s p e f h g)
 
--- at the ending of a tiling there is no token
+-- At the end of a maximal tiling there is not a token.
 pub ending_no_token : (s : Setting) (p : ℕ) (e : Option LexFault) (t : Token) → EndsAt s p e → TokenAt s p t → ⊥
 ending_no_token s p None t h g = no_token_left s p t (nothing_left s.text p h) g
 ending_no_token s p (Some f) t h g = token_no_fault s p t f g h

@@ -6,7 +6,7 @@ use Rattle.std.proofs.lemmas.List.{append-nil}
 use Rattle.wat_lex.specs.grammar.Classes.{Each, Begins, quote, backslash, size, is_hex, is_line_end}
 use Rattle.wat_lex.specs.grammar.Strings.{Element, raw, letter, byte, unicode, letter_value, is_control, is_raw, is_hex_or_underscore}
 use Rattle.wat_lex.specs.tokens.Faults.{Fault, unexpected, dangling, confusing as refused, in_string}
-use Rattle.wat_lex.specs.tokens.Recovery.{is_inside, is_escaped, PassesString, closed, line_end, escape, inside, Covers, character, opening, comment, run}
+use Rattle.wat_lex.specs.tokens.Recovery.{is_inside, is_escaped, SkipsString, closed, line_end, escape, inside, Covers, character, opening, comment, run}
 use Rattle.wat_lex.specs.tokens.Setting.{allowing}
 use Rattle.wat_lex.specs.tokens.StringFaults.{StringFault, later, no_quote, control, confusing, no_escape, bad_escape, no_second, bad_second, no_open, bad_open, no_digit, bad_digit, number, NumberFault, too_big, doubled, lone, no_scalar, no_brace, no_more}
 use Rattle.wat_lex.specs.declared.lexer.settings.Settings.{Settings}
@@ -17,7 +17,7 @@ use Rattle.wat_lex.proofs.tokens.OneNumberFault.{row_prefix}
 use Rattle.wat_lex.proofs.tokens.OneRecovery.{covers_start, inside_no_line_end, passes_cut, covers_cut, no_start, comment_run, comment_unique, run_string_unique}
 use Rattle.wat_lex.proofs.tokens.OneStringFault.{set_apart}
 
--- a character that a string at fault passes over alone
+-- A character that is skipped alone in a string with an error.
 record Still (c : ℕ) : Type 0 where
   is : IsTrue (is_inside c)
   plain : c ≢ backslash
@@ -62,25 +62,25 @@ still_not_escaped c s h =
       | inr t ↦ s.plain (eqb-true c backslash t)
     ]
 
--- ---- what is passed over after a first character
+-- ---- the rest of a string with an error, after a first character
 
-step : (c : ℕ) (t q : List ℕ) → Still c → PassesString (c ∷ t) q → PassesString t q
+step : (c : ℕ) (t q : List ℕ) → Still c → SkipsString (c ∷ t) q → SkipsString t q
 step c t q s closed = let i = s.is in absurd (false≢true i)
 step c t q s (line_end k) = absurd (inside_no_line_end c s.is k)
 step c t q s (escape k p) = absurd (s.plain refl)
 step c t q s (inside i n p) = p
 
-past_backslash : (t q : List ℕ) → (Begins is_escaped t → ⊥) → PassesString (backslash ∷ t) q → PassesString t q
+past_backslash : (t q : List ℕ) → (Begins is_escaped t → ⊥) → SkipsString (backslash ∷ t) q → SkipsString t q
 past_backslash t q n (line_end k) = absurd (false≢true k)
 past_backslash t q n (escape k p) = absurd (n k)
 past_backslash t q n (inside i m p) = p
 
-past_escape : (c : ℕ) (t q : List ℕ) → IsTrue (is_escaped c) → PassesString (backslash ∷ c ∷ t) q → PassesString t q
+past_escape : (c : ℕ) (t q : List ℕ) → IsTrue (is_escaped c) → SkipsString (backslash ∷ c ∷ t) q → SkipsString t q
 past_escape c t q h (line_end k) = absurd (false≢true k)
 past_escape c t q h (escape k p) = p
 past_escape c t q h (inside i m p) = absurd (m refl h)
 
-past_row : (ds t q : List ℕ) → Each is_hex_or_underscore ds → PassesString (ds ++ t) q → PassesString t q
+past_row : (ds t q : List ℕ) → Each is_hex_or_underscore ds → SkipsString (ds ++ t) q → SkipsString t q
 past_row [] t q h p = p
 past_row (d ∷ ds) t q h p = past_row ds t q h.1 (step d (ds ++ t) q (row_still d h.0) p)
 
@@ -93,10 +93,10 @@ open_brace_still = record { is = refl; plain = λ e. let k : 123 ≡ 92 = e in o
 close_brace_still : Still 125
 close_brace_still = record { is = refl; plain = λ e. let k : 125 ≡ 92 = e in omega (arith, k) }
 
-past_open : (t q : List ℕ) → PassesString (92 ∷ 117 ∷ 123 ∷ t) q → PassesString t q
+past_open : (t q : List ℕ) → SkipsString (92 ∷ 117 ∷ 123 ∷ t) q → SkipsString t q
 past_open t q p = step 123 t q open_brace_still (step 117 (123 ∷ t) q letter_u_still (past_backslash (117 ∷ 123 ∷ t) q (still_not_escaped 117 letter_u_still) p))
 
-element_passed : (flags : Settings) (s u t q : List ℕ) → Element flags s u t → PassesString s q → PassesString t q
+element_passed : (flags : Settings) (s u t q : List ℕ) → Element flags s u t → SkipsString s q → SkipsString t q
 element_passed flags s u t q (raw {c = c} h) p = step c t q (raw_still flags c h) p
 element_passed flags s u t q (letter {c = c} {v = v} h) p =
     elim (cases_Bool (is_escaped c)) [
@@ -108,22 +108,22 @@ element_passed flags s u t q (byte {c = c} {d = d} h k) p =
 element_passed flags s u t q (unicode {d = d} ds e h n k) p =
     let row = h.others in
     step 125 t q close_brace_still
-    (past_row ds (125 ∷ t) q row (subst (λ x. PassesString x q) e (step d _ q (hex_still d h.first) (past_open _ q p))))
+    (past_row ds (125 ∷ t) q row (subst (λ x. SkipsString x q) e (step d _ q (hex_still d h.first) (past_open _ q p))))
 
 -- ---- what is left
 
-passes_fits : (s q : List ℕ) → PassesString s q → size q ≤ size s
+passes_fits : (s q : List ℕ) → SkipsString s q → size q ≤ size s
 passes_fits s q p = let k = passes_cut s q p in omega (arith, ap size k.cut, size-append k.prefix q)
 
-number_within : (flags : Settings) (d : ℕ) (s : List ℕ) (e : LexError) (at q : List ℕ) → NumberFault flags d s e at → PassesString s q → size q ≤ size at
-number_within flags d s e at q (too_big ds k h i n) p = passes_fits at q (past_row ds at q h.others (subst (λ x. PassesString x q) k p))
-number_within flags d s e at q (doubled ds k h a b) p = passes_fits at q (past_row ds at q h.others (subst (λ x. PassesString x q) k p))
-number_within flags d s e at q (lone ds k h n) p = passes_fits at q (past_row ds at q h.others (subst (λ x. PassesString x q) k p))
-number_within flags d s e at q (no_scalar {e = x} ds k h i n m) p = let row = row_prefix flags d ds (x ∷ []) h in passes_fits at q (past_row ds at q row.others (subst (λ x. PassesString x q) k p))
-number_within flags d s e at q (no_brace ds k h n i m l) p = passes_fits at q (past_row ds at q h.others (subst (λ x. PassesString x q) k p))
-number_within flags d s e at q (no_more h n i) p = passes_fits [] q (past_row s [] q h.others (subst (λ x. PassesString x q) (sym (append-nil s)) p))
+number_within : (flags : Settings) (d : ℕ) (s : List ℕ) (e : LexError) (at q : List ℕ) → NumberFault flags d s e at → SkipsString s q → size q ≤ size at
+number_within flags d s e at q (too_big ds k h i n) p = passes_fits at q (past_row ds at q h.others (subst (λ x. SkipsString x q) k p))
+number_within flags d s e at q (doubled ds k h a b) p = passes_fits at q (past_row ds at q h.others (subst (λ x. SkipsString x q) k p))
+number_within flags d s e at q (lone ds k h n) p = passes_fits at q (past_row ds at q h.others (subst (λ x. SkipsString x q) k p))
+number_within flags d s e at q (no_scalar {e = x} ds k h i n m) p = let row = row_prefix flags d ds (x ∷ []) h in passes_fits at q (past_row ds at q row.others (subst (λ x. SkipsString x q) k p))
+number_within flags d s e at q (no_brace ds k h n i m l) p = passes_fits at q (past_row ds at q h.others (subst (λ x. SkipsString x q) k p))
+number_within flags d s e at q (no_more h n i) p = passes_fits [] q (past_row s [] q h.others (subst (λ x. SkipsString x q) (sym (append-nil s)) p))
 
-string_within : (flags : Settings) (s : List ℕ) (e : LexError) (at q : List ℕ) → StringFault flags s e at → PassesString s q → size q ≤ size at
+string_within : (flags : Settings) (s : List ℕ) (e : LexError) (at q : List ℕ) → StringFault flags s e at → SkipsString s q → size q ≤ size at
 string_within flags s e at q (later {t = t} {u = u} h g) p = string_within flags t e at q g (element_passed flags s u t q h p)
 string_within flags s e at q no_quote p = passes_fits at q p
 string_within flags s e at q (control h) p = passes_fits at q p
@@ -158,7 +158,7 @@ reported_within flags s e f at r k (refused {c = c} prefix off kind_is there cut
 reported_within flags s e f at r k (refused {c = c} prefix off kind_is there cut clear is lt) opening = let a : ConfusingUnicode c ≡ DanglingBlockComment = k in cc
 reported_within flags s e f at r k (refused {kind = kind} {w = w} {rest = rest} prefix off kind_is there cut clear is lt) (run {t = t} {ps = ps} g x p) = absurd (comment_run flags s kind w rest ps t kind_is there g)
 reported_within flags s e f at r k (in_string {t = t} {ps = ps} g x) (run {t = u} {at = b} {ps = qs} i y p) =
-    string_within flags t e at r x (subst (λ z. PassesString z r) (sym (run_string_unique flags s t u at b ps qs e f g x i y)) p)
+    string_within flags t e at r x (subst (λ z. SkipsString z r) (sym (run_string_unique flags s t u at b ps qs e f g x i y)) p)
 reported_within flags s e f at r k (in_string {t = t} g x) (character {c = d}) = absurd (no_start flags t e f at x k refl)
 reported_within flags s e f at r k (in_string {t = t} g x) opening = absurd (no_start flags t e f at x k refl)
 reported_within flags s e f at r k (in_string {t = t} {ps = ps} g x) (comment {w = w} {kind = kind} j i) = absurd (comment_run flags s kind w r ps t j i g)

@@ -1,4 +1,4 @@
--- Answers on the rest of a text are answers at its place.
+-- Results for the rest of a text hold at its offset in the text.
 use Rattle.std.proofs.Common.{◌≡◌, ◌≤◌, ◌<◌, ◌+◌, ℕ, List, length, drop, arith, ap, subst, length-drop}
 use Rattle.std.proofs.lemmas.Str.{encodes-chars}
 use Rattle.std.specs.Str.{IsUtf8}

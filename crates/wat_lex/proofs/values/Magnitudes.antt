@@ -18,7 +18,7 @@ joined_over ds i l e =
     let t = drop (i + 1) ds in
     ap joined (drop_more ds i 0 l) ∙ ap (λ b. cond (not b) (c ∷ joined t) (joined t)) (eq-eqb c 95 e)
 
--- the value of all digits is no less than that of the first of them
+-- The value of all digits is at least that of the first of them.
 grows : (hex : Bool) (n : ℕ) (cs : List ℕ) → n ≤ digits_value_after (base hex) n cs
 grows hex n [] = omega arith
 grows true n (c ∷ cs) = omega (arith, grows true (n * 16 + digit_value c) cs)

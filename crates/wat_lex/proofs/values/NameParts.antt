@@ -150,7 +150,7 @@ none_more n w h f k a b u = elim (cases_Bool (k == n)) [
     less : (k ≡ n → ⊥) → k < n
     less d = omega (arith, b, d)
 
--- a part that is no byte's escape
+-- A part other than the escape of a byte is UTF-8 and not empty.
 pub whole_utf8 : (part : Part) → IsWhole part → ((b : ℕ) → part ≡ Byte b → ⊥) → IsUtf8 (part_bytes part) × (part_bytes part ≢ [])
 whole_utf8 (Text text) h n = h
 whole_utf8 (Byte b) h n = absurd (n b refl)

@@ -13,7 +13,7 @@ use Rattle.wat_lex.specs.values.NumberValues.{joined, after_prefix, number_text,
 use Rattle.wat_lex.proofs.grammar.Digits.{digits_one, digits_first, digits_none}
 use Rattle.wat_lex.proofs.grammar.Tails.{tail_stops, tail_none, tail_power, exponent_stops, stops_nil, digits_end, After, after, nothing, powered, digits, digits_powered}
 
--- a digit is no sign
+-- A digit is not a sign.
 pub no_plus : (hex : Bool) (c : ℕ) → is_digit hex c ≡ true → c ≢ 43
 no_plus true c h e = let k = subst (λ x. is_digit true x ≡ true) e h in cc
 no_plus false c h e = let k = subst (λ x. is_digit false x ≡ true) e h in cc
@@ -194,7 +194,7 @@ payload_is w n d e f h =
     let g : d ≡ drop 6 (unsigned w) = f ∙ ap (λ x. drop (length w - length x + 6) w) e ∙ after_nan w in
     ap (number_text false) g ∙ digits_text true (drop 6 (unsigned w)) [] (payload_digits (unsigned w) h)
 
--- the same after references
+-- What holds of an optional reference's bytes holds of the reference.
 pub each : (P : List ℕ → Type 0) (o : Option (Bor (List ℕ))) → IfSome (option_map (λ r. r.now) o) P → IfSome o (λ p. P p.now)
 each P None h = h
 each P (Some r) h = h

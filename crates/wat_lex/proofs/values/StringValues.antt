@@ -143,7 +143,7 @@ plain_whole s v (more (letter a) q) h = absurd (false≢true (sym h.0))
 plain_whole s v (more (byte a b) q) h = absurd (false≢true (sym h.0))
 plain_whole s v (more (unicode ds e a n k) q) h = absurd (false≢true (sym h.0))
 
--- what comes after characters that are no backslash
+-- The elements and the value after a prefix of characters that are not backslashes.
 record PlainPrefix (cs t v : List ℕ) : Type 0 where
   rest : List ℕ
   value : v ≡ encodes cs ++ rest

@@ -1,8 +1,8 @@
--- What callers see of the fields of an error. No part of the standard.
+-- An error as callers see it, computed from its fields.
 use Rattle.std.specs.Prelude.{Option, Some, None}
 use Rattle.std.specs.String.{string_bytes}
 use Rattle.wat_lex.specs.errors.Errors.{Report, Cause, Lexical, Custom}
-use Rattle.wat_lex.specs.errors.Rendering.{Excerpt, shown_line}
+use Rattle.wat_lex.specs.errors.Rendering.{Excerpt, rendered_line}
 use Rattle.wat_lex.specs.declared.error.Error.TheInside.{Inside}
 use Rattle.wat_lex.specs.declared.error.Kind.{Kind}
 use Rattle.wat_lex.specs.declared.error.Kind.TheVariants.{Memory, Plain, InText}
@@ -12,7 +12,7 @@ use Rattle.wat_lex.specs.declared.error.Reason.TheVariants.{Lex, Message}
 use Rattle.wat_lex.specs.declared.error.text.Text.{Text}
 
 abbrev pub excerpt_of : Text → Excerpt
-excerpt_of t = record { line = t.line; column = t.column; snippet = shown_line (string_bytes t.source) }
+excerpt_of t = record { line = t.line; column = t.column; snippet = rendered_line (string_bytes t.source) }
 
 abbrev pub cause_of : Reason → Cause
 cause_of (Lex e) = Lexical e

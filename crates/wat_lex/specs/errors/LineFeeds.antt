@@ -1,9 +1,9 @@
--- Where the line feeds of a text are. No part of the standard.
+-- The offsets of the line feeds of a text.
 use Rattle.std.specs.Prelude.{◌≡◌, ◌<◌, ◌≤◌, ℕ, true, List, length, take, slice_index}
 use Rattle.std.specs.List.{count_by}
 use Rattle.wat_lex.specs.errors.Positions.{is_line_feed}
 
--- the places of the line feeds up to an offset, in their order
+-- `FeedsUpTo text offset feeds`: `feeds` are the offsets of the line feeds before `offset`, in order.
 pub record FeedsUpTo (text : List ℕ) (offset : ℕ) (feeds : List ℕ) : Type 0 where
   pub within : offset ≤ length text
   pub inside : (k : ℕ) → k < length feeds → slice_index feeds k < length text
@@ -11,6 +11,6 @@ pub record FeedsUpTo (text : List ℕ) (offset : ℕ) (feeds : List ℕ) : Type 
   pub before : (k : ℕ) → k < length feeds → count_by is_line_feed (take (slice_index feeds k) text) ≡ k
   pub all : count_by is_line_feed (take offset text) ≡ length feeds
 
--- those of the whole text
+-- The offsets of all line feeds of the text, in order.
 abbrev pub LineFeeds : List ℕ → List ℕ → Type 0
 LineFeeds text feeds = FeedsUpTo text (length text) feeds

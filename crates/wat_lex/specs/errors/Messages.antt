@@ -1,22 +1,22 @@
--- The messages of the lexer's errors, in bytes. They are the lexer's own: the standard has none.
+-- The messages of lexical errors, in bytes. The standard has none.
 use Rattle.std.specs.Prelude.{◌==◌, ◌&&◌, nat_le, false, ℕ, List, [], ◌∷◌, ◌++◌, codes, if◌then◌else◌}
 use Rattle.std.specs.Fmt.{digits}
 use Rattle.wat_lex.specs.grammar.Classes.{line_feed, carriage_return, backslash}
 use Rattle.wat_lex.specs.declared.lexer.faults.LexError.{LexError}
 use Rattle.wat_lex.specs.declared.lexer.faults.LexError.TheVariants.{DanglingBlockComment, Unexpected, InvalidStringElement, InvalidStringEscape, InvalidHexDigit, InvalidDigit, Expected, UnexpectedEof, NumberTooBig, InvalidUnicodeValue, LoneUnderscore, ConfusingUnicode, InvalidUtf8Id, EmptyId, EmptyAnnotation}
 
--- a number in lower hexadecimal digits, without leading zeros
+-- The integer in lower-case hexadecimal digits, without leading zeros.
 abbrev pub lower_hex : ℕ → List ℕ
 lower_hex n = digits 16 false n
 
--- `\u{..}`
+-- The character as an escape `\u{..}`.
 abbrev pub unicode_escape : ℕ → List ℕ
 unicode_escape c = codes "\\u{" ++ lower_hex c ++ codes "}"
 
--- a character as a message shows it: TAB, CR, LF, `\` and `'` by their escapes, others from 0x20 to 0x7E as themselves,
--- and any other as `\u{..}`
-abbrev pub shown_char : ℕ → List ℕ
-shown_char c =
+-- A character in a message: TAB, CR, LF, `\` and `'` by their escapes, other characters from 0x20 to 0x7E unchanged,
+-- and all others as `\u{..}`.
+abbrev pub escaped_char : ℕ → List ℕ
+escaped_char c =
     if c == 9 then codes "\\t"
     else if c == carriage_return then codes "\\r"
     else if c == line_feed then codes "\\n"
@@ -26,7 +26,7 @@ shown_char c =
     else unicode_escape c
 
 abbrev pub quoted_char : ℕ → List ℕ
-quoted_char c = codes "'" ++ shown_char c ++ codes "'"
+quoted_char c = codes "'" ++ escaped_char c ++ codes "'"
 
 abbrev pub message : LexError → List ℕ
 message DanglingBlockComment = codes "unterminated block comment"

@@ -1,4 +1,4 @@
--- How an error shows the line of a text that it is about. No part of the standard.
+-- The source line and the marker that an error prints. The standard has none.
 use Rattle.std.specs.Prelude.{ℕ, Bool, false, ◌==◌, ◌&&◌, nat_le, nat_lt, ◌+◌, ◌-◌, List, [], ◌∷◌, ◌++◌, codes, length, take, drop, replicate, flat_map, slice_get, slice_index, unwrap_or, encode_utf8_all, if◌then◌else◌}
 use Rattle.std.specs.Fmt.{decimal, is_char_start}
 use Rattle.std.specs.Str.{chars}
@@ -7,55 +7,62 @@ use Rattle.unicode_width.specs.Width.{str_width}
 use Rattle.wat_lex.specs.grammar.Classes.{is_confusing}
 use Rattle.wat_lex.specs.errors.Positions.{line_and_column}
 
--- what an error keeps of a text: its line and column there, both from 1, and the line as it is shown
+-- What an error keeps of the text: its line and column, both from 1, and the line as printed.
 pub record Excerpt : Type 0 where
   pub line : ℕ
   pub column : ℕ
   pub snippet : List ℕ
 
--- a TAB is four spaces, and a character that can make a text look other than it is is dropped
-abbrev pub shown_in_line : ℕ → List ℕ
-shown_in_line c = if c == 9 then codes "    " else if is_confusing c then [] else c ∷ []
+-- A character of a printed line: a TAB becomes four spaces, and a confusing character is dropped.
+abbrev pub rendered_char : ℕ → List ℕ
+rendered_char c = if c == 9 then codes "    " else if is_confusing c then [] else c ∷ []
 
--- a line as it is shown
-abbrev pub shown_line : List ℕ → List ℕ
-shown_line line = encode_utf8_all (flat_map shown_in_line (chars line))
+-- The source line as printed.
+abbrev pub rendered_line : List ℕ → List ℕ
+rendered_line line = encode_utf8_all (flat_map rendered_char (chars line))
 
--- the first n bytes are there, and do not end inside a character
+-- The text has `n` bytes or more, and the first `n` of them do not end inside a character.
 abbrev pub is_boundary : List ℕ → ℕ → Bool
 is_boundary text n = nat_le n (length text) && is_char_start (slice_index text n)
 
--- the columns that the first n bytes take; n itself where they are not there, or end inside a character
+-- The width in columns of the first `n` bytes of the text, or `n` if the text is shorter or the bytes end inside a
+-- character.
 abbrev pub columns : List ℕ → ℕ → ℕ
 columns text n = if is_boundary text n then str_width false (chars (take n text)) else n
 
--- The line that the byte is in is without its line feed, or carriage return and line feed. It is empty where the byte
--- is in no line. The column is measured on the line as it is shown, so a TAB before the byte, or a character that is
--- dropped, puts it off.
+-- The excerpt at a byte offset. The line is printed without LF or CRLF at its end. It is empty if the offset is in none
+-- of the lines. The column is measured in the printed line, so a TAB before the offset, or a dropped character, shifts
+-- it.
 abbrev pub excerpt : List ℕ → ℕ → Excerpt
 excerpt text offset =
     let place = line_and_column text offset in
-    let snippet = shown_line (unwrap_or (slice_get (lines text) place.0) []) in
+    let snippet = rendered_line (unwrap_or (slice_get (lines text) place.0) []) in
     record { line = place.0 + 1; column = columns snippet place.1 + 1; snippet = snippet }
 
--- spaces before a text, up to so many places
-abbrev pub right_in : ℕ → List ℕ → List ℕ
-right_in places text = replicate (places - length text) 32 ++ text
+-- The text, aligned right in a field of this width.
+abbrev pub align_right : ℕ → List ℕ → List ℕ
+align_right places text = replicate (places - length text) 32 ++ text
 
--- the place of an error, and below it the line with a marker under the column; the place alone, from column 501 on
-abbrev pub shown_place : Excerpt → List ℕ
-shown_place e =
-    let place = codes "<anon>:" ++ decimal e.line ++ codes ":" ++ decimal e.column in
+-- The location of an error in a file of this name, and below it the source line with a marker under the column. From
+-- column 501 on it is only the location.
+abbrev pub rendered_location_in : List ℕ → Excerpt → List ℕ
+rendered_location_in name e =
+    let place = name ++ codes ":" ++ decimal e.line ++ codes ":" ++ decimal e.column in
     if nat_lt 500 e.column then codes " at " ++ place
     else codes "\n     --> " ++ place
     ++ codes "\n      |"
-    ++ codes "\n " ++ right_in 4 (decimal e.line) ++ codes " | " ++ e.snippet
-    ++ codes "\n      | " ++ right_in e.column (codes "^")
+    ++ codes "\n " ++ align_right 4 (decimal e.line) ++ codes " | " ++ e.snippet
+    ++ codes "\n      | " ++ align_right e.column (codes "^")
 
--- the message of an error about a byte of a text, its place, and the line with a marker
+-- The location of an error in a text without a file name.
+abbrev pub rendered_location : Excerpt → List ℕ
+rendered_location e = rendered_location_in (codes "<anon>") e
+
+-- The bytes that an error at this byte offset of a text prints: its message, its location, and the line with the
+-- marker.
 abbrev pub rendered : List ℕ → List ℕ → ℕ → List ℕ
-rendered text message offset = message ++ shown_place (excerpt text offset)
+rendered text message offset = message ++ rendered_location (excerpt text offset)
 
--- a text over the bytes that were there, as much of it as there is room for
-abbrev pub laid_over : List ℕ → List ℕ → List ℕ
-laid_over text before = take (length before) text ++ drop (length text) before
+-- The bytes `before`, overwritten from their start by as much of the text as they have capacity for.
+abbrev pub overwrite_start : List ℕ → List ℕ → List ℕ
+overwrite_start text before = take (length before) text ++ drop (length text) before

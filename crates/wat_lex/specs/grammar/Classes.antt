@@ -1,5 +1,5 @@
--- WebAssembly specification, text format. Lexical format: characters, white space, tokens (reserved). Values: names and
--- identifiers (idchar). The finite sets of characters, and words on lists of characters.
+-- WebAssembly 2.0, 6.2.1 (characters), 6.2.2 (tokens), 6.2.3 (whitespace) and 6.3.5 (identifiers): the classes of
+-- characters, and predicates on lists of characters.
 use Rattle.std.specs.Prelude.{ℕ, Bool, true, false, ◌||◌, ◌==◌, List, [], ◌∷◌, codes, length, encode_utf8_all, IsTrue}
 use Rattle.std.specs.Char.{is_ascii_alphanumeric, is_ascii_hexdigit, char_set_contains}
 use Rattle.std.specs.Str.{NonePass}
@@ -52,7 +52,7 @@ open_brace = 123
 abbrev pub close_brace : ℕ
 close_brace = 125
 
--- space, LF, CR and TAB
+-- WebAssembly 2.0, 6.2.3: a whitespace character is a space, LF, CR or TAB.
 abbrev pub is_whitespace : ℕ → Bool
 is_whitespace c = char_set_contains (32 ∷ line_feed ∷ carriage_return ∷ 9 ∷ []) c
 
@@ -65,34 +65,36 @@ is_idchar c = is_ascii_alphanumeric c || char_set_contains (codes "!#$%&'*+-./:<
 abbrev pub is_hex : ℕ → Bool
 is_hex c = is_ascii_hexdigit c
 
--- the characters that are a reserved token of their own, apart from `;`
+-- The characters `,`, `[`, `]`, `{` and `}`, each of which is a reserved token by itself. So is `;`, which
+-- `Punctuation` adds.
 abbrev pub is_punctuation : ℕ → Bool
 is_punctuation c = char_set_contains (codes ",[]{}") c
 
--- what a run is made of: an idchar, or the quote that begins a string
+-- A character that begins an element of a run: an idchar, or the quotation mark of a string.
 abbrev pub is_run_char : ℕ → Bool
 is_run_char c = is_idchar c || c == quote
 
--- The nine characters that can make a text look other than it is: U+202A, U+202B, U+202D, U+202E, U+2066 to U+2069,
--- U+206C. The standard allows them; a lexer refuses them in comments and strings unless told otherwise.
+-- The 9 confusing characters: U+202A, U+202B, U+202D, U+202E, U+2066 to U+2069 and U+206C. They can make a text appear
+-- different from what it is. The standard allows them; the lexer rejects them in comments and strings, unless its flag
+-- `allow` is set.
 abbrev pub is_confusing : ℕ → Bool
 is_confusing c = char_set_contains (0x202A ∷ 0x202B ∷ 0x202D ∷ 0x202E ∷ 0x2066 ∷ 0x2067 ∷ 0x2068 ∷ 0x2069 ∷ 0x206C ∷ []) c
 
--- each character passes
+-- `Each p cs`: every character of `cs` passes the test `p`.
 abbrev pub Each : (ℕ → Bool) → List ℕ → Type 0
 Each p [] = Unit {0}
 Each p (c ∷ cs) = IsTrue (p c) × Each p cs
 
--- there is a first character, and it passes
+-- `Begins p cs`: `cs` is not empty, and its first character passes the test `p`.
 abbrev pub Begins : (ℕ → Bool) → List ℕ → Type 0
 Begins p [] = ⊥
 Begins p (c ∷ cs) = IsTrue (p c)
 
--- there is no confusing character, unless these are allowed
+-- `IsClear allow w`: `w` has no confusing character, unless `allow` is set.
 abbrev pub IsClear : Bool → List ℕ → Type 0
 IsClear true w = Unit {0}
 IsClear false w = NonePass is_confusing w
 
--- the bytes that the characters take
+-- The length in bytes of the UTF-8 encoding of the characters.
 abbrev pub size : List ℕ → ℕ
 size cs = length (encode_utf8_all cs)

@@ -1,6 +1,6 @@
--- WebAssembly specification, text format, values: strings. A string is a quote, elements and a quote; its value is the
--- joined bytes of its elements. With strict underscores the number of an escape is the standard's; without them doubled
--- underscores in it are taken too.
+-- WebAssembly 2.0, 6.3.3 (strings): a string is a quotation mark, elements, and a quotation mark. Its value is the
+-- joined bytes of its elements. If the flag `strict` is set, the number of an escape `\u{..}` is that of the standard;
+-- otherwise it may have several underscores in a row.
 use Rattle.std.specs.Prelude.{◌≡◌, ◌≢◌, ◌<◌, ◌+◌, ◌*◌, ◌^◌, ℕ, Bool, true, not, ◌&&◌, ◌||◌, ◌==◌, nat_lt, List, [], ◌∷◌, ◌++◌, IsTrue, Option, Some, None, if◌then◌else◌, encode_utf8}
 use Rattle.std.specs.Char.{IsScalar, digit_value}
 use Rattle.std.specs.Str.Parse.{digits_value}
@@ -11,11 +11,11 @@ use Rattle.wat_lex.specs.declared.lexer.settings.Settings.{Settings}
 abbrev pub is_control : ℕ → Bool
 is_control c = nat_lt c 0x20 || c == 0x7F
 
--- a character that stands for itself
+-- A character that stands for itself. Confusing characters do so only if the flag `allow` is set.
 abbrev pub is_raw : Settings → ℕ → Bool
 is_raw flags c = (not (is_control c) && not (c == quote) && not (c == backslash)) && (flags.allow || not (is_confusing c))
 
--- what a letter stands for after a backslash
+-- The byte that an escape of a backslash and this character denotes.
 abbrev pub letter_value : ℕ → Option ℕ
 letter_value c =
     if (c == quote || c == 39) || c == backslash then Some c
@@ -27,27 +27,28 @@ letter_value c =
 abbrev pub is_hex_or_underscore : ℕ → Bool
 is_hex_or_underscore c = is_hex c || c == underscore
 
--- the number that hexadecimal digits write, underscores apart
+-- The value of hexadecimal digits, without the underscores between them.
 abbrev pub hex_value : List ℕ → ℕ
 hex_value ds = digits_value 16 (filter is_hex ds)
 
--- no underscore follows directly on another
+-- No two underscores of `ds` are adjacent.
 abbrev pub IsParted : List ℕ → Type 0
 IsParted ds = (prefix back : List ℕ) → ds ≢ prefix ++ underscore ∷ underscore ∷ back
 
--- the last character is an underscore
+-- The last character of `ds` is an underscore.
 abbrev pub EndsInUnderscore : List ℕ → Type 0
 EndsInUnderscore ds = (prefix : List ℕ) × (ds ≡ prefix ++ underscore ∷ [])
 
--- A hexadecimal digit d, and ds, which are digits and underscores; together they write at most 2^32-1. With strict
--- underscores none of these follows directly on another.
+-- `HexRow flags d ds`: `d` is a hexadecimal digit, `ds` are digits and underscores, and their value is below 2^32. If
+-- `strict` is set, no two underscores are adjacent.
 pub record HexRow (flags : Settings) (d : ℕ) (ds : List ℕ) : Type 0 where
   pub first : IsTrue (is_hex d)
   pub others : Each is_hex_or_underscore ds
   pub small : hex_value (d ∷ ds) < 2 ^ 32
   pub parted : flags.strict ≡ true → IsParted ds
 
--- The text is an element of a string that has this value, and then the rest.
+-- WebAssembly 2.0, 6.3.3 (`stringelem`). `Element flags s v r`: `s` is an element of a string with the value `v`, and
+-- then `r`.
 pub data Element : Settings → List ℕ → List ℕ → List ℕ → Type 0 where
   raw : {flags : Settings} {c : ℕ} {r : List ℕ} → IsTrue (is_raw flags c) → Element flags (c ∷ r) (encode_utf8 c) r
   letter : {flags : Settings} {c v : ℕ} {r : List ℕ} → letter_value c ≡ Some v → Element flags (backslash ∷ c ∷ r) (v ∷ []) r
@@ -55,11 +56,11 @@ pub data Element : Settings → List ℕ → List ℕ → List ℕ → Type 0 wh
   unicode : {flags : Settings} {d : ℕ} {s r : List ℕ} (ds : List ℕ) → s ≡ ds ++ close_brace ∷ r → HexRow flags d ds → (EndsInUnderscore ds → ⊥) → IsScalar (hex_value (d ∷ ds))
       → Element flags (backslash ∷ letter_u ∷ open_brace ∷ d ∷ s) (encode_utf8 (hex_value (d ∷ ds))) r
 
--- The text is elements and a quote, with this joined value, and then the rest.
+-- `Quoted flags s v r`: `s` is elements with the joined value `v`, a closing quotation mark, and then `r`.
 pub data Quoted : Settings → List ℕ → List ℕ → List ℕ → Type 0 where
   ends : {flags : Settings} {r : List ℕ} → Quoted flags (quote ∷ r) [] r
   more : {flags : Settings} {s t u v r : List ℕ} → Element flags s u t → Quoted flags t v r → Quoted flags s (u ++ v) r
 
--- a string word with this value
+-- `StringWord flags w v`: the lexeme `w` is a string with the value `v`.
 pub data StringWord : Settings → List ℕ → List ℕ → Type 0 where
   quoted : {flags : Settings} {t v : List ℕ} → Quoted flags t v [] → StringWord flags (quote ∷ t) v

@@ -1,5 +1,5 @@
--- Identifiers and indices as keys: that two of them are the same is an equivalence, and those that are the same feed a hasher
--- alike. No part of the standard.
+-- Identifiers and indices as keys: their equality is an equivalence relation, and equal ones feed the same input to a
+-- hasher. The standard has no such keys.
 use Rattle.std.specs.Prelude.{◌≡◌, true, ◌++◌, ◌==◌, refl, nat_eq}
 use Rattle.std.specs.Cmp.Lexicographic.{nat_list_eq_equiv, pointwise, same_text}
 use Rattle.std.proofs.Common.{ap, sym, ◌∙◌}

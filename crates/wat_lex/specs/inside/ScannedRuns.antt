@@ -1,4 +1,4 @@
--- What the reader of runs inside the lexer answers. No part of the standard.
+-- Results of the function that scans a run.
 use Rattle.std.specs.Prelude.{◌≡◌, ◌+◌, ℕ, List, [], ◌∷◌, encode_utf8_all, length}
 use Rattle.std.specs.Str.{chars}
 use Rattle.wat_lex.specs.grammar.Classes.{size}
@@ -18,7 +18,8 @@ string_count [] = 0
 string_count (Idchar c ∷ ps) = string_count ps
 string_count (Quoted v ∷ ps) = 1 + string_count ps
 
--- the text is a run of so many bytes, idchars and strings, and then a rest that does not lengthen it
+-- `RunFound flags text found`: the text begins with a run of this length, with these counts of idchars and strings, and
+-- what follows does not extend the run.
 pub record RunFound (flags : Settings) (text : List ℕ) (found : Pieces) : Type 0 where
   pub pieces : List Piece
   pub rest : List ℕ
@@ -28,7 +29,8 @@ pub record RunFound (flags : Settings) (text : List ℕ) (found : Pieces) : Type
   pub first : found.idchars ≡ idchar_count pieces
   pub second : found.strings ≡ string_count pieces
 
--- the kind of any run that these bytes are and that has so many idchars and strings
+-- `IsKindOfRun bytes idchars strings kind`: every run with these bytes, and with these counts of idchars and strings,
+-- has this kind.
 abbrev pub IsKindOfRun : List ℕ → ℕ → ℕ → TokenKind → Type 0
 IsKindOfRun bytes idchars strings kind =
     (flags : Settings) (w : List ℕ) (ps : List Piece) → bytes ≡ encode_utf8_all w → Run flags w ps [] → idchars ≡ idchar_count ps → strings ≡ string_count ps → RunKind ps kind

@@ -1,4 +1,4 @@
--- WebAssembly specification, text format, lexical format: tokens, annotations. A word of idchars alone, to which no string is joined.
+-- WebAssembly 2.0, 6.2.2 (tokens), and the annotations proposal: idchars that no string follows directly.
 use Rattle.std.specs.Prelude.{◌≡◌, ◌≢◌, ◌+◌, ℕ, ◌==◌, List, slice_index, if◌then◌else◌}
 use Rattle.std.specs.List.{prefix_len}
 use Rattle.wat_lex.specs.declared.lexer.kinds.Token.{Token}
@@ -7,11 +7,12 @@ use Rattle.wat_lex.specs.grammar.Classes.{is_idchar, at_sign, quote}
 use Rattle.wat_lex.specs.tokens.Setting.{Setting}
 use Rattle.wat_lex.specs.tokens.Tiling.{TokenAt}
 
--- the bytes of idchars at the start: of the word that they are, 0 where a string is joined to them
+-- The length in bytes of the idchars at the start of the text, or 0 if a string follows them directly.
 abbrev pub bare_len : List ℕ → ℕ
 bare_len text = if slice_index text (prefix_len is_idchar text) == quote then 0 else prefix_len is_idchar text
 
--- the token from the byte p up to the byte q is such a word: no parenthesis, and an annotation where `@` comes first
+-- `BareWordAt s p q`: bytes `p` to `q` are a token that is not a parenthesis, and that is an annotation if its first
+-- byte is `@`.
 pub record BareWordAt (s : Setting) (p q : ℕ) : Type 0 where
   pub token : Token
   pub there : TokenAt s p token

@@ -1,4 +1,5 @@
--- WebAssembly specification, text format, lexical format: white space, comments; annotations, which begin with `(@`. Tests of a token.
+-- WebAssembly 2.0, 6.2.3 (whitespace) and 6.2.4 (comments), and the annotations proposal, whose annotations begin with
+-- `(@`: tests of a token.
 use Rattle.std.specs.Prelude.{◌+◌, ◌==◌, ℕ, Bool, true, false, ◌||◌, List, slice_get, option_map, unwrap_or}
 use Rattle.wat_lex.specs.grammar.Classes.{at_sign}
 use Rattle.wat_lex.specs.declared.lexer.kinds.Token.{Token}
@@ -17,6 +18,6 @@ is_comment kind = false
 abbrev pub is_blank : TokenKind → Bool
 is_blank kind = is_space kind || is_comment kind
 
--- the byte of the text after the token's first is `@`
+-- `is_marked text t`: the byte after the first byte of the token is `@`.
 abbrev pub is_marked : List ℕ → Token → Bool
 is_marked text t = unwrap_or (option_map (λ b. b == at_sign) (slice_get text (t.offset + 1))) false

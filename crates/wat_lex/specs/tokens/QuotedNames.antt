@@ -1,4 +1,4 @@
--- WebAssembly specification, text format, lexical format: annotations. An annotation whose name is a string without escapes.
+-- The annotations proposal: an annotation whose name is a string without escapes.
 use Rattle.std.specs.Prelude.{◌≡◌, ◌+◌, ℕ, Bool, ◌==◌, ◌&&◌, not, nat_lt, List, drop, slice_index, if◌then◌else◌, Ok}
 use Rattle.std.specs.List.{prefix_len}
 use Rattle.wat_lex.specs.declared.lexer.faults.LexError.TheVariants.{EmptyAnnotation}
@@ -11,15 +11,17 @@ use Rattle.wat_lex.specs.tokens.Setting.{Setting}
 use Rattle.wat_lex.specs.tokens.Tiling.{TokenAt}
 use Rattle.wat_lex.specs.values.WordValues.{name_value}
 
--- so many bytes, one at least, are between the quotes of an annotation at the start, to which nothing is joined
+-- `is_quoted_name text n`: the text begins with `@"`, `n` bytes and `"`; `n` is not 0, and no idchar or string follows
+-- directly.
 abbrev pub is_quoted_name : List ℕ → ℕ → Bool
 is_quoted_name text n = (slice_index text 0 == at_sign && slice_index text 1 == quote) && ((nat_lt 0 n && slice_index text (n + 2) == quote) && not (is_run_char (slice_index text (n + 3))))
 
--- the bytes of such an annotation, 0 where none is
+-- The length in bytes of such an annotation at the start of the text if all bytes of its name are `is_plain`, or 0
+-- otherwise.
 abbrev pub quoted_name_len : List ℕ → ℕ
 quoted_name_len text = if is_quoted_name text (prefix_len is_plain (drop 2 text)) then prefix_len is_plain (drop 2 text) + 3 else 0
 
--- the token from the byte p up to the byte q is an annotation, and has a name
+-- `NamedAt s p q`: bytes `p` to `q` are an annotation token with a valid name.
 pub record NamedAt (s : Setting) (p q : ℕ) : Type 0 where
   pub token : Token
   pub there : TokenAt s p token

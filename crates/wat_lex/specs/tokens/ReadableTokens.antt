@@ -1,5 +1,5 @@
--- WebAssembly specification, text format, lexical format: what a token of a text is to its readers, whichever lexer found
--- it.
+-- WebAssembly 2.0, 6.2.2 (tokens): the precondition of the functions that return the value of a token. It does not
+-- depend on the lexer that found the token.
 use Rattle.std.specs.Prelude.{◌≡◌, ℕ, List, ◌++◌, take, drop}
 use Rattle.std.specs.Str.{chars, IsCharBoundary}
 use Rattle.wat_lex.specs.grammar.Classes.{size}
@@ -7,7 +7,8 @@ use Rattle.wat_lex.specs.tokens.Setting.{lenient}
 use Rattle.wat_lex.specs.grammar.Words.{Word}
 use Rattle.wat_lex.specs.declared.lexer.kinds.Token.{Token}
 
--- the token is a word of its kind in the text, under the flags that take most
+-- `IsTokenOf text t`: `t` is a token of the text. Its lexeme is in the language of its kind, under the most permissive
+-- flags.
 pub record IsTokenOf (text : List ℕ) (t : Token) : Type 0 where
   pub boundary : IsCharBoundary text t.offset
   pub word : List ℕ
@@ -16,10 +17,10 @@ pub record IsTokenOf (text : List ℕ) (t : Token) : Type 0 where
   pub is : Word t.kind word lenient
   pub len : t.len ≡ size word
 
--- the bytes of the token
+-- The bytes of a token in its text.
 abbrev pub token_text : List ℕ → Token → List ℕ
 token_text text t = take t.len (drop t.offset text)
 
--- the word of a token of a text, of which `IsTokenOf` holds
+-- The lexeme of a token of a text, if `IsTokenOf` holds.
 abbrev pub word_of : List ℕ → Token → List ℕ
 word_of text t = chars (token_text text t)

@@ -1,6 +1,7 @@
--- Where tokens are read again after a fault. A rule of our own: neither the standard nor the crate `wast` has one. What a fault covers is
--- passed over: the character with which no word begins, the `(;` that nothing closes, the comment with a confusing character, and in a
--- string the run up to where the string ends in its line.
+-- Error recovery: the offset at which lexing resumes after a lexical error. Neither the standard nor the crate `wast`
+-- has such a rule. Lexing skips what the error covers: a character that begins no lexeme, an unclosed `(;`, a comment
+-- with a confusing character, or a run with a malformed string, up to the closing quotation mark of the string or the
+-- end of the line.
 use Rattle.std.specs.Prelude.{◌≡◌, ◌+◌, ℕ, Bool, not, ◌&&◌, ◌||◌, ◌==◌, List, [], ◌∷◌, IsTrue, length, drop}
 use Rattle.std.specs.Str.{chars}
 use Rattle.wat_lex.specs.grammar.Classes.{quote, open_paren, semicolon, backslash, is_line_end, size, Begins}
@@ -15,38 +16,39 @@ use Rattle.wat_lex.specs.declared.lexer.faults.LexError.{LexError}
 use Rattle.wat_lex.specs.declared.lexer.faults.LexError.TheVariants.{DanglingBlockComment, Unexpected, ConfusingUnicode}
 use Rattle.wat_lex.specs.declared.lexer.faults.LexFault.{LexFault}
 
--- neither a quote nor a line's end
+-- A character other than a quotation mark and the end of a line.
 abbrev pub is_inside : ℕ → Bool
 is_inside c = not (c == quote) && not (is_line_end c)
 
--- what a backslash escapes
+-- A character that a backslash escapes in a skipped string.
 abbrev pub is_escaped : ℕ → Bool
 is_escaped c = c == quote || c == backslash
 
--- After its opening quote a string at fault is these characters, and then the rest.
-pub data PassesString : List ℕ → List ℕ → Type 0 where
-  -- the quote that ends it
-  closed : {r : List ℕ} → PassesString (quote ∷ r) r
-  -- else it ends before the line's end, or at the text's
-  line_end : {c : ℕ} {t : List ℕ} → IsTrue (is_line_end c) → PassesString (c ∷ t) (c ∷ t)
-  text_end : PassesString [] []
-  -- a backslash and what it escapes
-  escape : {c : ℕ} {t r : List ℕ} → IsTrue (is_escaped c) → PassesString t r → PassesString (backslash ∷ c ∷ t) r
-  -- any other character
-  inside : {c : ℕ} {t r : List ℕ} → IsTrue (is_inside c) → (c ≡ backslash → Begins is_escaped t → ⊥) → PassesString t r → PassesString (c ∷ t) r
+-- `SkipsString s r`: in the text `s` after the opening quotation mark of a malformed string, all up to the rest `r` is
+-- skipped.
+pub data SkipsString : List ℕ → List ℕ → Type 0 where
+  -- Its closing quotation mark is skipped.
+  closed : {r : List ℕ} → SkipsString (quote ∷ r) r
+  -- Without a closing quotation mark it ends before the end of the line, or at the end of the text.
+  line_end : {c : ℕ} {t : List ℕ} → IsTrue (is_line_end c) → SkipsString (c ∷ t) (c ∷ t)
+  text_end : SkipsString [] []
+  -- A backslash is skipped with the character that it escapes.
+  escape : {c : ℕ} {t r : List ℕ} → IsTrue (is_escaped c) → SkipsString t r → SkipsString (backslash ∷ c ∷ t) r
+  -- Any other character is skipped.
+  inside : {c : ℕ} {t r : List ℕ} → IsTrue (is_inside c) → (c ≡ backslash → Begins is_escaped t → ⊥) → SkipsString t r → SkipsString (c ∷ t) r
 
--- The fault that the text begins with covers it up to the rest.
+-- `Covers flags s e r`: the error `e` at the start of `s` covers the text up to the rest `r`.
 pub data Covers : Settings → List ℕ → LexError → List ℕ → Type 0 where
-  -- the character with which no word begins
+  -- The character that begins no lexeme.
   character : {flags : Settings} {c : ℕ} {r : List ℕ} → Covers flags (c ∷ r) (Unexpected c) r
-  -- the `(;` that nothing closes
+  -- The unclosed `(;`.
   opening : {flags : Settings} {r : List ℕ} → Covers flags (open_paren ∷ semicolon ∷ r) DanglingBlockComment r
-  -- the comment that would be here if confusing characters were allowed
+  -- What would be a comment if confusing characters were allowed.
   comment : {flags : Settings} {s r w : List ℕ} {c : ℕ} {kind : TokenKind} → IsComment kind → WordIsAt (allowing flags) s kind w r → Covers flags s (ConfusingUnicode c) r
-  -- the run's idchars and strings up to the string that goes wrong, and that string
-  run : {flags : Settings} {s t at r : List ℕ} {ps : List Piece} {e : LexError} → Run flags s ps (quote ∷ t) → StringFault flags t e at → PassesString t r → Covers flags s e r
+  -- The idchars and strings of the run before the malformed string, and that string.
+  run : {flags : Settings} {s t at r : List ℕ} {ps : List Piece} {e : LexError} → Run flags s ps (quote ∷ t) → StringFault flags t e at → SkipsString t r → Covers flags s e r
 
--- After the fault at the byte p of the text, tokens are read again from the byte q on.
+-- `ResumesAt s p f q`: after the lexical error `f` at byte `p`, lexing resumes at byte `q`.
 pub record ResumesAt (s : Setting) (p : ℕ) (f : LexFault) (q : ℕ) : Type 0 where
   pub rest : List ℕ
   pub covers : Covers s.flags (chars (drop p s.text)) f.error rest

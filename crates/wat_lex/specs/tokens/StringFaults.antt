@@ -1,5 +1,5 @@
--- WebAssembly specification, text format, values: strings. How a text that begins as a string goes wrong: good elements
--- first, and then one of the cases below. Each names the error and the text from the place where it is reported.
+-- WebAssembly 2.0, 6.3.3 (strings): the errors inside a string. Valid elements come first, and then one of the cases
+-- below. Each gives the error, and the rest of the text from the offset where it is reported.
 use Rattle.std.specs.Prelude.{◌≡◌, ◌≢◌, ◌≤◌, ◌^◌, ℕ, true, false, List, [], ◌∷◌, ◌++◌, IsTrue, None}
 use Rattle.std.specs.Char.{IsScalar}
 use Rattle.wat_lex.specs.grammar.Classes.{backslash, underscore, letter_u, open_brace, close_brace, is_hex, is_confusing, Begins}
@@ -8,24 +8,26 @@ use Rattle.wat_lex.specs.declared.lexer.settings.Settings.{Settings}
 use Rattle.wat_lex.specs.declared.lexer.faults.LexError.{LexError}
 use Rattle.wat_lex.specs.declared.lexer.faults.LexError.TheVariants.{InvalidStringElement, InvalidStringEscape, InvalidHexDigit, Expected, UnexpectedEof, NumberTooBig, InvalidUnicodeValue, LoneUnderscore, ConfusingUnicode}
 
--- A fault of the number in `\u{`, whose first digit d comes before the text.
+-- `NumberFault flags d s e at`: in the escape `\u{..}` with the first digit `d`, the text `s` after `d` has the error
+-- `e`, which is reported at the rest `at`.
 pub data NumberFault : Settings → ℕ → List ℕ → LexError → List ℕ → Type 0 where
-  -- with the digit e the number passes 2^32-1
+  -- With the digit `e` the value exceeds 2^32-1.
   too_big : {flags : Settings} {d e : ℕ} {s t : List ℕ} (ds : List ℕ) → s ≡ ds ++ e ∷ t → HexRow flags d ds → IsTrue (is_hex e) → 2 ^ 32 ≤ hex_value (d ∷ ds ++ e ∷ []) → NumberFault flags d s NumberTooBig (e ∷ t)
-  -- with strict underscores, an underscore directly after another
+  -- An underscore follows another one directly, and `strict` is set.
   doubled : {flags : Settings} {d : ℕ} {s t : List ℕ} (ds : List ℕ) → s ≡ ds ++ underscore ∷ t → HexRow flags d ds → flags.strict ≡ true → EndsInUnderscore ds → NumberFault flags d s LoneUnderscore (underscore ∷ t)
-  -- the digits and underscores end in an underscore
+  -- The digits and underscores end in an underscore.
   lone : {flags : Settings} {d : ℕ} {s t : List ℕ} (ds : List ℕ) → s ≡ ds ++ underscore ∷ t → HexRow flags d ds → (Begins is_hex_or_underscore t → ⊥) → NumberFault flags d s LoneUnderscore (underscore ∷ t)
-  -- they end in the digit e, and write no scalar value
+  -- The digits and underscores end in the digit `e`, and their value is not a Unicode scalar value.
   no_scalar : {flags : Settings} {d e : ℕ} {s t : List ℕ} (ds : List ℕ) → s ≡ ds ++ e ∷ t → HexRow flags d (ds ++ e ∷ []) → IsTrue (is_hex e) → (Begins is_hex_or_underscore t → ⊥)
       → (IsScalar (hex_value (d ∷ ds ++ e ∷ [])) → ⊥) → NumberFault flags d s (InvalidUnicodeValue (hex_value (d ∷ ds ++ e ∷ []))) (e ∷ t)
-  -- another character than `}` comes after them
+  -- A character other than `}` follows the digits and underscores.
   no_brace : {flags : Settings} {d c : ℕ} {s t : List ℕ} (ds : List ℕ) → s ≡ ds ++ c ∷ t → HexRow flags d ds → (EndsInUnderscore ds → ⊥) → IsScalar (hex_value (d ∷ ds))
       → (IsTrue (is_hex_or_underscore c) → ⊥) → c ≢ close_brace → NumberFault flags d s (Expected close_brace c) (c ∷ t)
-  -- the text ends with them
+  -- The text ends after the digits and underscores.
   no_more : {flags : Settings} {d : ℕ} {s : List ℕ} → HexRow flags d s → (EndsInUnderscore s → ⊥) → IsScalar (hex_value (d ∷ s)) → NumberFault flags d s UnexpectedEof []
 
--- After its opening quote a string goes wrong: how, and the text from there on.
+-- `StringFault flags s e at`: the text `s` after the opening quotation mark of a string has the error `e`, which is
+-- reported at the rest `at`.
 pub data StringFault : Settings → List ℕ → LexError → List ℕ → Type 0 where
   later : {flags : Settings} {s t u at : List ℕ} {e : LexError} → Element flags s u t → StringFault flags t e at → StringFault flags s e at
   no_quote : {flags : Settings} → StringFault flags [] UnexpectedEof []

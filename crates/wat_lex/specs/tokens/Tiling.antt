@@ -1,5 +1,5 @@
--- WebAssembly specification, text format, lexical format: a text is a sequence of tokens, white space and comments, each
--- the longest that can be there.
+-- WebAssembly 2.0, 6.2 (lexical format): a source text is a sequence of tokens, whitespace and comments, each the
+-- longest possible.
 use Rattle.std.specs.Prelude.{◌≡◌, ◌+◌, ℕ, List, [], ◌∷◌, drop, length, Option, MatchOption}
 use Rattle.std.specs.Str.{chars}
 use Rattle.wat_lex.specs.grammar.Classes.{size}
@@ -9,7 +9,8 @@ use Rattle.wat_lex.specs.tokens.Faults.{FaultAt}
 use Rattle.wat_lex.specs.declared.lexer.kinds.Token.{Token}
 use Rattle.wat_lex.specs.declared.lexer.faults.LexFault.{LexFault}
 
--- the token is a word that is at the byte p of the text, and may be there
+-- `TokenAt s p t`: `t` is a token at byte `p`. Its lexeme is in the language of its kind, and what follows may follow
+-- it.
 pub record TokenAt (s : Setting) (p : ℕ) (t : Token) : Type 0 where
   pub offset : t.offset ≡ p
   pub word : List ℕ
@@ -17,17 +18,17 @@ pub record TokenAt (s : Setting) (p : ℕ) (t : Token) : Type 0 where
   pub is_at : WordIsAt s.flags (chars (drop p s.text)) t.kind word rest
   pub len : t.len ≡ size word
 
--- the tokens lie end to end from one place to another
+-- `Tiling s from to ts`: the tokens `ts` cover the bytes from `from` to `to` without gaps or overlaps.
 abbrev pub Tiling : Setting → ℕ → ℕ → List Token → Type 0
 Tiling s from to [] = from ≡ to
 Tiling s from to (t ∷ ts) = TokenAt s from t × Tiling s (t.offset + t.len) to ts
 
--- at the place the text ends, or it has this fault
+-- `EndsAt s to ending`: at byte `to` the text ends (`None`), or has this lexical error.
 abbrev pub EndsAt : Setting → ℕ → Option LexFault → Type 0
 EndsAt s to ending = MatchOption ending (to ≡ length s.text) (FaultAt s to)
 
--- The tokens lie end to end from the place on, up to where the text ends or has a fault: the raw tokens from there, and
--- their ending.
+-- `MaximalTiling s from tokens ending`: the tokens cover the text from byte `from` up to its end or its first lexical
+-- error. They are the raw tokens from there, with their ending.
 pub record MaximalTiling (s : Setting) (from : ℕ) (tokens : List Token) (ending : Option LexFault) : Type 0 where
   pub to : ℕ
   pub tiling : Tiling s from to tokens

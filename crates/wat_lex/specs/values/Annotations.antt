@@ -1,4 +1,4 @@
--- WebAssembly specification, text format, lexical format: annotations. What is at a position, asked for an annotation.
+-- The annotations proposal: the result of `Lexer::annotation` at a byte offset.
 use Rattle.std.specs.Prelude.{◌≡◌, ◌≢◌, ◌⊎◌, ◌==◌, ℕ, List, drop, Option, Some, None, Result, Ok, Err}
 use Rattle.wat_lex.specs.grammar.Classes.{at_sign, Begins}
 use Rattle.wat_lex.specs.errors.Errors.{Report}
@@ -8,15 +8,16 @@ use Rattle.wat_lex.specs.tokens.Tiling.{TokenAt}
 use Rattle.wat_lex.specs.declared.lexer.kinds.Token.{Token}
 use Rattle.wat_lex.specs.declared.lexer.kinds.TokenKind.TheVariants.{Annotation}
 
--- the byte there is `@`
+-- The byte at offset `p` is `@`.
 abbrev pub HasAtSign : List ℕ → ℕ → Type 0
 HasAtSign text p = Begins (λ b. b == at_sign) (drop p text)
 
--- another token is there
+-- At byte `p` there is a token of another kind.
 abbrev pub IsOther : Setting → ℕ → Type 0
 IsOther s p = (t : Token) × TokenAt s p t × (t.kind ≢ Annotation)
 
--- After a byte `@`: the token, None for a token of another kind, or the error of the fault. Without that byte, None.
+-- `AnnotationAt s p r`: if the byte at `p` is `@`, `r` is the annotation there, `None` if the token there has another
+-- kind, or the error of lexing it. Otherwise `r` is `None`.
 abbrev pub AnnotationAt : Setting → ℕ → Result (Option Token) (Option Report) → Type 0
 AnnotationAt s p (Ok (Some t)) = HasAtSign s.text p × TokenAt s p t × (t.kind ≡ Annotation)
 AnnotationAt s p (Ok None) = (HasAtSign s.text p → ⊥) ⊎ (HasAtSign s.text p × IsOther s p)

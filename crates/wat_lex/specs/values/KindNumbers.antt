@@ -1,4 +1,5 @@
--- The numbers of the kinds of tokens, for those who see a token as numbers. No part of the standard.
+-- The integer code of each kind of token, for interfaces that represent a token by integers. The standard has no such
+-- codes.
 use Rattle.std.specs.Prelude.{ℕ}
 use Rattle.wat_lex.specs.declared.lexer.kinds.FloatKind.TheVariants.{Inf, Nan, NanVal, Normal}
 use Rattle.wat_lex.specs.declared.lexer.kinds.TokenKind.{TokenKind}

@@ -1,5 +1,6 @@
--- WebAssembly specification, text format, values: strings, identifiers; lexical format: annotations. What the words of strings
--- and names read as, as functions of the word, beside the relations of `Strings` and `Names`. Of other words they say nothing.
+-- WebAssembly 2.0, 6.3.3 (strings) and 6.3.5 (identifiers), and the annotations proposal: the values of strings and
+-- names as functions of their lexemes. `Strings` and `Names` define them by relations. The results for other lexemes
+-- have no meaning.
 use Rattle.std.specs.Prelude.{ℕ, ◌+◌, ◌*◌, ◌==◌, List, [], ◌∷◌, ◌++◌, if◌then◌else◌, Some, None, Result, Ok, Err, encode_utf8, encode_utf8_all}
 use Rattle.std.specs.Char.{digit_value}
 use Rattle.std.specs.Cow.{cow_str_bytes}
@@ -12,8 +13,8 @@ use Rattle.wat_lex.specs.declared.lexer.faults.LexError.TheVariants.{InvalidUtf8
 use Rattle.wat_lex.specs.declared.lexer.kinds.TokenKind.{TokenKind}
 use Rattle.wat_lex.specs.declared.lexer.kinds.TokenKind.TheVariants.{Annotation}
 
--- where in a string's word a character is: between elements, after a backslash, after it and one hexadecimal digit,
--- after `\u`, or after `\u{` and these digits and underscores, none at first
+-- The position of a character in a string: between elements, after a backslash, after a backslash and this hexadecimal
+-- digit, after `\u`, or after `\u{` and these digits and underscores.
 pub data Within : Type 0 where
   Between : Within
   Escaped : Within
@@ -21,7 +22,7 @@ pub data Within : Type 0 where
   Braced : Within
   Row : List ℕ → Within
 
--- the joined bytes of a string's elements from such a place on, up to its closing quote
+-- The joined bytes of a string's elements from this position up to the closing quotation mark.
 unfoldable pub elements_value : Within → List ℕ → List ℕ
 elements_value m [] = []
 elements_value Between (c ∷ t) = if c == quote then [] else if c == backslash then elements_value Escaped t else encode_utf8 c ++ elements_value Between t
@@ -33,36 +34,36 @@ elements_value (Byte d) (c ∷ t) = (16 * digit_value d + digit_value c) ∷ ele
 elements_value Braced (c ∷ t) = elements_value (Row []) t
 elements_value (Row ds) (c ∷ t) = if c == close_brace then encode_utf8 (hex_value ds) ++ elements_value Between t else elements_value (Row (ds ++ c ∷ [])) t
 
--- the value of a string's word
+-- The value of a string.
 unfoldable pub string_value : List ℕ → List ℕ
 string_value [] = []
 string_value (c ∷ t) = elements_value Between t
 
--- a name's bytes: those of a string, or its own
+-- The bytes of a name: the value of a string, or the bytes of idchars.
 unfoldable pub named_bytes : List ℕ → List ℕ
 named_bytes [] = []
 named_bytes (c ∷ t) = if c == quote then elements_value Between t else encode_utf8_all (c ∷ t)
 
--- the bytes of the name after a word's first character
+-- The bytes of the name that follows the first character of a lexeme.
 unfoldable pub name_bytes : List ℕ → List ℕ
 name_bytes [] = []
 name_bytes (c ∷ t) = named_bytes t
 
--- a name that is not empty and is UTF-8, or what is wrong with it
+-- A name that is UTF-8 and not empty, or its error. An empty name has the error `empty`.
 unfoldable pub checked_name : LexError → List ℕ → Result (List ℕ) LexError
 checked_name empty [] = Err empty
 checked_name empty (b ∷ bs) = if is_utf8 (b ∷ bs) then Ok (b ∷ bs) else Err InvalidUtf8Id
 
--- the name of a word, or what is wrong with it, where `empty` is the error of an empty one
+-- The name of a lexeme, or its error. An empty name has the error `empty`.
 unfoldable pub name_value : LexError → List ℕ → Result (List ℕ) LexError
 name_value empty w = checked_name empty (name_bytes w)
 
--- the error of an empty name, by the kind of its word
+-- The error of an empty name, by the kind of its token.
 abbrev pub empty_name : TokenKind → LexError
 empty_name Annotation = EmptyAnnotation
 empty_name kind = EmptyId
 
--- what a reader of names answers, its bytes for its text
+-- The result of a function that returns a name, with the bytes of the name.
 abbrev pub name_answer : {Z : Type 0} → Result (CowStr Z) LexError → Result (List ℕ) LexError
 name_answer (Ok name) = Ok (cow_str_bytes name)
 name_answer (Err error) = Err error

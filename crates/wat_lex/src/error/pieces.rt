@@ -1,30 +1,34 @@
-//! What is printed, in pieces: for a formatter, or laid into bytes.
+//! Chunks of printed output, which are written to a formatter or into a byte buffer.
 ghost use Rattle.std.specs.Prelude.{◌≡◌, ◌≤◌, ◌<◌, ◌^◌, ◌⊎◌, false, flat_map, length, replicate};
 ghost use Rattle.std.specs.Fmt.{digits, WritesOnOk};
-ghost use Rattle.wat_lex.specs.errors.LaidPieces.{LaysMore};
+ghost use Rattle.wat_lex.specs.errors.LaidPieces.{WritesAfter};
 ghost use Rattle.wat_lex.specs.errors.PieceTexts.{piece_text};
-ghost use Rattle.wat_lex.specs.errors.Rendering.{shown_line};
+ghost use Rattle.wat_lex.specs.errors.Rendering.{rendered_line};
 
 use crate::error::shown::Line;
 use crate::error::stretches::split_shown;
 use std::{fmt, str};
 
-/// A piece of what is printed.
+/// A chunk of printed output.
 #[derive(Clone, Copy)]
 pub enum Piece<'a> {
+    /// A text, unchanged.
     Text(&'a str),
+    /// A character, in UTF-8.
     Character(char),
+    /// An integer in decimal digits.
     Decimal(usize),
+    /// An integer in lowercase hexadecimal digits.
     Hexadecimal(u32),
-    /// A number that has four places at least.
+    /// An integer in decimal digits, padded with spaces to a width of 4.
     LineNumber(usize),
-    /// A line as it is shown.
+    /// A source line, as it is displayed.
     Line(Line<'a>),
-    /// The marker below a column, from 1.
+    /// A `^` below a column, counted from 1, with spaces before it.
     Marker(usize),
 }
 
-/// Prints pieces.
+/// Writes chunks to a formatter.
 pub fn print<W: fmt::Write>(pieces: &[Piece], f: &mut fmt::Formatter<W>) -> fmt::Result
     ensures { WritesOnOk W.write_str_gives f.old result (flat_map piece_text pieces.now) f.new }
 {
@@ -34,11 +38,11 @@ pub fn print<W: fmt::Write>(pieces: &[Piece], f: &mut fmt::Formatter<W>) -> fmt:
     Ok(())
 }
 
-/// Lays pieces into bytes from a place on, as much of them as there is room for, and answers
-/// where they end.
-pub fn lay_all(pieces: &[Piece], out: &mut [u8], at: usize) -> usize
+/// Writes chunks to a buffer, starting at index `at`, until the buffer is full. Returns the index
+/// after the last byte written.
+pub fn write_chunks(pieces: &[Piece], out: &mut [u8], at: usize) -> usize
     requires { at ≤ length out.old }
-    ensures { LaysMore out.old at (flat_map piece_text pieces.now) out.new result }
+    ensures { WritesAfter out.old at (flat_map piece_text pieces.now) out.new result }
 {
     let mut at = at;
     for piece in pieces {
@@ -47,7 +51,7 @@ pub fn lay_all(pieces: &[Piece], out: &mut [u8], at: usize) -> usize
     at
 }
 
-/// How many bytes pieces have.
+/// Returns the length of the chunks' output in bytes.
 pub fn length_of(pieces: &[Piece]) -> usize
     requires { length (flat_map piece_text pieces.now) < 2 ^ 64 }
     ensures { result ≡ length (flat_map piece_text pieces.now) }
@@ -80,6 +84,7 @@ impl fmt::Display for Piece<'_> {
 }
 
 impl Piece<'_> {
+    /// Returns the length of the chunk's output in bytes.
     fn length(&self) -> usize
         requires { length (piece_text self.now) < 2 ^ 64 }
         ensures { result ≡ length (piece_text self.now) }
@@ -95,9 +100,11 @@ impl Piece<'_> {
         }
     }
 
+    /// Writes the chunk to a buffer, starting at index `at`, until the buffer is full. Returns the
+    /// index after the last byte written.
     fn lay(&self, out: &mut [u8], at: usize) -> usize
         requires { at ≤ length out.old }
-        ensures { LaysMore out.old at (piece_text self.now) out.new result }
+        ensures { WritesAfter out.old at (piece_text self.now) out.new result }
     {
         match *self {
             Piece::Text(text) => lay(text, out, at),
@@ -107,22 +114,23 @@ impl Piece<'_> {
             Piece::LineNumber(number) => {
                 let mut room = [0; 20];
                 let number = digits(number, 10, &mut room);
-                let at = lay_spaces(4usize.saturating_sub(number.len()), out, at);
+                let at = write_spaces(4usize.saturating_sub(number.len()), out, at);
                 lay(number, out, at)
             }
-            Piece::Line(line) => lay_line(line, out, at),
+            Piece::Line(line) => write_line(line, out, at),
             Piece::Marker(column) => {
-                let at = lay_spaces(column.saturating_sub(1), out, at);
+                let at = write_spaces(column.saturating_sub(1), out, at);
                 lay("^", out, at)
             }
         }
     }
 }
 
-/// Lays a text.
+/// Writes a text to a buffer, starting at index `at`, until the buffer is full. Returns the index
+/// after the last byte written.
 fn lay(text: &str, out: &mut [u8], at: usize) -> usize
     requires { at ≤ length out.old }
-    ensures { LaysMore out.old at text.now out.new result }
+    ensures { WritesAfter out.old at text.now out.new result }
 {
     let text = text.as_bytes();
     let room = out.len() - at;
@@ -131,9 +139,11 @@ fn lay(text: &str, out: &mut [u8], at: usize) -> usize
     at + count
 }
 
-fn lay_spaces(count: usize, out: &mut [u8], at: usize) -> usize
+/// Writes `count` spaces to a buffer, starting at index `at`, until the buffer is full. Returns the
+/// index after the last byte written.
+fn write_spaces(count: usize, out: &mut [u8], at: usize) -> usize
     requires { at ≤ length out.old }
-    ensures { LaysMore out.old at (replicate count 32) out.new result }
+    ensures { WritesAfter out.old at (replicate count 32) out.new result }
 {
     let mut at = at;
     for _ in 0..count {
@@ -142,10 +152,11 @@ fn lay_spaces(count: usize, out: &mut [u8], at: usize) -> usize
     at
 }
 
-/// Lays a line as it is shown.
-fn lay_line(line: Line, out: &mut [u8], at: usize) -> usize
+/// Writes a line to a buffer as it is displayed, starting at index `at`, until the buffer is full.
+/// Returns the index after the last byte written.
+fn write_line(line: Line, out: &mut [u8], at: usize) -> usize
     requires { at ≤ length out.old }
-    ensures { LaysMore out.old at (shown_line line.entry.0.now) out.new result }
+    ensures { WritesAfter out.old at (rendered_line line.entry.0.now) out.new result }
 {
     let mut at = at;
     let mut rest = line.0;
@@ -156,10 +167,10 @@ fn lay_line(line: Line, out: &mut [u8], at: usize) -> usize
     at
 }
 
-/// How many bytes a line is shown in.
+/// Returns the length in bytes of a line as it is displayed.
 fn line_length(line: Line) -> usize
-    requires { length (shown_line line.0.now) < 2 ^ 64 }
-    ensures { result ≡ length (shown_line line.entry.0.now) }
+    requires { length (rendered_line line.0.now) < 2 ^ 64 }
+    ensures { result ≡ length (rendered_line line.entry.0.now) }
 {
     let mut length = 0;
     let mut rest = line.0;
@@ -170,7 +181,8 @@ fn line_length(line: Line) -> usize
     length
 }
 
-/// The digits of a number in base 10 or 16, at the end of the room for them.
+/// Returns the digits of an integer in base 10 or 16, lowercase and without leading zeros, written
+/// to the end of a buffer.
 fn digits(number: usize, base: usize, room: &mut [u8; 20]) -> &str
     requires { (base ≡ 10) ⊎ (base ≡ 16) }
     ensures { result.now ≡ digits base false number }

@@ -1,16 +1,17 @@
-//! A fault in its text.
+//! A lexical error that is printed with its source line, without an allocation.
 ghost use Rattle.std.specs.Prelude.{◌≡◌, ◌<◌, ◌^◌, length, min};
 ghost use Rattle.wat_lex.specs.errors.Errors.{rendered_fault};
-ghost use Rattle.wat_lex.specs.errors.Rendering.{excerpt, laid_over};
+ghost use Rattle.wat_lex.specs.errors.Rendering.{excerpt, overwrite_start};
 
-use crate::error::pieces::{lay_all, length_of};
+use crate::error::pieces::{length_of, write_chunks};
 use crate::error::text::Excerpt;
 use crate::lexer::LexFault;
 use crate::token::Span;
 use std::fmt;
 use std::marker::Model;
 
-/// A fault of a text, which prints as its [`Error`](crate::error::Error) does, and takes no memory.
+/// A lexical error of a text. It prints what its [`Error`](crate::error::Error) prints, and does
+/// not allocate.
 #[derive(Drop)]
 pub struct Rendered<'a> {
     text: &'a str,
@@ -27,14 +28,14 @@ impl<'a> Model for Rendered<'a> {
 }
 
 impl<'a> Rendered<'a> {
-    /// The fault of a text, to be printed.
+    /// Pairs a text with a lexical error of it, for printing.
     pub fn new(text: &'a str, fault: LexFault) -> Rendered<'a>
         ensures { result ≡ (text.now, fault) }
     {
         Rendered { text, fault }
     }
 
-    /// How many bytes it prints.
+    /// Returns the length of the output in bytes.
     pub fn length(&self) -> usize
         requires { length self.now.0 < 2 ^ 32 }
         ensures { result ≡ length (rendered_fault self.now) }
@@ -42,16 +43,17 @@ impl<'a> Rendered<'a> {
         length_of(&self.fault.error.pieces()) + length_of(&self.excerpt().pieces())
     }
 
-    /// Writes what it prints into bytes, as much of it as there is room for, and answers how many
-    /// bytes that is. Where that is less than the room it is all.
+    /// Writes the output to a buffer, until the buffer is full, and returns the number of bytes
+    /// written. If that is less than the length of `out`, the output is complete.
     pub fn write_to(&self, out: &mut [u8]) -> usize
-        ensures bytes { out.new ≡ laid_over (rendered_fault self.now) out.old }
+        ensures bytes { out.new ≡ overwrite_start (rendered_fault self.now) out.old }
         ensures count { result ≡ min (length (rendered_fault self.now)) (length out.old) }
     {
-        let at = lay_all(&self.fault.error.pieces(), out, 0);
-        lay_all(&self.excerpt().pieces(), out, at)
+        let at = write_chunks(&self.fault.error.pieces(), out, 0);
+        write_chunks(&self.excerpt().pieces(), out, at)
     }
 
+    /// Returns the source line of the error, with its line and column.
     fn excerpt(&self) -> Excerpt<'a>
         ensures { result ≡ excerpt self.now.0 self.now.1.offset }
     {

@@ -1,7 +1,19 @@
-//! A line as it is shown.
-ghost use Rattle.std.specs.Prelude.{◌≡◌, ◌*◌, ◌^◌, ◌<◌, ◌≤◌, true, false, length, take, IsTrue, MatchOption};
+//! Displayed lines: a TAB is displayed as 4 spaces, and the 9 confusing characters are dropped.
+ghost use Rattle.std.specs.Prelude.{
+  ◌≡◌,
+  ◌*◌,
+  ◌^◌,
+  ◌<◌,
+  ◌≤◌,
+  true,
+  false,
+  length,
+  take,
+  IsTrue,
+  MatchOption,
+};
 ghost use Rattle.std.specs.Prelude.{encode_utf8_all};
-ghost use Rattle.wat_lex.specs.errors.Rendering.{columns, shown_in_line, shown_line, is_boundary};
+ghost use Rattle.wat_lex.specs.errors.Rendering.{columns, rendered_char, rendered_line, is_boundary};
 
 use crate::error::stretches::{by_columns_len, is_shown_as_it_is, split_shown};
 use crate::lexer::is_confusing;
@@ -10,20 +22,21 @@ use std::marker::Model;
 use std::str::Chars;
 use unicode_width::{UnicodeWidthStr, char_iter_width};
 
-/// How many spaces a TAB is shown as.
+/// The number of spaces that a TAB is displayed as.
 const TAB: usize = 4;
 
-/// A line, which prints as it is shown.
+/// A source line, which prints in its displayed form.
 #[derive(Clone, Copy)]
 pub struct Line<'a>(pub &'a str);
 
-/// The characters that are shown of a line. They come from either end.
+/// An iterator over the displayed characters of a line, from either end.
 #[derive(Drop)]
 pub struct Shown<'a> {
-    /// The spaces that are still to come of a TAB before the characters.
+    /// The number of spaces left of a TAB before `chars`.
     front: usize,
+    /// The characters of the line that neither end has reached.
     chars: Chars<'a>,
-    /// The same of one after them.
+    /// The number of spaces left of a TAB after `chars`.
     back: usize,
 }
 
@@ -37,8 +50,9 @@ impl<'a> Model for Shown<'a> {
 }
 
 impl<'a> Shown<'a> {
+    /// Returns an iterator over the displayed characters of a line.
     pub fn of(line: &'a str) -> Shown<'a>
-        ensures { encode_utf8_all result ≡ shown_line line.now }
+        ensures { encode_utf8_all result ≡ rendered_line line.now }
     {
         Shown {
             front: 0,
@@ -58,7 +72,8 @@ impl<'a> Iterator for Shown<'a> {
     ghost remaining = { item_count (λ left. left) };
 
     fn next(&mut self) -> Option<char> {
-        // The proof takes from here that the characters left are a text.
+        // Needed only by the proof: the contract of `as_str` states that the remaining characters
+        // are UTF-8.
         let _ = self.chars.as_str();
         if self.front > 0 {
             self.front -= 1;
@@ -80,7 +95,8 @@ impl<'a> DoubleEndedIterator for Shown<'a> {
     ghost next_back_gives = { YieldsLast (λ left. left) };
 
     fn next_back(&mut self) -> Option<char> {
-        // The proof takes from here that the characters left are a text.
+        // Needed only by the proof: the contract of `as_str` states that the remaining characters
+        // are UTF-8.
         let _ = self.chars.as_str();
         if self.back > 0 {
             self.back -= 1;
@@ -98,9 +114,9 @@ impl<'a> DoubleEndedIterator for Shown<'a> {
 
 impl fmt::Display for Line<'_> {
     ghost use Rattle.std.specs.Prelude.{Some};
-    ghost use Rattle.wat_lex.specs.errors.Rendering.{shown_line};
+    ghost use Rattle.wat_lex.specs.errors.Rendering.{rendered_line};
 
-    ghost output = { λ l. Some (shown_line l.0.now) };
+    ghost output = { λ l. Some (rendered_line l.0.now) };
 
     fn fmt<W: fmt::Write>(&self, f: &mut fmt::Formatter<W>) -> fmt::Result {
         let mut rest = self.0;
@@ -112,11 +128,11 @@ impl fmt::Display for Line<'_> {
     }
 }
 
-/// The columns that the first bytes of a line take as it is shown,
-/// or their number where they are not there or end inside a character.
+/// Returns the display width of the first `bytes` bytes of a line's displayed form. Returns `bytes`
+/// if the displayed form is shorter, or if that offset is inside a character.
 pub fn columns(line: &str, bytes: usize) -> usize
     requires { bytes < 2 ^ 63 }
-    ensures columns { result ≡ columns (shown_line line.now) bytes }
+    ensures columns { result ≡ columns (rendered_line line.now) bytes }
     ensures bound { result ≤ 2 * bytes }
 {
     if begins_by_columns(line, bytes) {
@@ -128,16 +144,19 @@ pub fn columns(line: &str, bytes: usize) -> usize
     }
 }
 
-/// Whether so many bytes at the start are printable ASCII or TABs.
+/// Returns `true` if the first `bytes` bytes of the line are printable ASCII or TABs.
 fn begins_by_columns(line: &str, bytes: usize) -> bool
-    ensures { IsTrue result → columns (shown_line line.now) bytes ≡ bytes }
+    ensures { IsTrue result → columns (rendered_line line.now) bytes ≡ bytes }
 {
     bytes <= line.len() && by_columns_len(&line.as_bytes()[..bytes]) == bytes
 }
 
+/// Returns the display width of the first `bytes` bytes of a line's displayed form, measured a
+/// character at a time. Returns `bytes` if the displayed form is shorter, or if that offset is
+/// inside a character.
 fn columns_by_character(line: &str, bytes: usize) -> usize
     requires { bytes < 2 ^ 63 }
-    ensures columns { result ≡ columns (shown_line line.now) bytes }
+    ensures columns { result ≡ columns (rendered_line line.now) bytes }
     ensures bound { result ≤ 2 * bytes }
 {
     match front(line, bytes) {
@@ -146,12 +165,12 @@ fn columns_by_character(line: &str, bytes: usize) -> usize
     }
 }
 
-/// The characters of a line that are shown in its first bytes; none where so many bytes are not
-/// shown, or end inside a character.
+/// Returns an iterator over the first `bytes` bytes of a line's displayed form. Returns `None` if
+/// the displayed form is shorter, or if that offset is inside a character.
 fn front(line: &str, bytes: usize) -> Option<Shown<'_>>
-    ensures { MatchOption result (is_boundary (shown_line line.now) bytes ≡ false)
-        (λ shown. (is_boundary (shown_line line.now) bytes ≡ true)
-        × (encode_utf8_all shown ≡ take bytes (shown_line line.now))) }
+    ensures { MatchOption result (is_boundary (rendered_line line.now) bytes ≡ false)
+        (λ shown. (is_boundary (rendered_line line.now) bytes ≡ true)
+        × (encode_utf8_all shown ≡ take bytes (rendered_line line.now))) }
 {
     let mut at = 0;
     let mut missing = bytes;
@@ -176,9 +195,9 @@ fn front(line: &str, bytes: usize) -> Option<Shown<'_>>
     Some(Shown::of(line))
 }
 
-/// How many bytes a character is shown in.
+/// Returns the length in bytes of a character's displayed form.
 fn shown_len(c: char) -> usize
-    ensures { result ≡ length (encode_utf8_all (shown_in_line c)) }
+    ensures { result ≡ length (encode_utf8_all (rendered_char c)) }
 {
     match c {
         '\t' => TAB,

@@ -1,20 +1,21 @@
-//! Stretches of a line that are shown as they are, by their bytes.
+//! Stretches of a line that are displayed unchanged, found by their bytes.
 ghost use Rattle.std.specs.Prelude.{◌≡◌, ◌<◌, ◌↔◌, ◌++◌, [], length, IsTrue, MatchOption};
 ghost use Rattle.std.specs.List.{prefix_len};
 ghost use Rattle.std.specs.Str.{IsUtf8};
 ghost use Rattle.wat_lex.specs.errors.LineBytes.{is_by_columns, is_kept};
-ghost use Rattle.wat_lex.specs.errors.Rendering.{shown_line};
+ghost use Rattle.wat_lex.specs.errors.Rendering.{rendered_line};
 ghost use Rattle.wat_lex.specs.inside.Blocks.{failures};
 
 use crate::lexer::{block_at, first_confusing, is_confusing};
 use memchr::{memchr, memchr2};
 use std::simd::prelude::*;
 
-/// What is shown of the first characters of a line, and the line after them; none where the line
-/// is empty.
+/// Splits a line after its first stretch that is displayed unchanged, or after its first character
+/// if there is none. Returns the displayed form of what is before the split, and the rest of the
+/// line. Returns `None` if the line is empty.
 pub fn split_shown(line: &str) -> Option<(&str, &str)>
-    ensures { MatchOption result (shown_line line.now ≡ [])
-        (λ parts. (shown_line line.now ≡ parts.0.now ++ shown_line parts.1.now)
+    ensures { MatchOption result (rendered_line line.now ≡ [])
+        (λ parts. (rendered_line line.now ≡ parts.0.now ++ rendered_line parts.1.now)
         × (length parts.1.now < length line.now) × IsUtf8 parts.1.now) }
 {
     let kept = kept_len(line.as_bytes());
@@ -33,22 +34,24 @@ pub fn split_shown(line: &str) -> Option<(&str, &str)>
     Some((shown, after))
 }
 
-/// How many bytes come before the first TAB, or the first byte that may begin a confusing
-/// character.
+/// Returns the number of bytes before the first TAB, or before the first byte 0xE2, with which
+/// every confusing character begins.
 fn kept_len(line: &[u8]) -> usize
     ensures { result ≡ prefix_len is_kept line.now }
 {
     memchr2(b'\t', 0xe2, line).unwrap_or(line.len())
 }
 
-/// Whether a text is shown as it is.
+/// Returns `true` if a text has neither a TAB nor a confusing character, so that it is displayed
+/// unchanged.
 pub fn is_shown_as_it_is(text: &str) -> bool
-    ensures { IsTrue result → shown_line text.now ≡ text.now }
+    ensures { IsTrue result → rendered_line text.now ≡ text.now }
 {
     memchr(b'\t', text.as_bytes()).is_none() && first_confusing(text).is_none()
 }
 
-/// A bit for each byte that is neither printable ASCII nor a TAB, the lowest for the first.
+/// Returns a bit mask of the bytes that are neither printable ASCII nor a TAB. The lowest bit is
+/// the first byte's.
 #[inline(always)]
 fn other_than_by_columns(block: u8x16) -> u64
     ensures { result ≡ failures is_by_columns block }
@@ -57,6 +60,7 @@ fn other_than_by_columns(block: u8x16) -> u64
     (outside & block.simd_ne(u8x16::splat(b'\t'))).to_bitmask()
 }
 
+/// Returns the number of leading bytes that are printable ASCII or TABs, a byte at a time.
 fn by_columns_len_by_byte(text: &[u8]) -> usize
     ensures { result ≡ prefix_len is_by_columns text.now }
 {
@@ -67,7 +71,7 @@ fn by_columns_len_by_byte(text: &[u8]) -> usize
     i
 }
 
-/// How many bytes at the start are printable ASCII or TABs.
+/// Returns the number of leading bytes that are printable ASCII or TABs, a block at a time.
 pub fn by_columns_len(text: &[u8]) -> usize
     ensures { result ≡ prefix_len is_by_columns text.now }
 {

@@ -1,10 +1,10 @@
-//! The line of a text that an error is about.
+//! The source line that an error is about.
 ghost use Rattle.std.specs.Prelude.{◌≡◌, [], IfOk, flat_map, slice_get, unwrap_or};
 ghost use Rattle.std.specs.Str.Lines.{lines};
 ghost use Rattle.wat_lex.specs.errors.ErrorView.{excerpt_of};
 ghost use Rattle.wat_lex.specs.errors.PieceTexts.{piece_text};
 ghost use Rattle.wat_lex.specs.errors.Positions.{line_and_column};
-ghost use Rattle.wat_lex.specs.errors.Rendering.{excerpt, shown_place};
+ghost use Rattle.wat_lex.specs.errors.Rendering.{excerpt, rendered_location};
 
 use crate::error::pieces::{Piece, print};
 use crate::error::shown::{Line, columns};
@@ -14,31 +14,34 @@ use std::alloc::{AllocError, Global};
 use std::fmt;
 use std::marker::Model;
 
-/// The last column that is marked below its line.
+/// The last column that gets a marker. From column 501 on, only line and column are printed.
 const LAST_MARKED: usize = 500;
 
-/// The line of a text that an error is about, and its place. It prints both, with a marker under
-/// the column.
+/// A borrowed source line, with the line and column of an error. It prints all three, with a marker
+/// under the column.
 #[derive(Drop)]
 pub struct Excerpt<'a> {
+    /// The line, counted from 1.
     line: usize,
+    /// The column, counted from 1, in the displayed form of the line.
     column: usize,
     source: Line<'a>,
 }
 
 impl<'a> Model for Excerpt<'a> {
-    ghost use Rattle.wat_lex.specs.errors.Rendering.{Excerpt, shown_line};
+    ghost use Rattle.wat_lex.specs.errors.Rendering.{Excerpt, rendered_line};
 
     ghost Value = { Excerpt };
 
     ghost view = { λ e. record {
       line = e.line;
       column = e.column;
-      snippet = shown_line e.source.0.now;
+      snippet = rendered_line e.source.0.now;
     } };
 }
 
 impl<'a> Excerpt<'a> {
+    /// Finds the line that contains a position, and computes the line and column to report.
     pub fn new(contents: &'a str, span: Span) -> Excerpt<'a>
         ensures { result ≡ excerpt contents.now span }
     {
@@ -53,7 +56,8 @@ impl<'a> Excerpt<'a> {
     }
 }
 
-/// The line that the byte at an offset is in, in this column; empty where it is in none.
+/// Returns the line that contains the byte at an offset, without its line ending. `column` must be
+/// the column of that byte. Returns the empty text if the offset is past the end.
 fn line_at(text: &str, offset: usize, column: usize) -> &str
     requires { column ≡ (line_and_column text.now offset).1 }
     ensures { let line = (line_and_column text.now offset).0 in
@@ -65,6 +69,7 @@ fn line_at(text: &str, offset: usize, column: usize) -> &str
     first_line(&text[offset - column..])
 }
 
+/// Returns the first line of a text, without its LF or CR LF.
 fn first_line(text: &str) -> &str
     ensures { result.now ≡ unwrap_or (slice_get (lines text.now) 0) [] }
 {
@@ -78,15 +83,18 @@ fn first_line(text: &str) -> &str
     &text[..end]
 }
 
-/// An excerpt that owns its line.
+/// An owned source line, with the line and column of an error.
 #[derive(Debug, Drop)]
 pub struct Text {
+    /// The line, counted from 1.
     line: usize,
+    /// The column, counted from 1, in the displayed form of the line.
     column: usize,
     source: String,
 }
 
 impl Text {
+    /// Copies the line that contains a position, and computes the line and column to report.
     pub fn new(alloc: Global, contents: &str, span: Span) -> Result<Text, AllocError>
         ensures { IfOk result (λ text. excerpt_of text ≡ excerpt contents.now span) }
     {
@@ -100,9 +108,10 @@ impl Text {
 }
 
 impl<'a> Excerpt<'a> {
-    /// The place, and the line with a marker under the column, in pieces.
+    /// Returns the output as chunks: line and column, then the source line, then a marker under the
+    /// column. From column 501 on, it has line and column only.
     pub fn pieces(&self) -> [Piece<'a>; 10]
-        ensures { flat_map piece_text result ≡ shown_place self.now }
+        ensures { flat_map piece_text result ≡ rendered_location self.now }
     {
         let line = Piece::Decimal(self.line);
         let column = Piece::Decimal(self.column);
@@ -129,9 +138,9 @@ impl<'a> Excerpt<'a> {
 
 impl fmt::Display for Excerpt<'_> {
     ghost use Rattle.std.specs.Prelude.{Some};
-    ghost use Rattle.wat_lex.specs.errors.Rendering.{shown_place};
+    ghost use Rattle.wat_lex.specs.errors.Rendering.{rendered_location};
 
-    ghost output = { λ e. Some (shown_place e) };
+    ghost output = { λ e. Some (rendered_location e) };
 
     fn fmt<W: fmt::Write>(&self, f: &mut fmt::Formatter<W>) -> fmt::Result {
         print(&self.pieces(), f)
@@ -141,9 +150,9 @@ impl fmt::Display for Excerpt<'_> {
 impl fmt::Display for Text {
     ghost use Rattle.std.specs.Prelude.{Some};
     ghost use Rattle.wat_lex.specs.errors.ErrorView.{excerpt_of};
-    ghost use Rattle.wat_lex.specs.errors.Rendering.{shown_place};
+    ghost use Rattle.wat_lex.specs.errors.Rendering.{rendered_location};
 
-    ghost output = { λ t. Some (shown_place (excerpt_of t)) };
+    ghost output = { λ t. Some (rendered_location (excerpt_of t)) };
 
     fn fmt<W: fmt::Write>(&self, f: &mut fmt::Formatter<W>) -> fmt::Result {
         let excerpt = Excerpt {

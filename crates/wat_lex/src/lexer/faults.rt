@@ -1,64 +1,65 @@
-//! Faults of a text.
+//! Lexical errors and their messages.
 ghost use Rattle.std.specs.Prelude.{◌≡◌, ◌++◌, flat_map, codes};
-ghost use Rattle.wat_lex.specs.errors.Messages.{lower_hex, message, shown_char};
+ghost use Rattle.wat_lex.specs.errors.Messages.{lower_hex, message, escaped_char};
 ghost use Rattle.wat_lex.specs.errors.PieceTexts.{piece_text};
 ghost use Rattle.wat_lex.specs.declared.lexer.faults.LexError.TheVariants.{Expected};
 
 use crate::error::pieces::{Piece, print};
 use std::fmt;
 
-/// What is wrong with a text.
+/// A lexical error of a text, without its offset.
 #[derive(Clone, Copy, Debug, PartialEq, Eq)]
 pub enum LexError {
-    /// No `;)` closes the block comment that begins here.
+    /// An unterminated block comment, reported at its `(;`.
     DanglingBlockComment,
     /// A character with which no token begins.
     Unexpected(char),
-    /// A control character in a string.
+    /// A control character in a string: below U+0020, or U+007F.
     InvalidStringElement(char),
-    /// What comes after a `\` in a string begins no escape.
+    /// A character that begins no escape, after a `\` in a string.
     InvalidStringEscape(char),
-    /// Something else where a hexadecimal digit is needed.
+    /// A character other than the hexadecimal digit that must be there.
     InvalidHexDigit(char),
-    /// Something else where a decimal digit is needed. The lexer never answers it.
+    /// A character other than the decimal digit that must be there. The lexer never returns it.
     InvalidDigit(char),
-    /// Another character than the one that is needed.
+    /// A character other than the one that must be there.
     Expected {
-        /// The character that is needed.
+        /// The character that must be there.
         wanted: char,
         /// The character that is there.
         found: char,
     },
-    /// The text ends where more is needed.
+    /// The end of the text inside a string.
     UnexpectedEof,
-    /// A number passes the largest value.
+    /// A number of 2^32 or more in `\u{..}`.
     NumberTooBig,
-    /// A number that is no Unicode scalar value.
+    /// A number in `\u{..}` that is not a Unicode scalar value.
     InvalidUnicodeValue(u32),
-    /// An underscore with no digit after it or, where underscores are strict,
-    /// one directly after another.
+    /// An underscore at the end of the digits in `\u{..}` or, with strict underscores, directly
+    /// after another.
     LoneUnderscore,
-    /// One of the nine characters that can make a text look other than it is.
+    /// One of the 9 confusing characters, which can change how a text is displayed, in a comment or
+    /// a string.
     ConfusingUnicode(char),
     /// A quoted name that is not UTF-8.
     InvalidUtf8Id,
-    /// A `$` with no name.
+    /// A `$` without a name.
     EmptyId,
-    /// A `@` with no name.
+    /// An `@` without a name.
     EmptyAnnotation,
 }
 
-/// What is wrong with a text, and where it is reported.
+/// A lexical error and its offset.
 #[derive(Clone, Copy, Debug, PartialEq, Eq)]
 pub struct LexFault {
-    /// In bytes from the text's start.
+    /// Byte offset at which the error is reported.
     pub offset: usize,
-    /// What is wrong.
+    /// The error.
     pub error: LexError,
 }
 
 impl LexError {
-    /// The message, in pieces.
+    /// Returns the message as chunks.
     pub(crate) fn pieces(&self) -> [Piece<'static>; 9]
         ensures { flat_map piece_text result ≡ message self.now }
     {
@@ -86,7 +87,7 @@ impl LexError {
     }
 }
 
-/// A message that is always the same.
+/// Returns the chunks of a message without parameters.
 fn plain(text: &'static str) -> [Piece<'static>; 9]
     ensures { flat_map piece_text result ≡ text.now }
 {
@@ -95,29 +96,29 @@ fn plain(text: &'static str) -> [Piece<'static>; 9]
     [text, none, none, none, none, none, none, none, none]
 }
 
-/// A message about a character, up to its quote.
+/// Returns the chunks of a message about a character. `text` ends with its opening quote.
 fn about(text: &'static str, c: char) -> [Piece<'static>; 9]
-    ensures { flat_map piece_text result ≡ text.now ++ (shown_char c ++ codes "'") }
+    ensures { flat_map piece_text result ≡ text.now ++ (escaped_char c ++ codes "'") }
 {
     let none = Piece::Text("");
-    let (a, b, c) = shown_char(c);
+    let (a, b, c) = escaped_char(c);
     let end = Piece::Text("'");
     [Piece::Text(text), a, b, c, end, none, none, none, none]
 }
 
-/// The message about another character than the one that is needed.
+/// Returns the chunks of the message about a character other than the one that must be there.
 fn other(wanted: char, found: char) -> [Piece<'static>; 9]
     ensures { flat_map piece_text result ≡ message (Expected wanted found) }
 {
-    let (a, b, c) = shown_char(wanted);
-    let (d, e, f) = shown_char(found);
+    let (a, b, c) = escaped_char(wanted);
+    let (d, e, f) = escaped_char(found);
     let first = Piece::Text("expected '");
     let between = Piece::Text("' but found '");
     let end = Piece::Text("'");
     [first, a, b, c, between, d, e, f, end]
 }
 
-/// A message about a number.
+/// Returns the chunks of a message about an integer, which is printed in hexadecimal digits.
 fn number(text: &'static str, number: u32, end: &'static str) -> [Piece<'static>; 9]
     ensures { flat_map piece_text result ≡ text.now ++ (lower_hex number ++ end.now) }
 {
@@ -137,9 +138,10 @@ fn number(text: &'static str, number: u32, end: &'static str) -> [Piece<'static>
     ]
 }
 
-/// A character as a message shows it.
-fn shown_char(c: char) -> (Piece<'static>, Piece<'static>, Piece<'static>)
-    ensures { piece_text result.0 ++ (piece_text result.1 ++ piece_text result.2) ≡ shown_char c }
+/// Returns the chunks of a character in a message. TAB, CR, LF, `\` and `'` are escaped, other
+/// characters from U+0020 to U+007E are printed unchanged, and all others as `\u{..}`.
+fn escaped_char(c: char) -> (Piece<'static>, Piece<'static>, Piece<'static>)
+    ensures { piece_text result.0 ++ (piece_text result.1 ++ piece_text result.2) ≡ escaped_char c }
 {
     let none = Piece::Text("");
     match c {

@@ -1,4 +1,4 @@
-//! What the tokens of a text read as.
+//! The values of tokens: texts, strings, names and numbers.
 ghost use Rattle.std.specs.Prelude.{◌≡◌, ◌≢◌, ◌≤◌, ◌^◌, ◌⊎◌, ◌↔◌, [], Ok, false, IfOk, IfErr};
 ghost use Rattle.std.specs.Prelude.{IsOk, MatchOption};
 ghost use Rattle.std.specs.Bool.{Decides};
@@ -37,7 +37,7 @@ mod names;
 pub(super) mod numbers;
 mod strings;
 
-/// What is wrong with an empty name, by the kind of its token.
+/// Returns the error for an empty name, by the kind of its token.
 fn empty_name(kind: TokenKind) -> LexError
     ensures { result ≡ empty_name kind }
 {
@@ -48,7 +48,7 @@ fn empty_name(kind: TokenKind) -> LexError
 }
 
 impl Token {
-    /// The token's text, which is a word of its kind.
+    /// Returns the token's text, a lexeme of its kind.
     #[inline]
     pub fn src<'a>(&self, s: &'a str) -> &'a str
         requires { IsTokenOf s.now self.now }
@@ -59,7 +59,7 @@ impl Token {
         &rest[..self.len as usize]
     }
 
-    /// The text of a keyword.
+    /// Returns the text of a keyword.
     #[inline]
     pub fn keyword<'a>(&self, s: &'a str) -> &'a str
         requires token { IsTokenOf s.now self.now }
@@ -69,7 +69,7 @@ impl Token {
         self.src(s)
     }
 
-    /// The text of a reserved token.
+    /// Returns the text of a reserved token.
     #[inline]
     pub fn reserved<'a>(&self, s: &'a str) -> &'a str
         requires token { IsTokenOf s.now self.now }
@@ -79,8 +79,12 @@ impl Token {
         self.src(s)
     }
 
-    /// The value of a string. It is borrowed where no escape is in the string,
-    /// and then no memory is taken.
+    /// Returns the value of a string. It is borrowed, without an allocation, if the string has no
+    /// escape.
+    ///
+    /// # Errors
+    ///
+    /// Returns the allocation failure, which only a string with an escape can have.
     #[tactic(auto, using(crate::proofs::values::TokenValues::string_values))]
     #[inline]
     pub fn string<'a>(&self, alloc: Global, s: &'a str) -> Result<CowSlice<'a, u8>, AllocError>
@@ -104,8 +108,13 @@ impl Token {
         Ok(CowSlice::Owned(value))
     }
 
-    /// The name of an identifier. It is borrowed where no escape is in it,
-    /// and then no memory is taken.
+    /// Returns the name of an identifier. It is borrowed, without an allocation, if it has no
+    /// escape.
+    ///
+    /// # Errors
+    ///
+    /// Returns the error at the token if its name is empty or not UTF-8, or the out-of-memory
+    /// error.
     #[tactic(auto, using(crate::proofs::values::TokenValues::name_values))]
     #[inline]
     pub fn id<'a>(&self, alloc: Global, s: &'a str) -> Result<CowStr<'a>, Error>
@@ -126,8 +135,13 @@ impl Token {
         self.name_or_error(alloc, s)
     }
 
-    /// The name of an annotation. It is borrowed where no escape is in it,
-    /// and then no memory is taken.
+    /// Returns the name of an annotation. It is borrowed, without an allocation, if it has no
+    /// escape.
+    ///
+    /// # Errors
+    ///
+    /// Returns the error at the token if its name is empty or not UTF-8, or the out-of-memory
+    /// error.
     #[tactic(auto, using(crate::proofs::values::TokenValues::name_values))]
     #[inline]
     pub fn annotation<'a>(&self, alloc: Global, s: &'a str) -> Result<CowStr<'a>, Error>
@@ -148,9 +162,13 @@ impl Token {
         self.name_or_error(alloc, s)
     }
 
-    /// The name of an identifier or an annotation, or what is wrong with it, at the token:
-    /// `EmptyId` or `EmptyAnnotation` where it is empty, `InvalidUtf8Id` where it is not UTF-8. It
-    /// is borrowed where no escape is in it, and memory is taken only where one does.
+    /// Returns the name of an identifier or an annotation, or the error about it: `EmptyId` or
+    /// `EmptyAnnotation` if it is empty, `InvalidUtf8Id` if it is not UTF-8. The name is borrowed,
+    /// without an allocation, if it has no escape.
+    ///
+    /// # Errors
+    ///
+    /// Returns the allocation failure, which only a name with an escape can have.
     #[tactic(auto, using(crate::proofs::values::TokenValues::name_values))]
     #[inline]
     pub fn name<'a>(
@@ -183,8 +201,8 @@ impl Token {
         Ok(Ok(name))
     }
 
-    /// Whether this is the name of an identifier or an annotation, as [`Token::name`] reads it. No
-    /// memory is taken, and no wrong name is any.
+    /// Returns `true` if the identifier or annotation has this name, like a comparison with
+    /// [`Token::name`]. Returns `false` if the name of the token is invalid. Does not allocate.
     #[inline]
     pub fn has_name(&self, s: &str, name: &str) -> bool
         requires token { IsTokenOf s.now self.now }
@@ -195,8 +213,8 @@ impl Token {
         !name.is_empty() && is_named(&self.src(s)[1..], name.as_bytes())
     }
 
-    /// What is wrong with the name of an identifier or an annotation, as [`Token::name`] answers it.
-    /// No memory is taken.
+    /// Returns the error about the name of an identifier or an annotation, like [`Token::name`], or
+    /// `None` if the name is valid. Does not allocate.
     pub fn name_fault(&self, s: &str) -> Option<LexError>
         requires token { IsTokenOf s.now self.now }
         requires kind { (self.now.kind ≡ Id) ⊎ (self.now.kind ≡ Annotation) }
@@ -216,7 +234,12 @@ impl Token {
         None
     }
 
-    /// What an integer token reads as. Memory is taken where its digits have underscores or `0x`.
+    /// Returns the sign and the digits of an integer token. Allocates only if the digits have
+    /// underscores or follow `0x`.
+    ///
+    /// # Errors
+    ///
+    /// Returns the allocation failure.
     #[inline]
     pub fn integer<'a>(
         &self,
@@ -233,8 +256,8 @@ impl Token {
         Integer::from_word(alloc, self.src(s), kind)
     }
 
-    /// The number that an integer token's digits write, its sign left out; None where it is 2^64 at
-    /// least. It takes no memory.
+    /// Returns the absolute value of an integer token, or `None` if it is 2^64 or more. Does not
+    /// allocate.
     pub fn magnitude(&self, s: &str, kind: IntegerKind) -> Option<u64>
         requires token { IsTokenOf s.now self.now }
         requires kind { self.now.kind ≡ token_kind.Integer kind }
@@ -244,8 +267,12 @@ impl Token {
         magnitude_of(self.src(s), kind)
     }
 
-    /// What a floating-point token reads as. Memory is taken where it has underscores,
-    /// and for hexadecimal digits that are no payload.
+    /// Returns the parts of a floating-point token. Allocates only if it has underscores, or if its
+    /// digits are hexadecimal and not those of a payload.
+    ///
+    /// # Errors
+    ///
+    /// Returns the allocation failure.
     #[tactic(auto, using(crate::proofs::values::TokenValues::float_values))]
     #[inline]
     pub fn float<'a>(
@@ -264,7 +291,7 @@ impl Token {
         Float::from_word(alloc, self.src(s), kind)
     }
 
-    /// The name, or the error of what is wrong with it.
+    /// Returns the name of an identifier or an annotation, or the error about it at the token.
     fn name_or_error<'a>(&self, alloc: Global, s: &'a str) -> Result<CowStr<'a>, Error>
         requires token { IsTokenOf s.now self.now }
         requires kind { (self.now.kind ≡ Id) ⊎ (self.now.kind ≡ Annotation) }

@@ -1,10 +1,17 @@
-//! What a fault covers: the bytes that are passed over, so that tokens are read again after them.
+//! Error recovery: the bytes that a lexical error covers, after which lexing resumes.
 ghost use Rattle.std.specs.Prelude.{◌≡◌, ℕ, true, length, slice_index, IfSome, IfNone};
 ghost use Rattle.std.specs.Bool.{MatchBool};
 ghost use Rattle.std.specs.Str.{chars};
 ghost use Rattle.wat_lex.specs.grammar.Classes.{Begins, is_run_char};
-ghost use Rattle.wat_lex.specs.inside.Outlines.{IsRefused};
-ghost use Rattle.wat_lex.specs.inside.Recovered.{BeginsComment, BeginsFault, Covered, PassedIn, PassedTo, SomeCovered};
+ghost use Rattle.wat_lex.specs.inside.Outlines.{BeginsWithFault};
+ghost use Rattle.wat_lex.specs.inside.Recovered.{
+  BeginsComment,
+  BeginsFault,
+  Covered,
+  PassedIn,
+  PassedTo,
+  SomeCovered,
+};
 ghost use Rattle.wat_lex.specs.tokens.Recovery.{is_escaped, is_inside};
 ghost use Rattle.wat_lex.specs.declared.lexer.faults.LexError.TheVariants.{ConfusingUnicode};
 
@@ -15,7 +22,8 @@ use crate::lexer::scan::comments::{block_comment_len, line_comment_len};
 use crate::lexer::scan::strings::string_len;
 use crate::lexer::settings::Settings;
 
-/// Whether a backslash in a string at fault escapes what comes first.
+/// Returns `true` if the text begins with a quote or a backslash, which a backslash before it
+/// escapes in a string with an error.
 fn begins_escaped(text: &str) -> bool
     ensures { MatchBool result
         (Begins is_escaped (chars text.now)) (Begins is_escaped (chars text.now) → ⊥) }
@@ -26,8 +34,9 @@ fn begins_escaped(text: &str) -> bool
     }
 }
 
-/// How many bytes come first that end no string at fault: a character, or a backslash with what it
-/// escapes. None where the string ends.
+/// Returns the length in bytes of the first character, or of a backslash and the character that it
+/// escapes, inside a string with an error. Returns `None` if the string ends: at a quote, at a line
+/// end, or at the end of the text.
 fn inside_len(text: &str) -> Option<usize>
     ensures some { IfSome result (PassedIn text.now) }
     ensures none { IfNone result (Begins is_inside (chars text.now) → ⊥) }
@@ -43,8 +52,9 @@ fn inside_len(text: &str) -> Option<usize>
     Some(text.len() - it.as_str().len())
 }
 
-/// How many bytes are left of a string at fault, from after its opening quote: up to and with the next
-/// quote in the line that no backslash escapes, or to the line's end.
+/// Returns the number of bytes that are left of a string with an error, after its opening quote.
+/// The string extends through the next unescaped quote in the line, or otherwise up to the line
+/// end.
 fn rest_of_string(text: &str) -> usize
     ensures { PassedTo text.now result }
 {
@@ -58,9 +68,10 @@ fn rest_of_string(text: &str) -> usize
     at
 }
 
-/// How many bytes the fault covers that is in a string of the run with which the text begins.
+/// Returns the number of bytes that a lexical error in a string covers. The text begins with the
+/// run that contains the string.
 fn covered_run(text: &str, flags: Settings) -> usize
-    requires refused { IsRefused flags text.now }
+    requires refused { BeginsWithFault flags text.now }
     requires run { is_run_char (slice_index text.now 0) ≡ true }
     ensures { SomeCovered flags text.now result }
 {
@@ -77,7 +88,8 @@ fn covered_run(text: &str, flags: Settings) -> usize
     unreachable!()
 }
 
-/// How many bytes the comment has with which the text begins, whatever characters are in it.
+/// Returns the length in bytes of the comment at the start of the text, with confusing characters
+/// allowed.
 fn covered_comment(text: &str, flags: Settings) -> usize
     requires { BeginsComment flags text.now }
     ensures { (c : ℕ) → Covered flags text.now (ConfusingUnicode c) result }
@@ -97,7 +109,7 @@ fn covered_comment(text: &str, flags: Settings) -> usize
     }
 }
 
-/// How many bytes the fault of this error covers with which the text begins.
+/// Returns the number of bytes that the lexical error at the start of the text covers.
 pub fn covered_len(text: &str, error: LexError, flags: Settings) -> usize
     requires { BeginsFault flags text.now error }
     ensures { Covered flags text.now error result }

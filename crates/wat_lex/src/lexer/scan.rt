@@ -1,5 +1,18 @@
-//! Scanning: what is at the start of a text, by its first bytes.
-ghost use Rattle.std.specs.Prelude.{◌≡◌, ◌≢◌, ◌<◌, ◌≤◌, ◌↔◌, ◌∷◌, [], true, false, drop, length, slice_index};
+//! Scanning: finds the token at an offset of a text, by its first bytes.
+ghost use Rattle.std.specs.Prelude.{
+  ◌≡◌,
+  ◌≢◌,
+  ◌<◌,
+  ◌≤◌,
+  ◌↔◌,
+  ◌∷◌,
+  [],
+  true,
+  false,
+  drop,
+  length,
+  slice_index,
+};
 ghost use Rattle.std.specs.Prelude.{IfSome, IsTrue};
 ghost use Rattle.std.specs.List.{prefix_len};
 ghost use Rattle.std.specs.Str.{IsCharBoundary};
@@ -8,7 +21,7 @@ ghost use Rattle.wat_lex.specs.grammar.Numbers.{sign_of};
 ghost use Rattle.wat_lex.specs.tokens.BareWords.{bare_len};
 ghost use Rattle.wat_lex.specs.tokens.Faults.{begins_word};
 ghost use Rattle.wat_lex.specs.inside.ScannedLexemes.{Refused};
-ghost use Rattle.wat_lex.specs.inside.Outlines.{BeginsWord, Begun, FoundIn, IdcharsOnly, IsRefused};
+ghost use Rattle.wat_lex.specs.inside.Outlines.{BeginsWord, Begun, FoundIn, IdcharsOnly, BeginsWithFault};
 ghost use Rattle.wat_lex.specs.inside.Outlines.{Outlined};
 ghost use Rattle.wat_lex.specs.declared.lexer.kinds.Found.TheVariants as found;
 ghost use Rattle.wat_lex.specs.declared.lexer.settings.Settings.{Settings};
@@ -23,7 +36,8 @@ use crate::lexer::scan::comments::{
     block_comment, block_comment_len, line_comment, line_comment_len,
 };
 use crate::lexer::scan::runs::{
-    decimal_kind, letters_kind, long_number_kind, other_kind, run, run_outline, short_number_kind,
+    classify_word, decimal_kind, letters_kind, long_number_kind, run, run_outline,
+    short_number_kind,
 };
 use crate::lexer::scan::starts::{Start, start_of};
 use crate::lexer::settings::Settings;
@@ -38,7 +52,7 @@ mod short;
 mod starts;
 pub(super) mod strings;
 
-/// The byte at a place, and 0 past the end.
+/// Returns the byte at index `i`, or 0 past the end.
 #[inline(always)]
 pub fn byte_at(text: &[u8], i: usize) -> u8
     ensures { result ≡ slice_index text.now i }
@@ -46,7 +60,7 @@ pub fn byte_at(text: &[u8], i: usize) -> u8
     if i < text.len() { text[i] } else { 0 }
 }
 
-/// Whether a string follows so many bytes, so that they are not all of a run.
+/// Returns `true` if a quote follows the first `len` bytes, so that they are not all of their run.
 #[inline(always)]
 fn string_follows(text: &[u8], len: usize) -> bool
     ensures { IsTrue result ↔ slice_index text.now len ≡ 34 }
@@ -54,7 +68,8 @@ fn string_follows(text: &[u8], len: usize) -> bool
     byte_at(text, len) == b'"'
 }
 
-/// Whether a word of idchars ends before a byte, and no string is joined to it there.
+/// Returns `true` if a byte is neither an idchar nor a quote, so that idchars before it are all of
+/// their run.
 #[inline(always)]
 fn ends_bare_word(b: u8) -> bool
     ensures { IsTrue result → (is_idchar b ≡ false) × (b ≢ quote) }
@@ -62,8 +77,8 @@ fn ends_bare_word(b: u8) -> bool
     !is_idchar(b) && b != b'"'
 }
 
-/// How many bytes the word of idchars has that is at the start: none where a string is joined to
-/// them. In a group it is often one.
+/// Returns the number of leading idchars, or 0 if a string follows them directly. Inside a group it
+/// is often 1, which is tested first.
 #[inline(always)]
 pub fn bare_len(text: &[u8]) -> usize
     ensures { result ≡ bare_len text.now }
@@ -77,7 +92,7 @@ pub fn bare_len(text: &[u8]) -> usize
     }
 }
 
-/// A token of this kind and length.
+/// Returns the token of a kind and a length.
 #[inline(always)]
 fn lexeme(kind: TokenKind, len: usize) -> Found
     ensures { result ≡ found.Lexeme (record { kind = kind; len = len }) }
@@ -85,7 +100,8 @@ fn lexeme(kind: TokenKind, len: usize) -> Found
     Found::Lexeme(Lexeme { kind, len })
 }
 
-/// The token of so many idchars that no string follows; a word that begins so has this kind.
+/// Returns the token of the `len` idchars at the start, or `None` if a string follows them. A
+/// lexeme that begins with the first of them must be of kind `kind`.
 #[inline(always)]
 fn idchars(text: &[u8], kind: TokenKind, len: usize) -> Option<Lexeme>
     requires some { 0 < length text.now }
@@ -99,7 +115,8 @@ fn idchars(text: &[u8], kind: TokenKind, len: usize) -> Option<Lexeme>
     Some(Lexeme { kind, len })
 }
 
-/// The token of idchars that no string follows, the first of which is a small letter.
+/// Returns the token of the idchars at the start, or `None` if a string follows them. The first of
+/// them must be a lowercase letter.
 #[inline(always)]
 fn letters(text: &[u8], stride: Stride) -> Option<Lexeme>
     requires { (97 ≤ slice_index text.now 0) × (slice_index text.now 0 ≤ 122) }
@@ -113,7 +130,8 @@ fn letters(text: &[u8], stride: Stride) -> Option<Lexeme>
     Some(Lexeme { kind, len })
 }
 
-/// The token of idchars that no string follows, found a byte at a time; it may be a number.
+/// Returns the token of the idchars at the start, which may be a number, or `None` if a string
+/// follows them. Examines one byte at a time.
 #[inline(always)]
 fn number_by_byte(text: &[u8]) -> Option<Lexeme>
     ensures { IfSome result (IdcharsOnly text.now) }
@@ -126,8 +144,8 @@ fn number_by_byte(text: &[u8]) -> Option<Lexeme>
     Some(Lexeme { kind, len })
 }
 
-/// The token of so many idchars that no string follows. They are all that one block holds and some
-/// after it, and may be a number.
+/// Returns the token of the `len` idchars at the start, which fill a block and may be a number, or
+/// `None` if a string follows them.
 #[inline(always)]
 fn long_number(text: &[u8], len: usize) -> Option<Lexeme>
     requires { len ≡ prefix_len is_idchar text.now }
@@ -140,7 +158,8 @@ fn long_number(text: &[u8], len: usize) -> Option<Lexeme>
     Some(Lexeme { kind, len })
 }
 
-/// The token of idchars that no string follows, the first of which is a digit or this sign.
+/// Returns the token of the idchars at the start, or `None` if a string follows them. The first of
+/// them must be a digit or the given sign.
 #[inline(always)]
 fn number(text: &[u8], sign: Sign, stride: Stride) -> Option<Lexeme>
     requires some { 0 < length text.now }
@@ -163,7 +182,8 @@ fn number(text: &[u8], sign: Sign, stride: Stride) -> Option<Lexeme>
     Some(Lexeme { kind, len })
 }
 
-/// The token of idchars that no string follows, where the text begins so.
+/// Returns the token of the idchars at the start, or `None` if there are none or a string follows
+/// them. `start` must be the class of the first byte.
 #[inline(always)]
 fn word(text: &[u8], start: Start, stride: Stride) -> Option<Lexeme>
     requires some { 0 < length text.now }
@@ -181,9 +201,10 @@ fn word(text: &[u8], start: Start, stride: Stride) -> Option<Lexeme>
     }
 }
 
-/// What is at the start of a text that begins with a run, by the run's outline.
+/// Returns the token or the lexical error at the start of a text that begins with a run, by the
+/// outline of the run.
 #[inline(always)]
-fn found_by_outline(text: &str, outline: Outline) -> Found
+fn classify_outline(text: &str, outline: Outline) -> Found
     requires { outline.len ≤ length text.now }
     ensures { (flags : Settings) → Outlined flags text.now outline → FoundIn flags text.now result }
 {
@@ -192,16 +213,17 @@ fn found_by_outline(text: &str, outline: Outline) -> Found
         Shape::Id => TokenKind::Id,
         Shape::Annotation => TokenKind::Annotation,
         Shape::Reserved => TokenKind::Reserved,
-        Shape::Word => other_kind(text.as_bytes(), outline.len, Stride::Byte),
+        Shape::Word => classify_word(text.as_bytes(), outline.len, Stride::Byte),
         Shape::Fault => return Found::Fault,
     };
     lexeme(kind, outline.len)
 }
 
-/// What is at a byte of a text where an idchar or a string begins.
-// The settings are passed by reference, so that they are read only where they are needed.
+/// Returns the token or the lexical error at byte offset `pos`, at which there must be an idchar or
+/// a quote.
+// The settings are passed by reference, so that they are read only if they are needed.
 #[inline(always)]
-fn run_found(text: &str, pos: usize, start: Start, flags: &Settings, stride: Stride) -> Found
+fn scan_run(text: &str, pos: usize, start: Start, flags: &Settings, stride: Stride) -> Found
     requires boundary { IsCharBoundary text.now pos }
     requires some { 0 < length (drop pos text.now) }
     requires run { is_run_char (slice_index (drop pos text.now) 0) ≡ true }
@@ -210,11 +232,11 @@ fn run_found(text: &str, pos: usize, start: Start, flags: &Settings, stride: Str
 {
     match word(&text.as_bytes()[pos..], start, stride) {
         Some(lexeme) => Found::Lexeme(lexeme),
-        None => found_by_outline(&text[pos..], run_outline(&text[pos..], *flags)),
+        None => classify_outline(&text[pos..], run_outline(&text[pos..], *flags)),
     }
 }
 
-/// What is at a byte of a text where `(` is.
+/// Returns the token or the lexical error at byte offset `pos`, at which there must be a `(`.
 #[inline(always)]
 fn opened(text: &str, pos: usize, flags: &Settings) -> Found
     requires boundary { IsCharBoundary text.now pos }
@@ -231,7 +253,7 @@ fn opened(text: &str, pos: usize, flags: &Settings) -> Found
     }
 }
 
-/// What is at a byte of a text where `;` is.
+/// Returns the token or the lexical error at byte offset `pos`, at which there must be a `;`.
 #[inline(always)]
 fn semicolon(text: &str, pos: usize, flags: &Settings) -> Found
     requires boundary { IsCharBoundary text.now pos }
@@ -248,10 +270,10 @@ fn semicolon(text: &str, pos: usize, flags: &Settings) -> Found
     }
 }
 
-/// What is at a byte of a text.
-// A text from there on is cut off only where it is needed, as that looks at the byte once more.
+/// Returns what is at byte offset `pos`: a token, the end of the text, or a lexical error.
+// The text is sliced at `pos` only if that is needed, since slicing examines the byte there again.
 #[inline(always)]
-pub fn first_found(text: &str, pos: usize, flags: &Settings, stride: Stride) -> Found
+pub fn scan_at(text: &str, pos: usize, flags: &Settings, stride: Stride) -> Found
     requires { IsCharBoundary text.now pos }
     ensures { FoundIn flags.now (drop pos text.now) result }
 {
@@ -272,11 +294,11 @@ pub fn first_found(text: &str, pos: usize, flags: &Settings, stride: Stride) -> 
         Start::Semicolon => semicolon(text, pos, flags),
         Start::Punctuation => lexeme(TokenKind::Reserved, 1),
         Start::Other => Found::Fault,
-        _ => run_found(text, pos, start, flags, stride),
+        _ => scan_run(text, pos, start, flags, stride),
     }
 }
 
-/// The fault of a text whose first character begins no word.
+/// Returns the lexical error of a text with whose first character no token begins.
 fn unexpected(text: &str) -> LexFault
     requires first { 0 < length text.now }
     requires no_word { begins_word (slice_index text.now 0) ≡ false }
@@ -291,12 +313,12 @@ fn unexpected(text: &str) -> LexFault
     }
 }
 
-/// The fault of a text that begins with no token. What goes wrong is looked for once more, so that
-/// no token pays for it.
+/// Returns the lexical error at the start of a text. The text is scanned again for it, so that
+/// scanning a token does not bear its cost.
 #[cold]
 #[inline(never)]
 pub fn fault_at_start(text: &str, flags: Settings) -> LexFault
-    requires { IsRefused flags text.now }
+    requires { BeginsWithFault flags text.now }
     ensures { Refused flags text.now result }
 {
     let bytes = text.as_bytes();

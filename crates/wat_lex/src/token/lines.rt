@@ -1,4 +1,5 @@
-//! The lines of a text.
+//! Line feeds of a text, and lines and columns of offsets. Columns are in bytes or in UTF-16 code
+//! units.
 ghost use Rattle.std.specs.Prelude.{◌≡◌, ◌≤◌, ◌<◌, length, take, drop, map, IfOk, IfSome};
 ghost use Rattle.std.specs.List.{count_by, sum_by};
 ghost use Rattle.std.specs.Str.Lines.{lines};
@@ -16,7 +17,7 @@ use std::alloc::{AllocError, Global};
 use std::marker::Model;
 use std::simd::prelude::*;
 
-/// A bit for each line feed, the lowest for the first.
+/// Returns a bit mask of the line feeds of a block. The lowest bit is the first byte's.
 #[inline(always)]
 fn feeds_in_block(block: u8x16) -> u64
     ensures { result ≡ mask_l (map is_line_feed block) }
@@ -24,7 +25,7 @@ fn feeds_in_block(block: u8x16) -> u64
     block.simd_eq(u8x16::splat(b'\n')).to_bitmask()
 }
 
-/// How many line feeds there are.
+/// Returns the number of line feeds.
 pub fn line_feeds(text: &[u8]) -> usize
     ensures count { result ≡ count_by is_line_feed text.now }
     ensures bound { result ≤ length text.now }
@@ -38,8 +39,8 @@ pub fn line_feeds(text: &[u8]) -> usize
     count + memchr_iter(b'\n', &text[i..]).count()
 }
 
-/// Writes where the line feeds are to the front of a buffer, where it has room for all of them, and
-/// answers how many there are.
+/// Writes the offsets of the line feeds to the front of a buffer and returns their number. If the
+/// buffer has fewer elements, it is unchanged.
 pub fn fill_line_feeds(text: &[u8], out: &mut [usize]) -> usize
     ensures count { result ≡ count_by is_line_feed text.now }
     ensures filled { result ≤ length out.old → LineFeeds text.now (take result out.new) }
@@ -60,7 +61,7 @@ pub fn fill_line_feeds(text: &[u8], out: &mut [usize]) -> usize
     count
 }
 
-/// How many lines a text has whose line feeds are these.
+/// Returns the number of lines of a text. `feeds` must be the offsets of its line feeds.
 fn line_count(text: &str, feeds: &[usize]) -> usize
     requires { LineFeeds text.now feeds.now }
     ensures { result ≡ length (lines text.now) }
@@ -75,8 +76,8 @@ fn line_count(text: &str, feeds: &[usize]) -> usize
     feeds.len() + 1
 }
 
-/// Line and column of a place in a text whose line feeds are these, as [`Span::linecol_in`] answers
-/// them, by a binary search.
+/// Returns the line and column of a byte offset, both counted from 0, as [`Span::linecol_in`] does.
+/// Uses a binary search in `feeds`, which must be the offsets of the line feeds of the text.
 pub fn linecol_by(text: &str, feeds: &[usize], offset: usize) -> (usize, usize)
     requires { LineFeeds text.now feeds.now }
     ensures { result ≡ line_and_column text.now offset }
@@ -91,8 +92,9 @@ pub fn linecol_by(text: &str, feeds: &[usize], offset: usize) -> (usize, usize)
     (line, offset - feeds[line - 1] - 1)
 }
 
-/// Line and column of a place in a text whose line feeds are these, the column in code units of
-/// UTF-16: those of the characters of the line that begin before the place.
+/// Returns the line and column of a byte offset, both counted from 0, with the column in UTF-16
+/// code units: those of the characters of the line that begin before the offset. `feeds` must be
+/// the offsets of the line feeds of the text.
 pub fn utf16_linecol_by(text: &str, feeds: &[usize], offset: usize) -> (usize, usize)
     requires { LineFeeds text.now feeds.now }
     ensures { result ≡ utf16_line_and_column text.now offset }
@@ -104,10 +106,12 @@ pub fn utf16_linecol_by(text: &str, feeds: &[usize], offset: usize) -> (usize, u
     (line, units(&text.as_bytes()[offset - column..offset]))
 }
 
-/// The bytes of a line up to which its code units are counted at each question.
+/// The distance in bytes between two marks of a [`LineIndex`]. Code units are counted from the
+/// start of a line if its column is at most this.
 const SHORT: usize = 0x1_0000;
 
-/// Whether a line is longer than `SHORT`.
+/// Returns `true` if two consecutive line feeds, or a line feed and the start or the end of the
+/// text, are more than `SHORT` bytes apart.
 fn has_long_line(text: &str, feeds: &[usize]) -> bool {
     let mut start = 0;
     for feed in feeds {
@@ -119,7 +123,7 @@ fn has_long_line(text: &str, feeds: &[usize]) -> bool {
     text.len().saturating_sub(start) > SHORT
 }
 
-/// The code units before each multiple of `SHORT` bytes.
+/// Returns the number of UTF-16 code units before each multiple of `SHORT` bytes.
 fn units_at_marks(alloc: Global, text: &[u8]) -> Result<Vec<usize>, AllocError>
     ensures { IfOk result (λ marks. AreUnits text.now marks.items) }
 {
@@ -135,7 +139,8 @@ fn units_at_marks(alloc: Global, text: &[u8]) -> Result<Vec<usize>, AllocError>
     Ok(marks)
 }
 
-/// The same where a line is long, and none where all are short.
+/// Returns the number of UTF-16 code units before each multiple of `SHORT` bytes, or nothing if no
+/// line is long.
 fn marks(alloc: Global, text: &str, feeds: &[usize]) -> Result<Vec<usize>, AllocError>
     ensures { IfOk result (λ marks. AreUnits text.now marks.items) }
 {
@@ -145,7 +150,7 @@ fn marks(alloc: Global, text: &str, feeds: &[usize]) -> Result<Vec<usize>, Alloc
     Ok(Vec::new(alloc))
 }
 
-/// The offset of each line feed.
+/// Returns the offset of each line feed.
 fn feeds(alloc: Global, text: &[u8]) -> Result<Vec<usize>, AllocError>
     ensures { IfOk result (λ feeds. LineFeeds text.now feeds.items) }
 {
@@ -158,14 +163,15 @@ fn feeds(alloc: Global, text: &[u8]) -> Result<Vec<usize>, AllocError>
     Ok(feeds)
 }
 
-/// Where the lines of a text end, for those who ask for many places of it: each is found by a
-/// binary search, where [`Span::linecol_in`] reads the text up to the place.
+/// An index of the lines of a text, for programs that look up many positions. A lookup is a binary
+/// search, whereas [`Span::linecol_in`] scans the text up to the position.
 #[derive(Drop)]
 pub struct LineIndex<'a> {
     text: &'a str,
     /// The offset of each line feed.
     feeds: Vec<usize>,
-    /// The code units of UTF-16 before each multiple of `SHORT`; none where all lines are short.
+    /// The number of UTF-16 code units before each multiple of `SHORT` bytes; empty if no line is
+    /// long.
     marks: Vec<usize>,
 }
 
@@ -178,12 +184,17 @@ impl<'a> Model for LineIndex<'a> {
 
     ghost view = { λ l. l.text.now };
 
-    ghost invariant = { λ l. LineFeeds l.text.now l.feeds.items × AreUnits l.text.now l.marks.items };
+    ghost invariant = { λ l.
+        LineFeeds l.text.now l.feeds.items × AreUnits l.text.now l.marks.items };
 }
 
 impl<'a> LineIndex<'a> {
-    /// Finds the lines of a text, or answers that there is no memory: it takes eight bytes for
-    /// each line, and for each 64 KiB where a line is longer than that.
+    /// Finds the lines of a text. The index stores a `usize` for each line feed and, if a line is
+    /// longer than 64 KiB, one for each 64 KiB of the text.
+    ///
+    /// # Errors
+    ///
+    /// Returns the allocation failure.
     pub fn new(alloc: Global, text: &'a str) -> Result<LineIndex<'a>, AllocError>
         ensures { IfOk result (λ index. index ≡ text.now) }
     {
@@ -192,7 +203,8 @@ impl<'a> LineIndex<'a> {
         Ok(LineIndex { text, feeds, marks })
     }
 
-    /// The code units of UTF-16 before a byte, where they were counted.
+    /// Returns the number of UTF-16 code units before a byte offset, or `None` if its mark is not
+    /// stored.
     fn units_before(&self, offset: usize) -> Option<usize>
         requires { offset ≤ length self.now }
         ensures { IfSome result (λ units. units ≡ sum_by byte_units (take offset self.now)) }
@@ -202,17 +214,17 @@ impl<'a> LineIndex<'a> {
         Some(before + units(&self.text.as_bytes()[mark * SHORT..offset]))
     }
 
-    /// Line and column of a place in the text, as [`Span::linecol_in`] answers them: both from 0, and
-    /// a column is a number of bytes.
+    /// Returns the line and column of a position, both counted from 0, as [`Span::linecol_in`]
+    /// does. The column is in bytes.
     pub fn linecol(&self, span: Span) -> (usize, usize)
         ensures { result ≡ line_and_column self.now span }
     {
         linecol_by(self.text, &self.feeds, span.offset())
     }
 
-    /// Line and column of a place in the text, as editors have them: both from 0, and a column is a
-    /// number of code units of UTF-16, those of the characters of the line that begin before the
-    /// place. It reads at most 64 KiB twice.
+    /// Returns the line and column of a position as editors count them: both from 0, with the
+    /// column in UTF-16 code units. These are the code units of the characters of the line that
+    /// begin before the position. Reads at most 64 KiB of the text twice.
     pub fn utf16_linecol(&self, span: Span) -> (usize, usize)
         ensures { result ≡ utf16_line_and_column self.now span }
     {

@@ -1,4 +1,4 @@
--- All that is shown of a text with white bytes over a comment is what is shown of the text.
+-- All visible tokens of a text with whitespace over a comment are those of the original text.
 use Rattle.std.proofs.Common.{◌≡◌, ◌-◌, ℕ, List, ◌∷◌, sym, subst, length, drop, Some, None, Ok, Err}
 use Rattle.std.specs.Prelude.{Option}
 use Rattle.std.specs.List.{AllByRecursion}
@@ -15,7 +15,7 @@ use Rattle.wat_lexer_parser.specs.shown.Showing.{SomethingShown, OneThingShown}
 use Rattle.wat_lexer_parser.proofs.calls.EachShown.{shows_at}
 use Rattle.wat_lexer_parser.proofs.shown.BlankedShown.{AreBlank, SameAfter, Twins, Found, found_twins}
 
--- both texts have the token's bytes
+-- The token has the same bytes in both texts.
 abbrev pub SameText : List ℕ → List ℕ → Token → Type 0
 SameText x y t = token_text y t ≡ token_text x t
 
@@ -24,7 +24,7 @@ module _ (some : SomethingShown) (one : OneThingShown) (x : List ℕ) (s : Sourc
   abbrev pub Both : List Token → List Token → Option Fault → Type 0
   Both ts us last = AllShown s.setting.text s.ending n ts us last × AllByRecursion (SameText x s.setting.text) us
 
-  -- what is shown of one list is shown of its twin
+  -- The visible tokens of a list are those of its twin.
   pub all_twins : (ts us : List Token) (last : Option Fault) (p : ℕ) → Twins x s.setting.text s.ending n v w a b h ts (drop p s.tokens) → AllShown x s.ending n ts us last → Both (drop p s.tokens) us last
   all_twins ts us last p g (end k) =
       let f = subst (λ e. Found x s.setting.text s.ending n v w a b h e (shown_in s.setting.text s.ending n Showing (drop p s.tokens))) (sym (one x s.ending n ts (Ok None) k))

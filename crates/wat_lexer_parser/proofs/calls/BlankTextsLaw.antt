@@ -1,4 +1,4 @@
--- A text whose comments are all blanked shows what it showed, and has none.
+-- A text whose comments are all overwritten has the same visible tokens, and no comments.
 use Rattle.std.proofs.Common.{◌≡◌, ◌⊎◌, ◌≤◌, ◌<◌, ◌+◌, ℕ, zero, suc, Bool, true, false, cond, List, [], ◌∷◌, ◌++◌, length, take, drop, refl, arith, ap, sym, ◌∙◌, subst, inl, inr, append_assoc, length-drop, None}
 use Rattle.std.specs.Prelude.{IsFalse, if◌then◌else◌, map, flat_map}
 use Rattle.std.specs.List.{All, Contains}
@@ -25,18 +25,18 @@ use Rattle.wat_lexer_parser.proofs.calls.AllShownBlanked.{SameText}
 use Rattle.wat_lexer_parser.proofs.calls.BlankingLaw.{comment_bounds}
 use Rattle.wat_lexer_parser.proofs.shown.BlankBytes.{bytes_white, texts_twice, same_line_ends}
 
--- what is known of one comment
+-- The theorems about one comment.
 pub record OneBlanked : Type 0 where
   pub tokens : BlanksAreSpace
   pub text : BlanksAreText
   pub boundary : TokensEndAtBoundaries
   pub same : BlankingShowsTheSame
 
--- the bytes of the tokens, joined
+-- The bytes of the tokens, concatenated.
 abbrev joined : List ℕ → List Token → List ℕ
 joined text ts = flat_map (token_text text) ts
 
--- Tokens that lie end to end are cut where some of them end.
+-- A tiling is split at the end of one of its tokens.
 cut : (s : Setting) (p to : ℕ) (a b : List Token) → Tiling s p to (a ++ b) → (q : ℕ) × Tiling s p q a × Tiling s q to b
 cut s p to [] b h = (p, refl, h)
 cut s p to (t ∷ a) b h = let k = cut s (t.offset + t.len) to a b h.1 in (k.0, (h.0, k.1), k.2)
@@ -53,7 +53,7 @@ to_end : (s : Setting) (p to : ℕ) (ts : List Token) → Tiling s p to ts → t
 to_end s p to ts h e =
     sym (append-nil (joined s.text ts)) ∙ ap (λ x. joined s.text ts ++ x) (sym (ap (λ q. drop q s.text) e ∙ drop-length s.text)) ∙ up_to s p to ts h
 
--- what is between the same bytes
+-- The part between equal prefixes and equal suffixes.
 between : (b l w r h m : List ℕ) → b ++ (m ++ h) ≡ ((b ++ l) ++ w) ++ (r ++ h) → m ≡ l ++ (w ++ r)
 between b l w r h m e =
     let right : ((b ++ l) ++ w) ++ (r ++ h) ≡ b ++ ((l ++ (w ++ r)) ++ h) =
@@ -61,7 +61,7 @@ between b l w r h m e =
     ∙ ap (λ x. b ++ x) (ap (λ x. l ++ x) (sym (append_assoc w r h)) ∙ sym (append_assoc l (w ++ r) h)) in
     append_cancel_right m (l ++ (w ++ r)) h (append_cancel_left b (m ++ h) ((l ++ (w ++ r)) ++ h) (e ∙ right))
 
--- Tokens with the same bytes in two texts have the same bytes joined, blanked or not.
+-- Tokens with the same bytes in two texts have the same concatenated bytes, with comments overwritten or not.
 same_joined : (x y : List ℕ) (ts : List Token) → AllByRecursion (SameText x y) ts → joined y ts ≡ joined x ts
 same_joined x y [] h = refl
 same_joined x y (t ∷ ts) h = ap (λ z. z ++ joined y ts) h.0 ∙ ap (λ z. token_text x t ++ z) (same_joined x y ts h.1)
@@ -76,7 +76,7 @@ other_text x t e = ap (λ k. if k then map blank_byte (token_text x t) else toke
 comment_text : (x : List ℕ) (t : Token) → is_comment t.kind ≡ true → blank_text x t ≡ map blank_byte (token_text x t)
 comment_text x t e = ap (λ k. if k then map blank_byte (token_text x t) else token_text x t) e
 
--- white space is no comment
+-- Whitespace is not a comment.
 space_joined : (x : List ℕ) (ts : List Token) → AtMostOneSpace ts → blank_texts x ts ≡ joined x ts
 space_joined x [] h = refl
 space_joined x (t ∷ []) h = ap (λ z. z ++ []) (other_text x t (ap is_comment h))
@@ -86,7 +86,7 @@ none_joined : (x : List ℕ) (ts : List Token) → AllByRecursion (λ t. IsFalse
 none_joined x [] h = refl
 none_joined x (t ∷ ts) h = ap (λ z. z ++ blank_texts x ts) (other_text x t h.0) ∙ ap (λ z. token_text x t ++ z) (none_joined x ts h.1)
 
--- how many comments there are
+-- The count of a token: 1 if it is a comment.
 abbrev one_if : Bool → ℕ
 one_if b = cond b 1 0
 
@@ -98,7 +98,7 @@ comments_of : (a b : List Token) → comments (a ++ b) ≡ comments a + comments
 comments_of [] b = omega arith
 comments_of (t ∷ a) b = omega (arith, comments_of a b)
 
--- Either none is a comment, or one is.
+-- Either none of the tokens is a comment, or one is.
 abbrev Found : List Token → Type 0
 Found ts = (c : Token) × Contains ts c × (is_comment c.kind ≡ true)
 
@@ -128,7 +128,7 @@ comment_kind Reserved e = cc
 comment_kind (Integer k) e = cc
 comment_kind (Float k) e = cc
 
--- A text shows what it shows, and what a third shows that shows what the second shows.
+-- Having the same visible tokens is reflexive and transitive.
 same_self : (s : Setting) → ShowTheSame s s
 same_self s = record { tokens = λ n us last. (λ h. h, λ h. h); texts = λ n us last h k d l. refl }
 
@@ -138,7 +138,7 @@ same_through s r q f g = record {
   texts = λ n us last h k d l. g.texts n us last ((f.tokens n us last).0 h) k d l ∙ f.texts n us last h k d l;
 }
 
--- the comments in the tokens that are spaced are one fewer
+-- After a comment is overwritten, the text has one comment fewer.
 fewer : (text other : List ℕ) (c : Token) (ts us : List Token) → is_comment c.kind ≡ true → Spaced text other c ts us → comments us < comments ts
 fewer text other c ts us e g =
     let was : comments ts ≡ comments g.before + ((comments g.left + (one_if (is_comment c.kind) + comments g.right)) + comments g.after) =
@@ -149,7 +149,7 @@ fewer text other c ts us e g =
     let none : one_if (is_comment g.white.kind) ≡ 0 = ap (λ k. one_if (is_comment k)) g.kind in
     omega (arith, was, is, one, none)
 
--- what is in place of a comment
+-- The bytes that replace a comment.
 abbrev blanks_of : List ℕ → Token → List ℕ
 blanks_of text c = map blank_byte (token_text text c)
 
@@ -159,13 +159,13 @@ blanks_are text c fits = record {
   blank = bytes_white (token_text text c);
 }
 
--- One comment is blanked, and then all in the text that this gives: the bytes are those with all blanked at once.
+-- One comment is overwritten, and then all others: the bytes are those with all overwritten at once.
 module _ (s : Setting) (c : Token) (white : List ℕ) (ts us : List Token) (comment : is_comment c.kind ≡ true) (is_white : white ≡ blanks_of s.text c)
     (was : MaximalTiling s 0 ts None) (now : MaximalTiling (with_other_text s (overwritten s.text c white)) 0 us None) (g : Spaced s.text (overwritten s.text c white) c ts us) where
   abbrev other : List ℕ
   other = overwritten s.text c white
 
-  -- the text with the comment blanked, as the tokens of the text
+  -- The text with the comment overwritten, in parts by the tokens of the original text.
   pieces : other ≡ ((joined s.text g.before ++ joined s.text g.left) ++ white) ++ (joined s.text g.right ++ joined s.text g.after)
   pieces =
       let k = cut s 0 was.to g.before ((g.left ++ c ∷ g.right) ++ g.after) (subst (Tiling s 0 was.to) g.was was.tiling) in
@@ -184,7 +184,7 @@ module _ (s : Setting) (c : Token) (white : List ℕ) (ts us : List Token) (comm
   after_is : joined other g.after ≡ joined s.text g.after
   after_is = same_joined s.text other g.after (recursion_from_All (SameText s.text other) g.after g.texts_after)
 
-  -- what the white space token has
+  -- The bytes of the whitespace token around the comment.
   middle : token_text other g.white ≡ joined s.text g.left ++ (white ++ joined s.text g.right)
   middle =
       let all : joined other us ≡ other = to_end (with_other_text s other) 0 now.to us now.tiling now.ends in
@@ -213,7 +213,7 @@ module _ (s : Setting) (c : Token) (white : List ℕ) (ts us : List Token) (comm
       ∙ ap (λ x. blank_texts s.text g.before ++ x) (flat_map-append (blank_text s.text) (g.left ++ c ∷ g.right) g.after ∙ ap (λ x. x ++ blank_texts s.text g.after) group) in
       now_is ∙ ap (λ x. blank_texts s.text g.before ++ (x ++ blank_texts s.text g.after)) middle ∙ sym was_is
 
--- what is proved comment by comment
+-- The statement that is proved by induction over the comments.
 record Blanked (s : Setting) (other : List ℕ) : Type 0 where
   utf8 : IsUtf8 other
   no_comment : HasNoComment (with_other_text s other)
@@ -226,7 +226,7 @@ nothing_to_do s ts utf8 h none =
     subst (Blanked s) (sym e) as_it_is
 
 module _ (laws : OneBlanked) where
-  -- One comment is blanked, and then the others.
+  -- One comment is overwritten, and then the others.
   one_by_one : (s : Setting) (ts : List Token) → ((r : Setting) (us : List Token) → comments us < comments ts → IsUtf8 r.text → MaximalTiling r 0 us None → Blanked r (blank_texts r.text us)) → IsUtf8 s.text → MaximalTiling s 0 ts None → Found ts
       → Blanked s (blank_texts s.text ts)
   one_by_one s ts next utf8 h f =
@@ -243,7 +243,7 @@ module _ (laws : OneBlanked) where
       record { utf8 = rest.utf8; no_comment = rest.no_comment; same = same_through s (with_other_text s other) (with_other_text s (blank_texts other k.0)) first rest.same } in
       subst (Blanked s) (same_bytes s c white ts k.0 f.2 refl h k.1 k.2) all
 
-  -- at most so many comments
+  -- Induction over the number of comments.
   all_of : (n : ℕ) (s : Setting) (ts : List Token) → comments ts ≤ n → IsUtf8 s.text → MaximalTiling s 0 ts None → Blanked s (blank_texts s.text ts)
   all_of zero s ts few utf8 h = elim (none_or_one ts) [
     | inl none ↦ nothing_to_do s ts utf8 h none

@@ -1,4 +1,4 @@
--- A comment that is overwritten with white bytes changes nothing that is shown.
+-- Overwriting a comment with whitespace does not change the visible tokens.
 use Rattle.std.proofs.Common.{◌≡◌, ◌≤◌, ◌+◌, ℕ, zero, suc, List, [], ◌∷◌, ◌++◌, true, false, refl, sym, ap, ◌∙◌, subst, arith, inl, inr, length, replicate, append_assoc}
 use Rattle.std.specs.Prelude.{Option}
 use Rattle.std.specs.List.{AllByRecursion}
@@ -8,7 +8,7 @@ use Rattle.std.proofs.lemmas.List.Elements.{All-from_recursion, recursion_from_A
 use Rattle.std.proofs.lemmas.Str.{IsCharBoundary-start}
 use Rattle.wat_lex.specs.grammar.Classes.{Each, is_whitespace}
 use Rattle.wat_lex.specs.tokens.Blanking.{space, AreBlanksOf, overwritten, with_other_text, AtMostOneSpace, Spaced, IsRawComment, BlanksAreSpace, BlanksAreText}
-use Rattle.wat_lex.specs.tokens.EverySetting.{TilingsAreOne, TokensEndAtBoundaries}
+use Rattle.wat_lex.specs.tokens.EverySetting.{TilingsAreUnique, TokensEndAtBoundaries}
 use Rattle.wat_lex.specs.tokens.Faults.{IsComment}
 use Rattle.wat_lex.specs.tokens.Setting.{Setting}
 use Rattle.wat_lex.specs.tokens.Tiling.{Tiling, MaximalTiling}
@@ -28,18 +28,18 @@ use Rattle.wat_lexer_parser.proofs.shown.BlankedMarks.{mark_before, mark_after, 
 use Rattle.wat_lexer_parser.proofs.shown.BlankedShown.{AreBlank, SameBefore, SameAfter, Twins, spaced}
 use Rattle.wat_lexer_parser.proofs.shown.Marks.{paren_len}
 
--- what is known of the lexer and of what is shown
+-- The theorems about the lexer and visible tokens that the proof uses.
 pub record Laws : Type 0 where
   pub tokens : BlanksAreSpace
   pub text : BlanksAreText
-  pub one_tiling : TilingsAreOne
+  pub one_tiling : TilingsAreUnique
   pub boundary : TokensEndAtBoundaries
   pub some : SomethingShown
   pub one : OneThingShown
   pub all_some : SomethingIsAllShown
   pub all_one : AllShownIsOne
 
--- white space, a comment and white space
+-- Whitespace before a comment, the comment, and whitespace after it.
 space_blank : (ts : List Token) → AtMostOneSpace ts → AreBlank ts
 space_blank [] h = tt
 space_blank (t ∷ []) h = (ap is_blank h, tt)
@@ -54,7 +54,7 @@ blank_append [] us h g = g
 blank_append (t ∷ ts) us h g = (h.0, blank_append ts us h.1 g)
 
 module _ (boundary : TokensEndAtBoundaries) (s : Setting) (utf8 : IsUtf8 s.text) where
-  -- the tokens after the first ones
+  -- The tokens after the first ones.
   record Past (p to : ℕ) (r : List Token) : Type 0 where
     at : ℕ
     forward : p ≤ at
@@ -69,7 +69,7 @@ module _ (boundary : TokensEndAtBoundaries) (s : Setting) (utf8 : IsUtf8 s.text)
       record { at = g.at; forward = let f = g.forward in omega (arith, o, f); whole = g.whole; tiling = g.tiling }
 
   module _ (c : Token) (white : List ℕ) (blanks : AreBlanksOf c white) (left right after : List Token) where
-    -- where the comment is, and what comes after the white space after it
+    -- The position of the comment, and the tokens after the whitespace that follows it.
     pub record Parts (p to : ℕ) : Type 0 where
       reached : p ≤ c.offset
       pub first : IsCharBoundary s.text c.offset
@@ -110,7 +110,7 @@ module _ (boundary : TokensEndAtBoundaries) (s : Setting) (utf8 : IsUtf8 s.text)
       let o = h.0.offset in
       (g.0, mark_after s.text c white fits blanks t (omega (arith, o, l)), same_after c white (t.offset + t.len) to ts blanks fits (omega (arith, o, l)) h.1 g.1)
 
--- the first of the white space and the comment, and the others
+-- The first token of the whitespace and the comment, and the others.
 first_blank : (left : List Token) (c : Token) (right : List Token) → (v : Token) × (a : List Token) × (left ++ c ∷ right ≡ v ∷ a)
 first_blank [] c right = (c, right, refl)
 first_blank (t ∷ left) c right = (t, left ++ c ∷ right, refl)
@@ -122,7 +122,7 @@ module _ (laws : Laws) (s : Setting) (utf8 : IsUtf8 s.text) (c : Token) (white :
   blanked_utf8 : IsUtf8 (overwritten s.text c white)
   blanked_utf8 = (laws.text s 0 c white utf8 start blanks raw).1
 
-  -- what is shown of the tokens is shown of those that are spaced
+  -- The visible tokens of the original tokens are those of the tokens after overwriting.
   spaced_shows : (us : List Token) → MaximalTiling (with_other_text s (overwritten s.text c white)) 0 us raw.ending → Spaced s.text (overwritten s.text c white) c raw.tokens us → (n : Names) (vs : List Token) (last : Option Fault) → AllShown s.text raw.ending n raw.tokens vs last
       → AllShown (overwritten s.text c white) raw.ending n us vs last × AllByRecursion (SameText s.text (overwritten s.text c white)) vs
   spaced_shows us m g n vs last h =
@@ -143,7 +143,7 @@ module _ (laws : Laws) (s : Setting) (utf8 : IsUtf8 s.text) (c : Token) (white :
       (subst (Twins s.text (overwritten s.text c white) raw.ending n v g.white a [] g.after (g.before ++ (v ∷ a ++ g.after))) (sym g.is) (spaced g.before before)) in
       all_twins laws.some laws.one s.text source n blanked_utf8 m v g.white a [] g.after blank alone after raw.tokens vs last 0 twins h
 
-  -- what the text shows is what is shown of its raw tokens
+  -- The visible tokens of a text are those of its raw tokens.
   raw_shows : (n : Names) (vs : List Token) (last : Option Fault) → TextShows s n vs last → AllShown s.text raw.ending n raw.tokens vs last
   raw_shows n vs last h =
       let e = laws.one_tiling s 0 h.tokens raw.tokens h.ending raw.ending h.tiling raw.tiling in
@@ -155,7 +155,7 @@ module _ (laws : Laws) (s : Setting) (utf8 : IsUtf8 s.text) (c : Token) (white :
       let g = spaced_shows b.0 b.1 b.2 n vs last (raw_shows n vs last h) in
       (record { tokens = b.0; ending = raw.ending; tiling = b.1; all = g.0 }, g.1)
 
-  -- there is something that the text shows, and so the blanked text shows nothing else
+  -- Visible tokens exist, so by uniqueness the overwritten text has no others.
   blanked_shows : (n : Names) (vs : List Token) (last : Option Fault) → TextShows (with_other_text s (overwritten s.text c white)) n vs last → TextShows s n vs last
   blanked_shows n vs last h =
       let source : Source = record { setting = s; track = false; tokens = raw.tokens; ending = raw.ending } in
@@ -177,14 +177,14 @@ spaces_white : (n : ℕ) → Each is_whitespace (replicate n space)
 spaces_white zero = tt
 spaces_white (suc n) = (refl, spaces_white n)
 
--- as many spaces as a token has bytes
+-- As many spaces as the token has bytes.
 pub spaces_are_blanks : (t : Token) → AreBlanksOf t (replicate t.len space)
 spaces_are_blanks t = record { long = length-replicate t.len space; blank = spaces_white t.len }
 
 pub blanking_shows_the_same : Laws → BlankingShowsTheSame
 blanking_shows_the_same laws text c white utf8 blanks flags raw = same_shown laws (record { text = text; flags = flags }) utf8 c white blanks raw
 
--- a comment among the raw tokens begins and ends at a boundary
+-- The start and the end of a comment among the raw tokens are char boundaries.
 pub comment_bounds : TokensEndAtBoundaries → BlanksAreSpace → (s : Setting) (c : Token) → IsUtf8 s.text → IsRawComment s 0 c → IsCharBoundary s.text c.offset × IsCharBoundary s.text (c.offset + c.len)
 comment_bounds boundary tokens s c utf8 raw =
     let start = IsCharBoundary-start s.text utf8 in

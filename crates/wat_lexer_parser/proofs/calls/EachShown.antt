@@ -1,4 +1,4 @@
--- All that is shown, one token after another.
+-- All visible tokens, one after another.
 use Rattle.std.proofs.Common.{◌≡◌, ℕ, zero, suc, ◌-◌, ◌<◌, List, [], ◌∷◌, refl, sym, ap, ◌∙◌, subst, length, drop, length-drop, arith, Some, None, Ok, Err}
 use Rattle.std.specs.Prelude.{Option}
 use Rattle.std.specs.Str.{IsUtf8}
@@ -16,7 +16,7 @@ use Rattle.wat_lexer_parser.specs.lemmas.After.{AfterPlace, after_in, after_plac
 same_shown : OneThingShown → (x : List ℕ) (z : Option LexFault) (n : Names) (ts : List Token) (a b : Finding) → Shown x z n ts a → Shown x z n ts b → a ≡ b
 same_shown one x z n ts a b h k = one x z n ts a h ∙ sym (one x z n ts b k)
 
--- of two lists that are shown each is the other
+-- The list of visible tokens, and the end or error after it, are unique.
 pub all_is_one : OneThingShown → (x : List ℕ) (z : Option LexFault) (n : Names) (ts us vs : List Token) (f g : Option Fault) → AllShown x z n ts us f → AllShown x z n ts vs g → (us ≡ vs) × (f ≡ g)
 all_is_one one x z n ts us vs f g (end h) (end k) = (refl, refl)
 all_is_one one x z n ts us vs f g (end h) (fault {f = b} k) = let e : ◌≡◌ {A = Finding} (Ok None) (Err b) = same_shown one x z n ts _ _ h k in cc
@@ -31,11 +31,11 @@ all_is_one one x z n ts us vs f g (next {r = r} {us = ws} {t = t} h m) (next {r 
     let d = all_is_one one x z n r ws xs f g m (subst (λ y. AllShown x z n y xs g) (sym e.1) l) in
     (ap (λ y. y ∷ ws) e.0 ∙ ap (λ y. u ∷ y) d.0, d.1)
 
--- some tokens are shown from a place on, and then the end or a fault
+-- The visible tokens from a position, followed by the end or an error.
 abbrev AllFrom : Source → Names → ℕ → Type 0
 AllFrom s n p = (us : List Token) × (f : Option Fault) × AllShown s.setting.text s.ending n (drop p s.tokens) us f
 
--- what is shown at a place is shown of the tokens there
+-- What a peek finds at a position is found in the tokens from there.
 pub shows_at : SomethingShown → (s : Source) (n : Names) (p : ℕ) (a : Finding) → IsUtf8 s.setting.text → IsRead s → shown_in s.setting.text s.ending n Showing (drop p s.tokens) ≡ a → Shown s.setting.text s.ending n (drop p s.tokens) a
 shows_at some s n p a u h e = subst (Shown s.setting.text s.ending n (drop p s.tokens)) e (some s n p u h)
 

@@ -1,4 +1,4 @@
--- Looks and refused calls leave the state.
+-- Peeks and rejected calls do not change the state.
 use Rattle.std.proofs.Common.{◌≡◌, ℕ, List, [], ◌∷◌, Bool, true, false, refl, sym, ap, ◌∙◌, inl, inr, Some, None, Ok, Err}
 use Rattle.std.specs.Prelude.{if◌then◌else◌, nat_eq, Result, string_bytes}
 use Rattle.std.proofs.lemmas.Bool.{cases_Bool}
@@ -8,26 +8,26 @@ use Rattle.wat_lexer_parser.specs.declared.parser.calls.Call.{Call}
 use Rattle.wat_lexer_parser.specs.declared.parser.calls.Call.TheVariants as call
 use Rattle.wat_lexer_parser.specs.declared.parser.calls.Reply.{Reply}
 use Rattle.wat_lexer_parser.specs.declared.parser.calls.Reply.TheVariants as reply
-use Rattle.wat_lexer_parser.specs.calls.Calls.{answer, replies, state_after, shown_reply, comment_reply, place_after, after_taking, paren_reply, close_reply, group_reply}
-use Rattle.wat_lexer_parser.specs.laws.CallLaws.{is_done, is_kept, kept_calls, kept_replies, NothingElse}
+use Rattle.wat_lexer_parser.specs.calls.Calls.{answer, replies, state_after, shown_reply, comment_reply, position_after, after_taking, paren_reply, close_reply, group_reply}
+use Rattle.wat_lexer_parser.specs.laws.CallLaws.{is_done, is_kept, kept_calls, kept_replies, IsIndependentOfPeeks}
 use Rattle.wat_lexer_parser.specs.groups.Sorts.{is_open, is_close}
-use Rattle.wat_lexer_parser.specs.names.RegisteredNames.{most_often, Names, count, more, fewer, is_registered}
+use Rattle.wat_lexer_parser.specs.names.RegisteredNames.{max_registrations, Names, count, more, fewer, is_registered}
 use Rattle.wat_lexer_parser.specs.parser.State.{State}
 use Rattle.wat_lexer_parser.specs.places.Places.{comment_at, current_span}
 use Rattle.wat_lexer_parser.specs.places.Source.{Source}
 use Rattle.wat_lexer_parser.specs.shown.Showing.{Look, shown}
 
-shown_still : (a : Look) (p : ℕ) → is_done (shown_reply a) ≡ false → place_after a p ≡ p
+shown_still : (a : Look) (p : ℕ) → is_done (shown_reply a) ≡ false → position_after a p ≡ p
 shown_still (Ok None) p e = refl
 shown_still (Ok (Some (t, q))) p e = cc
 shown_still (Err f) p e = refl
 
-comment_still : (a : Look) (p : ℕ) → is_done (comment_reply a) ≡ false → place_after a p ≡ p
+comment_still : (a : Look) (p : ℕ) → is_done (comment_reply a) ≡ false → position_after a p ≡ p
 comment_still (Ok None) p e = refl
 comment_still (Ok (Some (t, q))) p e = cc
 comment_still (Err f) p e = refl
 
--- a refused group leaves the place
+-- A rejected group does not change the position.
 abbrev pub StaysRefused : ℕ → Reply × ℕ → Type 0
 StaysRefused p a = is_done a.0 ≡ false → a.1 ≡ p
 
@@ -66,17 +66,17 @@ unregister_still s x false e = refl
 at_place : (s : State) (p : ℕ) → p ≡ s.place → record s { place = p } ≡ s
 at_place s p e = ap (λ x. record s { place = x }) e
 
--- a look, and a call that was refused, leaves the state
+-- A peek or a rejected call does not change the state.
 pub refused_still : (s : State) (c : Call) → is_kept s c ≡ false → (answer s c).1 ≡ s
 refused_still s call.Look e = refl
 refused_still s call.Take e = at_place s _ (shown_still (shown s.source s.place s.names) s.place e)
 refused_still s call.Comment e = at_place s _ (comment_still (comment_at s.source s.place) s.place e)
-refused_still s (call.Register x) e = register_still s (string_bytes x) (nat_eq (count s.names (string_bytes x)) most_often) e
+refused_still s (call.Register x) e = register_still s (string_bytes x) (nat_eq (count s.names (string_bytes x)) max_registrations) e
 refused_still s (call.Unregister x) e = unregister_still s (string_bytes x) (is_registered s.names (string_bytes x)) e
 refused_still s (call.Parens n) e = at_place s _ (group_still s.source s.names n s.place e)
 
--- a call more before a list of calls: one that is kept, and one that is not
-kept_more : (s : State) (c : Call) (cs : List Call) → is_kept s c ≡ true → NothingElse (answer s c).1 cs → NothingElse s (c ∷ cs)
+-- One more call before a sequence: one that is kept, and one that is not.
+kept_more : (s : State) (c : Call) (cs : List Call) → is_kept s c ≡ true → IsIndependentOfPeeks (answer s c).1 cs → IsIndependentOfPeeks s (c ∷ cs)
 unfolding replies state_after kept_calls kept_replies
 kept_more s c cs e rest =
     let left = kept_calls (answer s c).1 cs in
@@ -88,7 +88,7 @@ kept_more s c cs e rest =
       same_state = ap (state_after s) f ∙ rest.same_state;
     }
 
-left_out : (s : State) (c : Call) (cs : List Call) → is_kept s c ≡ false → NothingElse (answer s c).1 cs → NothingElse s (c ∷ cs)
+left_out : (s : State) (c : Call) (cs : List Call) → is_kept s c ≡ false → IsIndependentOfPeeks (answer s c).1 cs → IsIndependentOfPeeks s (c ∷ cs)
 unfolding replies state_after kept_calls kept_replies
 left_out s c cs e rest =
     let left = kept_calls (answer s c).1 cs in
@@ -101,8 +101,8 @@ left_out s c cs e rest =
       same_state = ap (state_after s) f ∙ ap (λ x. state_after x left) still ∙ rest.same_state;
     }
 
--- without looks and refused calls the other replies and the last state are the same
-pub nothing_else : (s : State) (cs : List Call) → NothingElse s cs
+-- Without peeks and rejected calls, the other replies and the last state stay the same.
+pub nothing_else : (s : State) (cs : List Call) → IsIndependentOfPeeks s cs
 unfolding replies state_after kept_calls kept_replies
 nothing_else s [] = record { same_replies = refl; same_state = refl }
 nothing_else s (c ∷ cs) = elim (cases_Bool (is_kept s c)) [

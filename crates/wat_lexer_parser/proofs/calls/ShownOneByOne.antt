@@ -1,4 +1,4 @@
--- Looks give all that is shown, one by one.
+-- A sequence of peeks gives all visible tokens.
 use Rattle.std.proofs.Common.{◌≡◌, ℕ, List, [], ◌∷◌, sym, ap, ◌∙◌, subst, drop, Some, None, Ok, Err}
 use Rattle.std.specs.Prelude.{Option}
 use Rattle.std.specs.Str.{IsUtf8}

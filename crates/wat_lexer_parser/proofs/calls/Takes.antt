@@ -1,4 +1,4 @@
--- Up to so many shown tokens, one by one.
+-- Up to `n` visible tokens, one by one.
 use Rattle.std.proofs.Common.{◌≡◌, ◌<◌, ◌-◌, ◌∙◌, ℕ, zero, suc, refl, ap, arith, Some, None, Ok, Err}
 use Rattle.std.specs.Prelude.{Result}
 use Rattle.wat_lex.specs.declared.lexer.kinds.Token.{Token}
@@ -9,7 +9,7 @@ use Rattle.wat_lexer_parser.specs.places.Source.{Source}
 use Rattle.wat_lexer_parser.specs.Cases.{cases_of}
 use Rattle.wat_lexer_parser.specs.shown.Showing.{Look, shown}
 
--- the place after what is seen and up to so many more
+-- The position after the token that a peek found and up to `m` more tokens.
 abbrev after : Source → Names → ℕ → ℕ → Look → Result ℕ Fault
 after s n m p look = cases_of look (Ok p) (λ t q. after_taking s n m q) Err
 

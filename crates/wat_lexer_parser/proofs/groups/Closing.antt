@@ -1,4 +1,4 @@
--- Groups in parentheses.
+-- Groups in parentheses, one token at a time.
 use Rattle.std.proofs.Common.{◌≡◌, ◌⊎◌, ℕ, zero, suc, ◌<◌, List, [], ◌∷◌, ◌++◌, false, refl, length, arith, subst, sym, ap, ◌∙◌, inl, inr, append_assoc}
 use Rattle.std.proofs.lemmas.Bool.{both_ways}
 use Rattle.std.specs.Prelude.{IsFalse}
@@ -8,7 +8,7 @@ use Rattle.wat_lex.specs.declared.lexer.kinds.Token.{Token}
 use Rattle.wat_lexer_parser.specs.lemmas.Parts.{is_paren}
 use Rattle.wat_lexer_parser.specs.groups.Sorts.{Balanced, nothing, plain, group, Group}
 
--- a group ends in the tokens, and then comes the rest: `Group`, a token at a time
+-- A group ends in the tokens, and the rest follows: `Group`, one token at a time.
 pub data Closed : List Token → List Token → Type 0 where
   close : {t : Token} {r : List Token} → t.kind ≡ RParen → Closed (t ∷ r) r
   beyond : {t : Token} {s r : List Token} → IsFalse (is_paren t.kind) → Closed s r → Closed (t ∷ s) r
@@ -28,7 +28,7 @@ kind_cases Reserved = inr (inr refl)
 kind_cases (Integer k) = inr (inr refl)
 kind_cases (Float k) = inr (inr refl)
 
--- one constructor fits each list
+-- Inversion: one constructor applies to each list.
 pub at_nil : (r : List Token) → Closed [] r → ⊥
 at_nil r h = elim h [ ]
 
@@ -55,12 +55,12 @@ closed_unique s r q (nested {t = t} {s = u} {m = m} e g h) k =
     let f = closed_unique u m n.0 g n.1 in
     closed_unique m r q h (subst (λ x. Closed x q) (sym f) n.2)
 
--- n groups are open in the tokens: they close them one after another, and then comes the rest
+-- The tokens close `n` open groups one after another, and the rest follows.
 abbrev pub Closings : ℕ → List Token → List Token → Type 0
 Closings zero s r = s ≡ r
 Closings (suc n) s r = (m : List Token) × Closed s m × Closings n m r
 
--- the two ways of saying it
+-- `Group` and `Closed` are equivalent.
 pub closed_past : (b x r : List Token) → Balanced b → Closed x r → Closed (b ++ x) r
 closed_past b x r nothing h = h
 closed_past b x r (plain {b = a} e g) h = beyond e (closed_past a x r g h)

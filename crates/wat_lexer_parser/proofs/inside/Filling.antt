@@ -1,4 +1,4 @@
--- A table that is filled, a token at a time.
+-- Filling a table, one token at a time.
 use Rattle.std.proofs.Common.{◌≡◌, ◌+◌, ◌++◌, ◌<◌, ◌^◌, ℕ, List, [], ◌∷◌, refl, sym, subst, zero, suc, arith}
 use Rattle.std.specs.Prelude.{Option, Some, slice_get}
 use Rattle.std.specs.Str.{IsCharBoundary}
@@ -7,19 +7,19 @@ use Rattle.wat_lex.specs.tokens.Setting.{Setting}
 use Rattle.wat_lex.specs.tokens.Tiling.{TokenAt, Tiling, EndsAt, MaximalTiling}
 use Rattle.wat_lex.specs.declared.lexer.faults.LexFault.{LexFault}
 use Rattle.wat_lex.specs.declared.lexer.kinds.Token.{Token}
-use Rattle.wat_lexer_parser.specs.inside.Table.{NameOrFault, Noted, Headed, Opening, Readable}
+use Rattle.wat_lexer_parser.specs.inside.Table.{NameOrFault, HasAnnotations, Headed, Opening, Readable}
 
--- the tokens up to a place of the text
+-- The table of the tokens up to a byte offset of the text.
 pub record Filling (s : Setting) (pos : ℕ) (ts : List Token) (opens : List ℕ) (names : List (Option NameOrFault)) : Type 0 where
   pub tiling : Tiling s 0 pos ts
-  pub noted : Noted s.text ts opens names
+  pub noted : HasAnnotations s.text ts opens names
   pub boundary : IsCharBoundary s.text pos
 
 tiled_more : (s : Setting) (from to : ℕ) (ts : List Token) (t : Token) → Tiling s from to ts → TokenAt s to t → Tiling s from (t.offset + t.len) (ts ++ t ∷ [])
 tiled_more s from to [] t h k = (subst (λ p. TokenAt s p t) (sym h) k, refl)
 tiled_more s from to (u ∷ ts) t h k = (h.0, tiled_more s (u.offset + u.len) to ts t h.1 k)
 
-nothing_noted : (text : List ℕ) → Noted text [] [] []
+nothing_noted : (text : List ℕ) → HasAnnotations text [] [] []
 nothing_noted text = record {
   readable = tt;
   headed = record { long = refl; each = λ g l. absurd (omega (arith, l)); all = λ i t u e f. cc; sorted = λ g h l m. absurd (omega (arith, m)) };
@@ -32,7 +32,7 @@ filling_start s ts opens names b e f g =
     (subst (λ x. Filling s 0 [] [] x) (sym g) (record { tiling = refl; noted = nothing_noted s.text; boundary = b })))
 
 pub filling_more : (s : Setting) (pos : ℕ) (ts us : List Token) (opens opens2 : List ℕ) (names names2 : List (Option NameOrFault)) (t : Token)
-    → Filling s pos ts opens names → TokenAt s pos t → IsCharBoundary s.text (pos + t.len) → us ≡ ts ++ t ∷ [] → Noted s.text us opens2 names2 → Filling s (t.offset + t.len) us opens2 names2
+    → Filling s pos ts opens names → TokenAt s pos t → IsCharBoundary s.text (pos + t.len) → us ≡ ts ++ t ∷ [] → HasAnnotations s.text us opens2 names2 → Filling s (t.offset + t.len) us opens2 names2
 filling_more s pos ts us opens opens2 names names2 t h k b e n = record {
   tiling = subst (Tiling s 0 (t.offset + t.len)) (sym e) (tiled_more s 0 pos ts t h.tiling k);
   noted = n;
@@ -42,7 +42,7 @@ filling_more s pos ts us opens opens2 names names2 t h k b e n = record {
 pub filled : (s : Setting) (pos : ℕ) (ts : List Token) (opens : List ℕ) (names : List (Option NameOrFault)) (e : Option LexFault) → Filling s pos ts opens names → EndsAt s pos e → MaximalTiling s 0 ts e
 filled s pos ts opens names e h k = record { to = pos; tiling = h.tiling; ends = k }
 
--- the places of annotations are places of parentheses
+-- The positions of annotation groups are positions of opening parentheses.
 pub opening_from : (text : List ℕ) (ts : List Token) (opens : List ℕ) (names : List (Option NameOrFault)) → Headed text ts opens names → Opening ts opens
 opening_from text ts opens names h g l = let k = h.each g l in (k.paren, k.opens, k.is_open)
 

@@ -1,4 +1,4 @@
--- Annotations directly after a parenthesis, noted a token at a time.
+-- The entries of annotations that follow a parenthesis, one token at a time.
 use Rattle.std.proofs.Common.{◌≡◌, ◌⊎◌, ◌<◌, ◌≤◌, ◌+◌, ◌-◌, ◌*◌, ◌^◌, ◌++◌, ℕ, zero, suc, Bool, true, false, List, [], ◌∷◌, length, refl, sym, ap, ◌∙◌, subst, arith, inl, inr, get_or, Some, None}
 use Rattle.std.specs.Prelude.{Option, slice_get, ◌&&◌}
 use Rattle.std.proofs.lemmas.Bool.{cases_lt}
@@ -8,7 +8,7 @@ use Rattle.wat_lex.specs.tokens.ReadableTokens.{IsTokenOf, word_of}
 use Rattle.wat_lex.specs.declared.lexer.kinds.TokenKind.{TokenKind}
 use Rattle.wat_lex.specs.declared.lexer.kinds.TokenKind.TheVariants.{LineComment, BlockComment, Whitespace, LParen, RParen, String, Id, Keyword, Annotation, Reserved, Integer, Float}
 use Rattle.wat_lex.specs.declared.lexer.kinds.Token.{Token}
-use Rattle.wat_lexer_parser.specs.inside.Table.{NameOrFault, NotedName, OneMoreName, HeadAt, Headed, Started, StartedUpTo, Noted, Readable, block, is_head, is_annotation}
+use Rattle.wat_lexer_parser.specs.inside.Table.{NameOrFault, NotedName, OneMoreName, HeadAt, Headed, Started, StartedUpTo, HasAnnotations, Readable, block, is_head, is_annotation}
 use Rattle.wat_lexer_parser.specs.groups.Sorts.{is_open}
 
 pub slice_left : {A : Type 0} (ts us : List A) (i : ℕ) (t : A) → slice_get ts i ≡ Some t → slice_get (ts ++ us) i ≡ Some t
@@ -20,7 +20,7 @@ pub slice_pushed : {A : Type 0} (ts : List A) (u : A) → slice_get (ts ++ u ∷
 slice_pushed [] u = refl
 slice_pushed (a ∷ ts) u = slice_pushed ts u
 
--- what is in a list with one more
+-- An element of a list with one more element at its end.
 pub slice_back : {A : Type 0} (ts : List A) (u : A) (i : ℕ) (t : A) → slice_get (ts ++ u ∷ []) i ≡ Some t → (slice_get ts i ≡ Some t) ⊎ ((i ≡ length ts) × (u ≡ t))
 slice_back [] u zero t e = inr (refl, cc)
 slice_back [] u (suc i) t e = cc
@@ -36,7 +36,7 @@ open_is k e = ap is_open e
 annotation_is : (k : TokenKind) → k ≡ Annotation → is_annotation k ≡ true
 annotation_is k e = ap is_annotation e
 
--- such a token is a head, with the one that comes before it
+-- An annotation after a parenthesis is a head.
 pub head_is : (ts : List Token) (t u : Token) → slice_get ts (length ts - 1) ≡ Some t → t.kind ≡ LParen → u.kind ≡ Annotation → is_head (slice_get ts (length ts - 1)) u ≡ true
 head_is ts t u e o a = ap (λ x. is_head x u) e ∙ both (is_open t.kind) (is_annotation u.kind) (open_is t.kind o) (annotation_is u.kind a)
   where
@@ -72,7 +72,7 @@ annotation_from Reserved e = cc
 annotation_from (Integer k) e = cc
 annotation_from (Float k) e = cc
 
--- what a head is
+-- A head: the last token is an opening parenthesis, and the next one is an annotation.
 pub record Head (last : Option Token) (u : Token) : Type 0 where
   pub paren : Token
   pub is : last ≡ Some paren
@@ -87,7 +87,7 @@ head_from (Some t) u e = let h = split (is_open t.kind) (is_annotation u.kind) e
     split true y f = (refl, f)
     split false y f = cc
 
--- what is no annotation is no head
+-- A token that is not an annotation is not a head.
 pub no_head : (last : Option Token) (u : Token) → is_annotation u.kind ≡ false → is_head last u ≡ false
 no_head None u e = refl
 no_head (Some t) u e = neither (is_open t.kind) (is_annotation u.kind) e
@@ -107,7 +107,7 @@ head_kept text ts u i x h = record {
   name = h.name;
 }
 
--- a head comes before the last token
+-- A head is before the last token.
 pub head_below : (text : List ℕ) (ts : List Token) (i : ℕ) (x : Option NameOrFault) → HeadAt text ts i x → i + 1 < length ts
 head_below text ts i x h = slice_get_within ts (i + 1) h.word h.next
 
@@ -115,7 +115,7 @@ readable_more : (text : List ℕ) (ts : List Token) (t : Token) → Readable tex
 readable_more text [] t h k l = ((k, l), tt)
 readable_more text (u ∷ ts) t h k l = (h.0, readable_more text ts t h.1 k l)
 
--- A token that is no head.
+-- One more token that is not a head.
 headed_plain : (text : List ℕ) (ts : List Token) (u : Token) (opens : List ℕ) (names : List (Option NameOrFault)) → is_head (slice_get ts (length ts - 1)) u ≡ false → Headed text ts opens names → Headed text (ts ++ u ∷ []) opens names
 headed_plain text ts u opens names e h = record {
   long = h.long;
@@ -136,7 +136,7 @@ headed_plain text ts u opens names e h = record {
   sorted = h.sorted;
 }
 
--- A head.
+-- One more token that is a head.
 headed_more : (text : List ℕ) (ts : List Token) (u : Token) (opens : List ℕ) (names : List (Option NameOrFault)) (x : Option NameOrFault) → NotedName (word_of text u) x → 0 < length ts → Head (slice_get ts (length ts - 1)) u → Headed text ts opens names
     → Headed text (ts ++ u ∷ []) (opens ++ (length ts - 1) ∷ []) (names ++ x ∷ [])
 headed_more text ts u opens names x y n d h =
@@ -179,17 +179,17 @@ headed_more text ts u opens names x y n d h =
       ];
     }
 
--- A token more.
+-- One more token.
 
-pub noted_plain : (text : List ℕ) (ts us : List Token) (opens : List ℕ) (names : List (Option NameOrFault)) (u : Token) → Noted text ts opens names → IsTokenOf text u → u.offset + u.len < 2 ^ 32 → us ≡ ts ++ u ∷ []
-    → is_head (slice_get ts (length ts - 1)) u ≡ false → Noted text us opens names
+pub noted_plain : (text : List ℕ) (ts us : List Token) (opens : List ℕ) (names : List (Option NameOrFault)) (u : Token) → HasAnnotations text ts opens names → IsTokenOf text u → u.offset + u.len < 2 ^ 32 → us ≡ ts ++ u ∷ []
+    → is_head (slice_get ts (length ts - 1)) u ≡ false → HasAnnotations text us opens names
 noted_plain text ts us opens names u h r l e n = record {
   readable = subst (Readable text) (sym e) (readable_more text ts u h.readable r l);
   headed = subst (λ x. Headed text x opens names) (sym e) (headed_plain text ts u opens names n h.headed);
 }
 
-pub noted_more : (text : List ℕ) (ts us : List Token) (opens opens2 : List ℕ) (names names2 : List (Option NameOrFault)) (u : Token) → Noted text ts opens names → IsTokenOf text u → u.offset + u.len < 2 ^ 32 → us ≡ ts ++ u ∷ []
-    → is_head (slice_get ts (length ts - 1)) u ≡ true → opens2 ≡ opens ++ (length us - 2) ∷ [] → OneMoreName (word_of text u) names names2 → Noted text us opens2 names2
+pub noted_more : (text : List ℕ) (ts us : List Token) (opens opens2 : List ℕ) (names names2 : List (Option NameOrFault)) (u : Token) → HasAnnotations text ts opens names → IsTokenOf text u → u.offset + u.len < 2 ^ 32 → us ≡ ts ++ u ∷ []
+    → is_head (slice_get ts (length ts - 1)) u ≡ true → opens2 ≡ opens ++ (length us - 2) ∷ [] → OneMoreName (word_of text u) names names2 → HasAnnotations text us opens2 names2
 noted_more text ts us opens opens2 names names2 u h r l e n a b =
     let d = head_from (slice_get ts (length ts - 1)) u n in
     let w : length ts - 1 < length ts = slice_get_within ts (length ts - 1) d.paren d.is in
@@ -200,7 +200,7 @@ noted_more text ts us opens opens2 names names2 u h r l e n a b =
       headed = subst (λ x. Headed text x opens2 names2) (sym e) (subst (λ y. Headed text (ts ++ u ∷ []) y names2) (sym c) (subst (Headed text (ts ++ u ∷ []) (opens ++ (length ts - 1) ∷ [])) (sym b.1) (headed_more text ts u opens names b.0 b.2 (omega arith) d h.headed)));
     }
 
--- The starts of so many of the places.
+-- The index by blocks of the first `count` positions.
 pub record StartedFor (count : ℕ) (opens starts : List ℕ) : Type 0 where
   pub within : (b : ℕ) → b < length starts → get_or starts b 0 ≤ count
   pub before : (b g : ℕ) → b < length starts → g < get_or starts b 0 → get_or opens g 0 < block * b
@@ -215,7 +215,7 @@ started_none opens starts e =
       covers = λ g k. absurd (omega (arith, k));
     }
 
--- a place more, up to whose block there are starts now
+-- One more position, up to whose block the index was extended.
 pub started_more : (count : ℕ) (opens old new : List ℕ) → StartedFor count opens old → StartedUpTo old new count (get_or opens count 0) → StartedFor (count + 1) opens new
 started_more count opens old new h k = record {
   within = λ b l. elim (cases_lt b (length old)) [

@@ -1,4 +1,4 @@
--- Pairs of parentheses, a token at a time.
+-- Matching parentheses, one token at a time.
 use Rattle.std.proofs.Common.{◌≡◌, ◌⊎◌, ℕ, zero, suc, ◌+◌, ◌-◌, ◌<◌, ◌≤◌, List, [], ◌∷◌, ◌++◌, false, refl, sym, ap, ◌∙◌, inl, inr, subst, length, drop, get_or, set, arith, add-one, Some, None, Option}
 use Rattle.std.specs.Prelude.{replicate, slice_get}
 use Rattle.std.proofs.lemmas.Option.{slice_get_within, get_or_from_slice_get}
@@ -9,10 +9,10 @@ use Rattle.wat_lex.specs.declared.lexer.kinds.TokenKind.TheVariants.{LParen, RPa
 use Rattle.wat_lex.specs.declared.lexer.kinds.Token.{Token}
 use Rattle.wat_lexer_parser.specs.lemmas.Parts.{is_paren}
 use Rattle.wat_lexer_parser.proofs.groups.Closing.{Closed, close, beyond, nested}
-use Rattle.wat_lexer_parser.specs.inside.Table.{Pair, Paired, Opening, FirstFrom, Sorted}
+use Rattle.wat_lexer_parser.specs.inside.Table.{Pair, HasGroupEnds, Opening, FirstFrom, Sorted}
 use Rattle.wat_lexer_parser.proofs.groups.Closing.{Closings, at_nil, at_close, at_plain, at_open, kind_cases, closed_from, group_from}
 
--- what closes s is what closes n groups in t
+-- The end of the group open before `s` is the end of `n` groups open before `t`.
 pub record Reaches (s : List Token) (n : ℕ) (t : List Token) : Type 0 where
   pub into : (r : List Token) → Closings n t r → Closed s r
   pub from : (r : List Token) → Closed s r → Closings n t r
@@ -44,11 +44,12 @@ pub none_closes : (s : List Token) (n : ℕ) → 0 < n → Reaches s n [] → (r
 none_closes s zero p h r g = absurd (omega arith)
 none_closes s (suc n) p h r g = let k = h.from r g in at_nil k.0 k.1
 
--- what is known of an opening parenthesis that was passed: it is on the stack, or has its place
+-- An opening parenthesis that was passed is on the stack, or the end of its group is recorded.
 abbrev pub Passed : List Token → List ℕ → ℕ → Option ℕ → Type 0
 Passed ts ks m x = ((x ≡ None) × ((q : ℕ) × (q < length ks) × (get_or ks q 0 ≡ m))) ⊎ ((j : ℕ) × (x ≡ Some j) × (m < j) × (j < length ts) × Closed (drop (m + 1) ts) (drop (j + 1) ts))
 
--- i tokens were read: the open places, the last one innermost, and where the groups of these parentheses are closed
+-- After `i` tokens: the positions of the open parentheses, innermost last, and the recorded ends of the groups of
+-- `opens`.
 pub record Walked (ts : List Token) (i : ℕ) (ks opens : List ℕ) (ps : List (Option ℕ)) : Type 0 where
   pub long : length ps ≡ length opens
   pub below : (q : ℕ) → q < length ks → get_or ks q 0 < i
@@ -56,7 +57,7 @@ pub record Walked (ts : List Token) (i : ℕ) (ks opens : List ℕ) (ps : List (
   pub fresh : (g : ℕ) → g < length opens → i ≤ get_or opens g 0 → get_or ps g None ≡ None
   pub passed : (g : ℕ) → g < length opens → get_or opens g 0 < i → Passed ts ks (get_or opens g 0) (get_or ps g None)
 
--- a token is at a place
+-- The token at position `i` is `t`.
 pub record At (ts : List Token) (i : ℕ) (t : Token) : Type 0 where
   pub within : i < length ts
   pub is : t ≡ get_or ts i t
@@ -64,7 +65,7 @@ pub record At (ts : List Token) (i : ℕ) (t : Token) : Type 0 where
 cut : (ts : List Token) (i : ℕ) (t : Token) → At ts i t → drop i ts ≡ t ∷ drop (i + 1) ts
 cut ts i t a = drop_more ts i t a.within ∙ ap (λ x. x ∷ drop (i + 1) ts) (sym a.is)
 
--- where one of the parentheses is, the token opens
+-- The token at the position of one of the parentheses is an opening parenthesis.
 pub opens_at : (ts : List Token) (opens : List ℕ) (i g : ℕ) (t : Token) → Opening ts opens → At ts i t → g < length opens → get_or opens g 0 ≡ i → t.kind ≡ LParen
 opens_at ts opens i g t o a l e =
     let h = o g l in
@@ -80,7 +81,7 @@ walk_start ts i opens ps n e = record {
   passed = λ g l h. absurd (omega (arith, n g l (omega arith)));
 }
 
--- where no parenthesis is open, what lies before the next of the places is passed over
+-- If no parenthesis is open, the tokens before the next of the positions are skipped.
 pub walk_on : (ts : List Token) (i j : ℕ) (ks opens : List ℕ) (ps : List (Option ℕ)) → length ks ≡ 0 → i ≤ j → FirstFrom opens i j → Walked ts i ks opens ps → Walked ts j ks opens ps
 walk_on ts i j ks opens ps z h n w = record {
   long = w.long;
@@ -136,7 +137,7 @@ walk_open ts i ks opens ps t a e w =
       ];
     }
 
--- the last open place
+-- The position of the innermost open parenthesis.
 pub walk_top : (ts : List Token) (i k : ℕ) (ks opens : List ℕ) (ps : List (Option ℕ)) → Walked ts i (ks ++ (k ∷ [])) opens ps → k < i
 walk_top ts i k ks opens ps w = omega (arith, w.below (length ks) (omega (arith, length_push ks k)), get_or_push ks k 0 (length ks) refl)
 
@@ -150,13 +151,13 @@ walk_closes ts i k ks opens ps t a e w =
     let h = subst (λ x. Reaches (drop (k + 1) ts) 1 x) (cut ts i t a) g'' in
     h.into (drop (i + 1) ts) (drop (i + 1) ts, close e, refl)
 
--- where k is one of the places, its group is closed at i
+-- If `k` is one of the positions, the end of its group is recorded as `i`.
 abbrev pub ClosesOne : List ℕ → List (Option ℕ) → ℕ → ℕ → List (Option ℕ) → Type 0
 ClosesOne opens old k i new =
     (((g : ℕ) → g < length opens → get_or opens g 0 ≡ k → ⊥) × (new ≡ old))
     ⊎ ((g : ℕ) × (g < length opens) × (get_or opens g 0 ≡ k) × (new ≡ set old g (Some i)))
 
--- a place of the stack that is not its last
+-- A position of the stack other than its last one.
 still : (ks : List ℕ) (k q m : ℕ) → q < length (ks ++ (k ∷ [])) → get_or (ks ++ (k ∷ [])) q 0 ≡ m → (m ≡ k → ⊥) → q < length ks
 still ks k q m h f other = elim (cases_lt q (length ks)) [
   | inl b ↦ b
@@ -169,7 +170,7 @@ passed_less ts ks k m x other (inl h) =
     inl (h.0, (h.1.0, l, sym (get_or_append_left ks (k ∷ []) 0 h.1.0 l) ∙ h.1.2))
 passed_less ts ks k m x other (inr h) = inr h
 
--- the places are different
+-- The positions are distinct.
 apart : (opens : List ℕ) (g h : ℕ) → Sorted opens → g < length opens → h < length opens → get_or opens g 0 ≡ get_or opens h 0 → g ≡ h
 apart opens g h s a b e = elim (cases_lt g h) [
   | inl l ↦ absurd (omega (arith, s g h l b))
@@ -234,7 +235,7 @@ walk_stray ts i ks opens ps t o a e z w = record {
   ];
 }
 
-pub walk_end : (ts : List Token) (i : ℕ) (ks opens : List ℕ) (ps : List (Option ℕ)) → Opening ts opens → length ts ≤ i → Walked ts i ks opens ps → Paired ts opens ps
+pub walk_end : (ts : List Token) (i : ℕ) (ks opens : List ℕ) (ps : List (Option ℕ)) → Opening ts opens → length ts ≤ i → Walked ts i ks opens ps → HasGroupEnds ts opens ps
 walk_end ts i ks opens ps o h w = record {
   long = w.long;
   pair = λ g l. elim (w.passed g l (let k = o g l in omega (arith, slice_get_within ts (get_or opens g 0) k.0 k.1))) [

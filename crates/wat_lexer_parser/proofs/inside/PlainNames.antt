@@ -1,4 +1,5 @@
--- The name of an annotation that is no string: it has no escape, and it is one where the word is longer than its `@`.
+-- The name of an annotation that is not a string: it has no escape, and it is not empty if the word is longer than its
+-- `@`.
 use lib.Utf8.{encode, encodes, scalar}
 use Rattle.std.proofs.Common.{◌≡◌, ◌≢◌, ◌⊎◌, ◌+◌, ◌<◌, ℕ, zero, suc, Bool, true, false, List, [], ◌∷◌, ◌++◌, drop, length, length-append, refl, sym, ap, ◌∙◌, subst, inl, inr, arith, add-one, Some, None, Ok}
 use Rattle.std.specs.Prelude.{◌==◌, ◌&&◌, nat_le, Option, slice_get, option_map, unwrap_or, if◌then◌else◌}
@@ -20,7 +21,7 @@ use Rattle.wat_lex.specs.declared.lexer.kinds.TokenKind.{TokenKind}
 use Rattle.wat_lex.specs.declared.lexer.kinds.TokenKind.TheVariants.{Id, Keyword, Annotation, Reserved}
 use Rattle.wat_lexer_parser.specs.inside.Table.{is_quoted}
 
--- `@` and idchars, or `@` and a string
+-- `@` and idchars, or `@` and a string.
 abbrev Parts : List ℕ → Type 0
 Parts w = (t : List ℕ) × (w ≡ at_sign ∷ t) × (Each is_idchar t ⊎ ((u : List ℕ) × (t ≡ quote ∷ u)))
 
@@ -38,7 +39,7 @@ rest_some : (c : ℕ) (o : Option (List ℕ)) (cs : List ℕ) → option_map (λ
 rest_some c None cs e = cc
 rest_some c (Some ds) cs e = (ds, refl, cc)
 
--- where there is no string the pieces are the word
+-- Without a string, the elements of the run are the word.
 idchars_are : (w : List ℕ) (ps : List Piece) (cs : List ℕ) → Run lenient w ps [] → idchars ps ≡ Some cs → (w ≡ cs) × Each is_idchar w
 idchars_are w ps cs none e = (cc, tt)
 idchars_are w ps cs (idchar {c = c} {t = t} {ps = qs} i h) e =
@@ -102,7 +103,7 @@ quoted_bytes bs rest u e =
 is_quoted_where : (text : List ℕ) (t : Token) → slice_get text (t.offset + 1) ≡ Some quote → is_quoted text t ≡ true
 is_quoted_where text t e = ap (λ o. unwrap_or (option_map (λ b. b == quote) o) false) e
 
--- the word of an annotation whose name is no string
+-- The word of an annotation whose name is not a string.
 record Plain (text : List ℕ) (t : Token) : Type 0 where
   name : List ℕ
   word : word_of text t ≡ at_sign ∷ name
@@ -143,7 +144,7 @@ unfolding encode
 some_bytes [] h = absurd (omega (arith, h))
 some_bytes (c ∷ t) h = λ e. absurd (omega (arith, ap length e, length-append (encode c) (encodes t), length-encode c, (len_utf8_bounds c).0))
 
--- there is a name where such a word is longer than its `@`
+-- Such a word that is longer than its `@` has a name.
 pub plain_value : WordsOfTokens → NamesAreValues → (text : List ℕ) (t : Token) → IsUtf8 text → IsTokenOf text t → t.kind ≡ Annotation → is_quoted text t ≡ false → 1 < t.len → (x : List ℕ) × (name_value EmptyAnnotation (word_of text t) ≡ Ok x)
 plain_value words values text t u r e n l =
     let p = plain words text t u r e n in

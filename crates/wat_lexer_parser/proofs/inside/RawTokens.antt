@@ -1,11 +1,11 @@
--- The raw tokens of a text are those that the function gives.
+-- The function `raws` gives the raw tokens of a text.
 use Rattle.std.proofs.Common.{◌≡◌, Bool, true, false, refl}
 use Rattle.std.specs.Str.{IsUtf8, is_utf8}
 use Rattle.std.proofs.lemmas.Bool.{false≢true}
 use Rattle.std.proofs.lemmas.Str.{IsUtf8-from_is_utf8, is_utf8-from_IsUtf8, IsCharBoundary-start}
 use Rattle.wat_lex.specs.tokens.Setting.{Setting}
 use Rattle.wat_lex.specs.tokens.Tiling.{MaximalTiling}
-use Rattle.wat_lex.proofs.tokens.SomeTilings.{some_tiling}
+use Rattle.wat_lex.proofs.lemmas.Tokens.{some_tiling}
 use Rattle.wat_lexer_parser.specs.inside.RawTokens.{raws, raws_by}
 
 raws_by_are : (s : Setting) (b : Bool) (e : is_utf8 s.text ≡ b) → b ≡ true → MaximalTiling s 0 (raws_by s b e).tokens (raws_by s b e).ending

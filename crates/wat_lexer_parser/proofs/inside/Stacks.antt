@@ -1,4 +1,4 @@
--- The stack of a walk over tokens: of each open parenthesis its index among the places, where it is one of them.
+-- The stack of a traversal of the tokens: for each open parenthesis, its index in `opens`, if it has one.
 use Rattle.std.proofs.Common.{◌≡◌, ℕ, ◌+◌, ◌<◌, ◌≤◌, List, [], ◌∷◌, ◌++◌, Bool, true, false, refl, sym, ◌∙◌, inl, inr, subst, length, take, get_or, arith, Some, None, Option}
 use Rattle.std.specs.Prelude.{replicate, IfSome}
 use Rattle.std.proofs.lemmas.List.{get_or_append_left, get_or_push, get_or-take, length_push, length-take-le, take_all, take_more}
@@ -6,10 +6,10 @@ use Rattle.std.proofs.lemmas.Bool.{cases_lt}
 use Rattle.wat_lex.specs.declared.lexer.kinds.TokenKind.TheVariants.{LParen, RParen}
 use Rattle.wat_lex.specs.declared.lexer.kinds.Token.{Token}
 use Rattle.wat_lexer_parser.specs.lemmas.Parts.{is_paren}
-use Rattle.wat_lexer_parser.specs.inside.Table.{closed_at, Counted, FirstFrom, Found, Opening, Paired, Sorted}
+use Rattle.wat_lexer_parser.specs.inside.Table.{closed_at, Counted, FirstFrom, Found, Opening, HasGroupEnds, Sorted}
 use Rattle.wat_lexer_parser.proofs.inside.Pairing.{At, ClosesOne, Walked, opens_at, walk_close, walk_end, walk_on, walk_open, walk_plain, walk_start, walk_stray}
 
--- these are the indices of the parentheses ks
+-- `ms` are the indices of the parentheses at the positions `ks`.
 pub record Marked (opens ks : List ℕ) (ms : List (Option ℕ)) : Type 0 where
   pub long : length ms ≡ length ks
   pub each : (q : ℕ) → q < length ks → Found opens (get_or ks q 0) (get_or ms q None)
@@ -30,7 +30,7 @@ marked_push opens ks ms i m h f =
       ];
     }
 
--- the parentheses below the last one, with their indices
+-- The parentheses below the last one of the stack, with their indices.
 marked_pop : (opens ks : List ℕ) (ms : List (Option ℕ)) (m : Option ℕ) → Marked opens ks (ms ++ m ∷ []) → (js : List ℕ) × (k : ℕ) × (ks ≡ js ++ k ∷ []) × Marked opens js ms × Found opens k m
 marked_pop opens ks ms m h =
     let n = length ms in
@@ -53,7 +53,7 @@ closes_one : (opens : List ℕ) (ps : List (Option ℕ)) (k i : ℕ) (m : Option
 closes_one opens ps k i None f = inl (f, refl)
 closes_one opens ps k i (Some g) f = inr (g, f.0, f.1, refl)
 
--- after a token that opens no group
+-- After a token that opens no group.
 counted_on : (ts : List Token) (opens : List ℕ) (n i : ℕ) (t : Token) → Opening ts opens → At ts i t → (t.kind ≡ LParen → ⊥) → Counted opens n i → Counted opens n (i + 1)
 counted_on ts opens n i t o a e c = record {
   before = λ g l h. omega (arith, c.before g l h);
@@ -63,11 +63,12 @@ counted_on ts opens n i t o a e c = record {
   ];
 }
 
--- after a parenthesis that closes
+-- After a closing parenthesis.
 pub counted_close : (ts : List Token) (opens : List ℕ) (n i : ℕ) (t : Token) → Opening ts opens → At ts i t → t.kind ≡ RParen → Counted opens n i → Counted opens n (i + 1)
 counted_close ts opens n i t o a e c = counted_on ts opens n i t o a (λ x. let f : RParen ≡ LParen = sym e ∙ x in cc) c
 
--- i tokens were read: the stack, how many of the places were passed, and where the groups of these are closed
+-- After `i` tokens: the stack, the number of positions of `opens` that were passed, and the recorded ends of their
+-- groups.
 pub record Walking (ts : List Token) (i passed : ℕ) (ms : List (Option ℕ)) (opens : List ℕ) (ps : List (Option ℕ)) : Type 0 where
   pub ks : List ℕ
   pub walked : Walked ts i ks opens ps
@@ -106,14 +107,14 @@ on_stray ts i n ms opens ps t o a e z w = record {
   counted = counted_close ts opens n i t o a e w.counted;
 }
 
--- what the last parenthesis of a stack is among the places
+-- The index of the last parenthesis of the stack.
 pub top : (ts : List Token) (i n : ℕ) (old ms : List (Option ℕ)) (m : Option ℕ) (opens : List ℕ) (ps : List (Option ℕ)) → old ≡ ms ++ m ∷ [] → Walking ts i n old opens ps → IfSome m (λ g. g < length ps)
 top ts i n old ms None opens ps e w = tt
 top ts i n old ms (Some g) opens ps e w =
     let p = marked_pop opens w.ks ms (Some g) (subst (Marked opens w.ks) e w.marked) in
     omega (arith, p.4.0, w.walked.long)
 
--- the last parenthesis of a stack is closed
+-- The last parenthesis of the stack is closed.
 pub on_close : (ts : List Token) (i n : ℕ) (old ms : List (Option ℕ)) (m : Option ℕ) (opens : List ℕ) (ps : List (Option ℕ)) (t : Token) → Opening ts opens → Sorted opens → At ts i t → t.kind ≡ RParen → old ≡ ms ++ m ∷ [] → Walking ts i n old opens ps → Walking ts (i + 1) n ms opens (closed_at ps m i)
 on_close ts i n old ms m opens ps t o s a e f w =
     let p = marked_pop opens w.ks ms m (subst (Marked opens w.ks) f w.marked) in
@@ -124,7 +125,7 @@ on_close ts i n old ms m opens ps t o s a e f w =
       counted = counted_close ts opens n i t o a e w.counted;
     }
 
--- where no parenthesis is open, what lies before the next of the places is passed over
+-- If no parenthesis is open, the tokens before the next of the positions are skipped.
 on_gap : (ts : List Token) (i j n : ℕ) (ms : List (Option ℕ)) (opens : List ℕ) (ps : List (Option ℕ)) → length ms ≡ 0 → i ≤ j → FirstFrom opens i j → Counted opens n j → Walking ts i n ms opens ps → Walking ts j n ms opens ps
 on_gap ts i j n ms opens ps z h f c w = record {
   ks = w.ks;
@@ -133,10 +134,10 @@ on_gap ts i j n ms opens ps z h f c w = record {
   counted = c;
 }
 
--- after a group that was closed, whether or not another is open
+-- After a group that was closed, if another one is open or not.
 pub on_after : (ts : List Token) (i j n : ℕ) (outermost : Bool) (ms : List (Option ℕ)) (opens : List ℕ) (ps : List (Option ℕ)) → (outermost ≡ true → length ms ≡ 0) → (outermost ≡ false → j ≡ i) → i ≤ j → FirstFrom opens i j → Counted opens n j → Walking ts i n ms opens ps → Walking ts j n ms opens ps
 on_after ts i j n true ms opens ps z s h f c w = on_gap ts i j n ms opens ps (z refl) h f c w
 on_after ts i j n false ms opens ps z s h f c w = subst (λ x. Walking ts x n ms opens ps) (sym (s refl)) w
 
-pub end : (ts : List Token) (i n : ℕ) (ms : List (Option ℕ)) (opens : List ℕ) (ps : List (Option ℕ)) → Opening ts opens → length ts ≤ i → Walking ts i n ms opens ps → Paired ts opens ps
+pub end : (ts : List Token) (i n : ℕ) (ms : List (Option ℕ)) (opens : List ℕ) (ps : List (Option ℕ)) → Opening ts opens → length ts ≤ i → Walking ts i n ms opens ps → HasGroupEnds ts opens ps
 end ts i n ms opens ps o h w = walk_end ts i w.ks opens ps o h w.walked

@@ -1,4 +1,4 @@
--- A map of texts, and the finite map that it is seen as.
+-- A map with string keys, and its view as a finite map.
 use Rattle.std.proofs.Common.{◌≡◌, ℕ, List, [], ◌∷◌, length, map, cond, refl, sym, ap, subst, ◌∙◌, ◌+◌, ◌-◌, ◌<◌, ◌≤◌, IsSome, arith, zero, suc, ◌≢◌, nat_lt, Bool, true, false, ◌||◌}
 use Rattle.std.specs.Prelude.{is_some}
 use Rattle.std.specs.List.{list_any}
@@ -27,7 +27,7 @@ find_pairs : {Z : Type 0} (es : List (String Z × ℕ)) (q : List ℕ) → finma
 find_pairs [] q = refl
 find_pairs (e ∷ es) q = ap (cond (is_eq (slice_cmp nat_cmp q (string_bytes e.0))) (Some e.1)) (find_pairs es q)
 
--- what is found at a text
+-- The value of a key.
 pub get-names : {Z : Type 0} (m : BTreeMap (String Z) ℕ) (q : List ℕ) → finmap.get (names_of m.entries) q ≡ get_by_text m q
 get-names m q = get-from_entries nat_list_cmp_total (map (λ e. (string_bytes e.0, e.1)) m.entries) q ∙ find_pairs m.entries q
 
@@ -81,7 +81,7 @@ is_equal Less e = absurd (bool_differs e)
 is_equal Equal e = refl
 is_equal Greater e = absurd (bool_differs e)
 
--- a look-up after a change at that text
+-- The value of a key after it was inserted.
 get-same : (n : Names) (x : List ℕ) (v : ℕ) → finmap.get (finmap.insert n x v) x ≡ Some v
 get-same n x v = get-insert nat_list_cmp_total n x v x ∙ ap (λ b. cond b (Some v) (finmap.get n x)) ((eq_by_cmp_equiv nat_list_cmp_total).refl x)
 
@@ -116,7 +116,7 @@ undo_at n x (Some (suc k)) e h =
     ∙ ap (λ j. finmap.insert (finmap.insert n x (suc k + 1)) x j) (omega arith)
     ∙ set-again n x (suc k) (suc k + 1) e
 
--- to take back what was registered
+-- Removing a registration that was just added.
 pub undo : (n : Names) (x : List ℕ) → IsPositive n → fewer (finmap.insert n x (count n x + 1)) x ≡ n
 undo n x h = undo_at n x (finmap.get n x) refl (h x)
 
@@ -150,7 +150,7 @@ either : (b : Bool) (v : ℕ) (o : Option ℕ) → (b || is_some o) ≡ is_some 
 either true v o = refl
 either false v o = refl
 
--- a key is found where one of them is this text
+-- A key is found if one of the keys is equal to it.
 found_key : {Z : Type 0} (es : List (String Z × ℕ)) (x : List ℕ) → list_any (λ k. bytes_eq x (string_bytes k)) (keys_of es) ≡ is_some (lookup (is_at (λ k. slice_cmp nat_cmp x (string_bytes k))) es)
 found_key [] x = refl
 found_key (e ∷ es) x =
@@ -163,7 +163,7 @@ counted_once None h = refl
 counted_once (Some zero) h = absurd (h refl)
 counted_once (Some (suc k)) h = sym (lt-ltb 0 (suc k) (omega arith))
 
--- a name is registered where it is one of the keys
+-- A name is registered if it is one of the keys.
 pub registered_key : {Z : Type 0} (m : BTreeMap (String Z) ℕ) (s : Names) (x : List ℕ) → names_of m.entries ≡ s → IsPositive (names_of m.entries) → list_any (λ k. bytes_eq x (string_bytes k)) (keys_of m.entries) ≡ is_registered s x
 registered_key m s x is positive =
     found_key m.entries x ∙ ap is_some (sym (get-names m x)) ∙ counted_once (finmap.get (names_of m.entries) x) (positive x) ∙ ap (λ n. is_registered n x) is

@@ -14,8 +14,8 @@ use Rattle.wat_lex.specs.tokens.ReadableTokens.{word_of}
 use Rattle.wat_lex.specs.values.Names.{HasNone, HasNoEscape}
 use Rattle.wat_lex.specs.declared.lexer.kinds.Token.{Token}
 use Rattle.wat_lex.specs.declared.lexer.kinds.TokenKind.TheVariants.{String}
-use Rattle.wat_lexer_parser.specs.parser.State.{State, Answers, at_place, seen_at}
-use Rattle.wat_lexer_parser.specs.parser.Takers.{contains, may_take_at, as_string, word_takes}
+use Rattle.wat_lexer_parser.specs.parser.State.{State, Answers, at_place, peek_at}
+use Rattle.wat_lexer_parser.specs.parser.Takers.{contains, allocates_at, as_string, word_allocates}
 use Rattle.wat_lexer_parser.specs.lemmas.Parts.{may_take}
 
 none_pass : (p : ℕ → Bool) (w : List ℕ) → list_any p w ≡ false → NonePass p w
@@ -34,7 +34,7 @@ no_escape w e = elim (cases_Bool (contains quote w)) [
   | inr h ↦ inl (has_none quote w h)
 ]
 
--- what succeeds without an escape may only be refused where there may be one
+-- A word that may have an escape contains a quotation mark and a backslash.
 pub escapes : (w : List ℕ) → (HasNoEscape w → ⊥) → (contains quote w && contains backslash w) ≡ true
 escapes w h = elim (cases_Bool (contains quote w && contains backslash w)) [
   | inl e ↦ e
@@ -47,13 +47,13 @@ contained c w h = elim (cases_Bool (contains c w)) [
   | inr e ↦ absurd (h (has_none c w e))
 ]
 
--- memory may be wanting
+-- An allocation failure is a permitted result if the call may allocate.
 pub wanting : {V T : Type 0} (takes : Bool) (f : T → V) (m : Result V Report) (r : Result T (Option Report)) → r ≡ Err None → takes ≡ true → Answers takes f m r
 wanting takes f m r e h = subst (Answers takes f m) (sym e) (ap (λ b. b || is_err m) h)
 
-pub may_take_string : (a : State) (p q : ℕ) (t : Token) → seen_at (at_place a p) ≡ Ok (Some (t, q)) → t.kind ≡ String → may_take_at as_string (at_place a p) ≡ contains backslash (word_of a.source.setting.text t)
+pub may_take_string : (a : State) (p q : ℕ) (t : Token) → peek_at (at_place a p) ≡ Ok (Some (t, q)) → t.kind ≡ String → allocates_at as_string (at_place a p) ≡ contains backslash (word_of a.source.setting.text t)
 may_take_string a p q t e k =
-    let x = a.source.setting.text in ap (may_take as_string x) e ∙ ap (λ k. is_some (as_string x t k) && word_takes x t k) k
+    let x = a.source.setting.text in ap (may_take as_string x) e ∙ ap (λ k. is_some (as_string x t k) && word_allocates x t k) k
 
 none_in : (p : ℕ → Bool) (w : List ℕ) → NonePass p w → list_any p w ≡ false
 none_in p [] h = refl
@@ -69,7 +69,7 @@ not_escaped w h = elim h [
   | inr k ↦ ap (λ b. contains quote w && b) (none_in (λ d. d == backslash) w k) ∙ no_backslash (contains quote w)
 ]
 
--- a name that is borrowed where it has no escape is owned where it has one
+-- A name that is borrowed without an escape is owned with one.
 pub owned_where_escaped : {Z : Type 0} (name : CowStr Z) (w : List ℕ) → (IsBorrowedStr name ↔ HasNoEscape w) → is_owned_str name ≡ (contains quote w && contains backslash w)
 owned_where_escaped (Borrowed text) w h = sym (not_escaped w (h.0 tt))
 owned_where_escaped (Owned text) w h = sym (escapes w (λ e. h.1 e))

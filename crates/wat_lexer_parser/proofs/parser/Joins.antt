@@ -1,4 +1,4 @@
--- Texts that are joined.
+-- Concatenated texts.
 use Rattle.std.proofs.Common.{◌≡◌, List, [], ◌∷◌, ◌++◌, ℕ, map, refl, ap}
 use Rattle.std.specs.List.{join_by, flat_map}
 

@@ -1,4 +1,4 @@
--- Refusals.
+-- Errors of calls.
 use Rattle.std.proofs.Common.{◌≡◌, Err, subst, sym}
 use Rattle.std.specs.Prelude.{Option, Result}
 use Rattle.wat_lex.specs.errors.Errors.{Report, IsUnlessMemory}

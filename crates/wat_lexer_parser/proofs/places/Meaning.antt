@@ -1,4 +1,4 @@
--- Whether a text has tokens that count, a token at a time.
+-- The test for significant tokens, one token at a time.
 use Rattle.std.proofs.Common.{◌≡◌, ◌+◌, ◌∙◌, ℕ, Bool, true, false, drop, ap, Some, None}
 use Rattle.std.specs.Prelude.{◌||◌, not, is_some, slice_get}
 use Rattle.std.specs.List.{list_any}

@@ -1,4 +1,4 @@
--- The raw tokens from a place on.
+-- The raw tokens from a position on.
 use Rattle.std.proofs.Common.{ℕ, zero, suc, ◌+◌, ◌≤◌, List, [], ◌∷◌, length, drop, arith}
 use Rattle.std.specs.Prelude.{Option}
 use Rattle.wat_lex.specs.tokens.Setting.{Setting}
@@ -7,7 +7,7 @@ use Rattle.wat_lex.specs.declared.lexer.faults.LexFault.{LexFault}
 use Rattle.wat_lex.specs.declared.lexer.kinds.Token.{Token}
 use Rattle.wat_lexer_parser.specs.places.Places.{offset_at}
 
--- after a token
+-- After one token.
 after : (s : Setting) (from to : ℕ) (t : Token) (ts : List Token) (p : ℕ) → Tiling s from to (t ∷ ts) → p ≤ length ts → Tiling s (offset_at (t ∷ ts) (suc p)) to (drop p ts)
 after s from to t ts zero h l = h.1
 after s from to t [] (suc p) h l = absurd (omega arith)

@@ -1,4 +1,4 @@
--- Which tokens are annotations.
+-- A case analysis on whether a kind is that of an annotation.
 use Rattle.std.proofs.Common.{◌≡◌, ◌≢◌, ◌⊎◌, ◌∙◌, ℕ, List, ap, refl, inl, inr, Some, None, Ok}
 use Rattle.std.specs.Prelude.{if◌then◌else◌, nat_lt, unwrap_or}
 use Rattle.std.specs.FinMap.{get-empty}
@@ -42,7 +42,7 @@ no_name x u Reserved f = refl
 no_name x u (Integer k) f = refl
 no_name x u (Float k) f = refl
 
--- an annotation that has a name is skipped where none is registered
+-- An annotation with a name is skipped if no name is registered.
 pub skipped : (x : List ℕ) (names : Names) (u : Token) (name : List ℕ) → names ≡ no_names → u.kind ≡ Annotation → name_value EmptyAnnotation (word_of x u) ≡ Ok name → step_named names u (name_at x u) ≡ Skip
 skipped x names u name none e is =
     ap (λ k. step_named names u (name_by k x u)) e ∙ ap (λ r. step_named names u (Some r)) is ∙ ap (λ n. if is_registered n name then Take else Skip) none

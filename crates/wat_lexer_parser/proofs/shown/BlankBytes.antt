@@ -1,4 +1,4 @@
--- Bytes with spaces in place of all but line ends.
+-- Bytes of which all except line ends are replaced by spaces.
 use Rattle.std.proofs.Common.{◌≡◌, ℕ, zero, suc, Bool, true, false, List, [], ◌∷◌, ◌++◌, refl, sym, ap, ◌∙◌, subst, inl, inr, Some}
 use Rattle.std.specs.Prelude.{◌==◌, if◌then◌else◌, map, flat_map, slice_get}
 use Rattle.std.specs.Char.{char_set_contains}
@@ -37,7 +37,7 @@ pub bytes_white : (bs : List ℕ) → Each is_whitespace (map blank_byte bs)
 bytes_white [] = tt
 bytes_white (b ∷ bs) = (byte_white b, bytes_white bs)
 
--- Blanked twice is blanked once.
+-- The replacement is idempotent.
 byte_twice : (b : ℕ) → blank_byte (blank_byte b) ≡ blank_byte b
 byte_twice b = elim (cases_Bool (is_line_end b)) [
   | inl t ↦ ap blank_byte (kept b t)
@@ -60,7 +60,7 @@ texts_twice text (t ∷ ts) =
     ∙ ap (λ x. map blank_byte (token_text text t) ++ x) (texts_twice text ts)
     ∙ sym (map-append blank_byte (token_text text t) (flat_map (token_text text) ts))
 
--- So the line ends are the same.
+-- The line ends stay the same.
 stays : (bs : List ℕ) (i c : ℕ) → is_line_end c ≡ true → slice_get bs i ≡ Some c → slice_get (map blank_byte bs) i ≡ Some c
 stays [] i c h e = cc
 stays (b ∷ bs) zero c h e = let k : b ≡ c = cc in ap (λ x. Some (blank_byte x)) k ∙ ap Some (kept c h)

@@ -1,4 +1,5 @@
--- A text with white bytes over a comment: outside the comment it has the same bytes, so other parentheses are marked as they were.
+-- A text with whitespace over a comment: outside the comment it has the same bytes, so the other parentheses are
+-- followed by `@` as before.
 use lib.Utf8.{encode, encodes}
 use Rattle.std.proofs.Common.{◌≡◌, ◌≢◌, ◌≤◌, ◌<◌, ◌+◌, ◌-◌, ℕ, zero, suc, List, [], ◌∷◌, ◌++◌, length, take, drop, refl, arith, ap, sym, ◌∙◌, subst, append_assoc, length-append, length-drop}
 use Rattle.std.specs.Prelude.{slice_get}
@@ -17,7 +18,7 @@ use Rattle.wat_lex.specs.declared.lexer.kinds.TokenKind.TheVariants.{Annotation}
 use Rattle.wat_lex.specs.tokens.Blanks.{is_marked}
 use Rattle.wat_lexer_parser.specs.lemmas.Parts.{is_mark}
 
--- an element is the first of those from there on
+-- An element is the first of those from its index on.
 from_there : (xs : List ℕ) (i : ℕ) → slice_get xs i ≡ slice_get (drop i xs) 0
 from_there [] zero = refl
 from_there [] (suc i) = refl
@@ -67,7 +68,7 @@ size_some : (w : List ℕ) → w ≢ [] → 0 < size w
 size_some [] h = absurd (h refl)
 size_some (c ∷ w) h = omega (arith, length-append (encode c) (encodes w), length-encode c, (len_utf8_bounds c).0)
 
--- an annotation is not empty
+-- An annotation is not empty.
 pub annotation_some : (s : Setting) (p : ℕ) (t : Token) → TokenAt s p t → t.kind ≡ Annotation → 0 < t.len
 annotation_some s p t h e =
     let w = subst (λ k. Word k h.word s.flags) e h.is_at.word in

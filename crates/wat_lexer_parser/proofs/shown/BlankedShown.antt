@@ -1,4 +1,4 @@
--- What is shown of two lists of raw tokens that differ in white space and comments alone, of which each list has some at one place.
+-- The visible tokens of two lists of raw tokens that differ only in whitespace and comments, at one position.
 use Rattle.std.proofs.Common.{◌≡◌, ◌≢◌, ℕ, List, [], ◌∷◌, ◌++◌, true, false, refl, sym, ap, ◌∙◌, subst, inl, inr, Some, None, Ok, Err}
 use Rattle.std.specs.Prelude.{Option, IsTrue, if◌then◌else◌}
 use Rattle.std.specs.Str.{chars}
@@ -16,7 +16,7 @@ use Rattle.wat_lex.specs.tokens.Blanks.{is_blank, is_marked}
 use Rattle.wat_lexer_parser.specs.lemmas.Parts.{is_paren}
 use Rattle.wat_lexer_parser.specs.lemmas.After.{does}
 use Rattle.wat_lexer_parser.specs.names.RegisteredNames.{Names}
-use Rattle.wat_lexer_parser.specs.shown.Shown.{Finding, ended, left_open}
+use Rattle.wat_lexer_parser.specs.shown.Shown.{Finding, ended, unclosed_ending}
 use Rattle.wat_lexer_parser.specs.inside.ShownIn.{Mode, Showing, Inside, shown_in, first, step_of, step_kind, step_next, step_named, name_by, after}
 use Rattle.wat_lexer_parser.proofs.shown.Annotations.{is_annotation, no_name}
 use Rattle.wat_lexer_parser.proofs.shown.Skipping.{after_plain}
@@ -43,19 +43,19 @@ blank_no_paren (Float k) e = refl
 blank_no_annotation : (k : TokenKind) → is_blank k ≡ true → k ≢ Annotation
 blank_no_annotation k e f = let g : false ≡ true = sym (ap is_blank f) ∙ e in cc
 
--- white space and comments are passed over, in a group too
+-- Whitespace and comments are skipped, also inside a group.
 passes : (x : List ℕ) (z : Option LexFault) (n : Names) (m : Mode) (b r : List Token) → AreBlank b → shown_in x z n m (b ++ r) ≡ shown_in x z n m r
 unfolding shown_in
 passes x z n m [] r h = refl
 passes x z n Showing (t ∷ b) r h = by_step x z n t (b ++ r) Pass (blank_step x n t (first (b ++ r)) t.kind h.0) ∙ passes x z n Showing b r h.1
 passes x z n (Inside o d) (t ∷ b) r h = ap (λ k. shown_in x z n k (b ++ r)) (after_plain t.kind o d (blank_no_paren t.kind h.0)) ∙ passes x z n (Inside o d) b r h.1
 
--- In both texts the tokens have the same bytes, and after the same ones is `@`.
+-- In both texts the tokens have the same bytes, and the same ones are followed by `@`.
 abbrev pub SameAfter : List ℕ → List ℕ → List Token → Type 0
 SameAfter x y [] = Unit {0}
 SameAfter x y (t ∷ ts) = (token_text y t ≡ token_text x t) × (is_marked y t ≡ is_marked x t) × SameAfter x y ts
 
--- The same, but that nothing is known of the byte after a token that no annotation follows.
+-- Like `SameAfter`, but the byte after a token that is not followed by an annotation may differ.
 abbrev pub SameBefore : List ℕ → List ℕ → List Token → Type 0
 SameBefore x y [] = Unit {0}
 SameBefore x y (t ∷ []) = (token_text y t ≡ token_text x t) × Unit {0}
@@ -75,7 +75,7 @@ same_name x y u Reserved e = refl
 same_name x y u (Integer k) e = refl
 same_name x y u (Float k) e = refl
 
--- only the step of a parenthesis reads the text
+-- Only the step of a parenthesis depends on the text.
 steps_by : (x y : List ℕ) (n : Names) (t : Token) (u v : Option Token) (k : TokenKind) → (k ≡ LParen → step_kind x n t LParen u ≡ step_kind y n t LParen v) → step_kind x n t k u ≡ step_kind y n t k v
 steps_by x y n t u v LParen h = h refl
 steps_by x y n t u v Whitespace h = refl
@@ -90,7 +90,7 @@ steps_by x y n t u v Reserved h = refl
 steps_by x y n t u v (Integer k) h = refl
 steps_by x y n t u v (Float k) h = refl
 
--- a parenthesis is shown where no annotation follows it, whatever comes after it in the text
+-- A parenthesis that is not followed by an annotation is visible, regardless of the text after it.
 unnamed_step : (x : List ℕ) (n : Names) (t v : Token) → v.kind ≢ Annotation → step_kind x n t LParen (Some v) ≡ Take
 unnamed_step x n t v e = by_mark (is_marked x t)
   where
@@ -119,18 +119,18 @@ before_same x y n t u e f = elim (is_annotation u.kind) [
 ]
 
 module _ (x y : List ℕ) (z : Option LexFault) (n : Names) (v w : Token) (a b h : List Token) where
-  -- the same tokens, up to what is passed over between those before and those after
+  -- Lists of the same tokens, except for whitespace and comments between the first ones and the last ones.
   pub data Twins : List Token → List Token → Type 0 where
     spaced : (ts : List Token) → SameBefore x y ts → Twins (ts ++ (v ∷ a ++ h)) (ts ++ (w ∷ b ++ h))
     later : (ts : List Token) → SameAfter x y ts → Twins ts ts
 
-  -- the same is found, and twins are left
+  -- The same is found, and twins remain.
   pub data Alike : Finding → Finding → Type 0 where
     none : Alike (Ok None) (Ok None)
     fault : (f : Fault) → Alike (Err f) (Err f)
     token : (t : Token) (r q : List Token) → token_text y t ≡ token_text x t → Twins r q → Alike (Ok (Some (t, r))) (Ok (Some (t, q)))
 
-  -- what is found in the other text where this is found in the one
+  -- The finding in the other text, for a finding in the one.
   abbrev pub Found : Finding → Finding → Type 0
   Found (Ok None) f = f ≡ Ok None
   Found (Ok (Some u)) f = (q : List Token) × (f ≡ Ok (Some (u.0, q))) × (token_text y u.0 ≡ token_text x u.0) × Twins u.1 q
@@ -145,11 +145,11 @@ module _ (x y : List ℕ) (z : Option LexFault) (n : Names) (v w : Token) (a b h
   alike_ended None = none
   alike_ended (Some f) = fault _
 
-  alike_open : (e : Option LexFault) (o : Token) → Alike (left_open e o) (left_open e o)
+  alike_open : (e : Option LexFault) (o : Token) → Alike (unclosed_ending e o) (unclosed_ending e o)
   alike_open None o = fault _
   alike_open (Some f) o = fault _
 
-  -- from one step
+  -- The findings after one step.
   alike_does : (t : Token) (r q : List Token) → token_text y t ≡ token_text x t → Twins r q → ((m : Mode) → Alike (shown_in x z n m r) (shown_in y z n m q)) → (k : Step) → Alike (does x z n t r k) (does y z n t q k)
   alike_does t r q e g next Pass = next Showing
   alike_does t r q e g next Take = token t r q e g

@@ -1,4 +1,4 @@
--- What is shown of the tokens that count.
+-- The visible tokens of the significant tokens.
 use Rattle.std.proofs.Common.{◌≡◌, ℕ, zero, suc, true, false, List, [], ◌∷◌, refl, sym, ap, subst, inl, inr, Some, None, Ok}
 use Rattle.std.specs.Prelude.{Option, cond, not}
 use Rattle.std.proofs.lemmas.Bool.{cases_Bool}
@@ -11,7 +11,7 @@ use Rattle.wat_lex.specs.tokens.Blanks.{is_blank, is_marked}
 use Rattle.wat_lexer_parser.specs.lemmas.Parts.{is_paren}
 use Rattle.wat_lexer_parser.specs.names.RegisteredNames.{Names}
 use Rattle.wat_lexer_parser.specs.laws.Counting.{counting, counting_after}
-use Rattle.wat_lexer_parser.specs.shown.Shown.{Finding, Shown, ended, left_open, none_left, blank, other, unmarked, none_follows, no_annotation, misnamed, registered, skipped, unclosed}
+use Rattle.wat_lexer_parser.specs.shown.Shown.{Finding, Shown, ended, unclosed_ending, none_left, blank, other, unmarked, none_follows, no_annotation, misnamed, registered, skipped, unclosed}
 use Rattle.wat_lexer_parser.proofs.groups.Closing.{Closed, Closings, close, beyond, nested, closed_from, group_from, kind_cases, at_nil, at_close, at_plain, at_open}
 
 counting_blank : (t : Token) (r : List Token) → is_blank t.kind ≡ true → counting (t ∷ r) ≡ counting r
@@ -24,7 +24,7 @@ ended_counts : (z : Option LexFault) → counting_after (ended z) ≡ ended z
 ended_counts None = refl
 ended_counts (Some f) = refl
 
-left_counts : (z : Option LexFault) (t : Token) → counting_after (left_open z t) ≡ left_open z t
+left_counts : (z : Option LexFault) (t : Token) → counting_after (unclosed_ending z t) ≡ unclosed_ending z t
 left_counts None t = refl
 left_counts (Some f) t = refl
 
@@ -42,7 +42,7 @@ blank_plain Reserved e = refl
 blank_plain (Integer k) e = refl
 blank_plain (Float k) e = refl
 
--- Groups end where they do, and no others.
+-- The ends of groups among the significant tokens are those among all tokens.
 closed_counts : (s r : List Token) → Closed s r → Closed (counting s) (counting r)
 closed_counts s r (close {t = t} e) = subst (λ x. Closed x (counting r)) (sym (counting_other t r (ap is_blank e))) (close e)
 closed_counts s r (beyond {t = t} {s = u} e h) = elim (cases_Bool (is_blank t.kind)) [
@@ -87,7 +87,7 @@ no_group_counts s none q g =
     let k = some_close s 0 q (q, closed_from (counting s) q g, refl) in
     none k.1.0 (group_from s k.1.0 k.1.1)
 
--- A token that counts comes directly after each parenthesis with `@`.
+-- Each `(` that is followed by `@` has a significant token directly after it.
 abbrev pub IsFollowed : List ℕ → Token → List Token → Type 0
 IsFollowed text t [] = Unit {0}
 IsFollowed text t (u ∷ r) = t.kind ≡ LParen → is_marked text t ≡ true → is_blank u.kind ≡ false
@@ -102,15 +102,15 @@ followed_past text s r (beyond {s = u} e h) f = followed_past text u r h f.1
 followed_past text s r (nested {s = u} {m = m} e g h) f = followed_past text m r h (followed_past text u m g f.1)
 
 module _ (text : List ℕ) (z : Option LexFault) (n : Names) where
-  -- a token in front that counts
+  -- A significant token at the start.
   of_one : (t : Token) (r : List Token) (a : Finding) → is_blank t.kind ≡ false → Shown text z n (t ∷ counting r) a → Shown text z n (counting (t ∷ r)) a
   of_one t r a e h = subst (λ x. Shown text z n x a) (sym (counting_other t r e)) h
 
-  -- two of them
+  -- Two significant tokens at the start.
   of_two : (t u : Token) (r : List Token) (a : Finding) → t.kind ≡ LParen → is_blank u.kind ≡ false → Shown text z n (t ∷ u ∷ counting r) a → Shown text z n (counting (t ∷ u ∷ r)) a
   of_two t u r a e b h = of_one t (u ∷ r) a (ap is_blank e) (subst (λ x. Shown text z n (t ∷ x) a) (sym (counting_other u r b)) h)
 
-  -- the first of two is shown
+  -- The first of two significant tokens is visible.
   shows_two : (t u : Token) (r : List Token) → t.kind ≡ LParen → is_blank u.kind ≡ false → Shown text z n (t ∷ u ∷ counting r) (Ok (Some (t, u ∷ counting r)))
       → Shown text z n (counting (t ∷ u ∷ r)) (Ok (Some (t, counting (u ∷ r))))
   shows_two t u r e b h =
@@ -130,6 +130,6 @@ module _ (text : List ℕ) (z : Option LexFault) (n : Names) where
   shown_counts ts a f (unclosed {t = t} {u = u} {r = r} m w i g) =
       let b = ap is_blank w.kind in
       let none = subst NoGroup (counting_other u r b) (no_group_counts (u ∷ r) g) in
-      of_two t u r (counting_after (left_open z t)) m.0 b (subst (Shown text z n (t ∷ u ∷ counting r)) (sym (left_counts z t)) (unclosed m w i none))
+      of_two t u r (counting_after (unclosed_ending z t)) m.0 b (subst (Shown text z n (t ∷ u ∷ counting r)) (sym (left_counts z t)) (unclosed m w i none))
   shown_counts ts a f (unmarked {t = t} {r = r} e k) = of_one t r (Ok (Some (t, counting r))) (ap is_blank e) (unmarked e k)
   shown_counts ts a f (other {t = t} {r = r} b k) = of_one t r (Ok (Some (t, counting r))) b (other b k)

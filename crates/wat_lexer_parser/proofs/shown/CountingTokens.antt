@@ -1,4 +1,4 @@
--- After a parenthesis with `@` no white space and no comment follows, since these begin with other characters.
+-- Neither whitespace nor a comment follows a `(` that is followed by `@`, because they begin with other characters.
 use lib.Utf8.{encode, encodes}
 use Rattle.std.proofs.Common.{◌≡◌, ◌≢◌, ◌⊎◌, ◌+◌, ℕ, zero, suc, true, List, [], ◌∷◌, ◌++◌, length, drop, refl, sym, ap, ◌∙◌, arith, inl, inr, Some, None}
 use Rattle.std.specs.Prelude.{Option, slice_get, get_or}
@@ -22,7 +22,7 @@ use Rattle.wat_lexer_parser.specs.shown.Shown.{other, unmarked}
 use Rattle.wat_lexer_parser.proofs.shown.Counting.{IsFollowed, AreFollowed, shown_counts}
 use Rattle.wat_lexer_parser.proofs.shown.Marks.{paren_len}
 
--- the word begins with a character other than `@`
+-- The word begins with a character other than `@`.
 abbrev BeginsOther : List ℕ → Type 0
 BeginsOther w = (c : ℕ) × (r : List ℕ) × (w ≡ c ∷ r) × (c ≢ at_sign)
 
@@ -50,7 +50,7 @@ blank_other Reserved w flags b h = cc
 blank_other (Integer i) w flags b h = cc
 blank_other (Float i) w flags b h = cc
 
--- an element is the first of those from its place on
+-- An element is the first of those from its index on.
 is_at_first : (xs : List ℕ) (i b : ℕ) → slice_get xs i ≡ Some b → (r : List ℕ) × (drop i xs ≡ b ∷ r)
 is_at_first [] zero b e = cc
 is_at_first [] (suc i) b e = cc

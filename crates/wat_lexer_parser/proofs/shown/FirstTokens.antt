@@ -1,4 +1,4 @@
--- What the first token at a place means for a look there.
+-- The classification of the first token at a position.
 use lib.Utf8.{encode}
 use Rattle.std.proofs.Common.{◌≡◌, ◌≤◌, ◌<◌, ◌+◌, ◌^◌, ◌∙◌, ℕ, List, [], ◌∷◌, ap, subst, arith, Bool, true, false, Some, None}
 use Rattle.std.specs.Prelude.{◌==◌, Option, IfSome, slice_get, option_map, unwrap_or}
@@ -58,7 +58,7 @@ sighted s p i t Blank on same here there reader short h = record {
 sighted s p i t Marked on same here there reader short h = (record { on = on; same = same }, marked_at s i t here there reader h.0 h.1)
 sighted s p i t Nothing on same here there reader short h = absurd h
 
--- what is next at a place is next at an earlier one that shows the same
+-- The next token of a position is also that of an earlier one at which the same token is visible.
 pub next_from : (s : Source) (p q : ℕ) (names : Names) (found : Option (Token × ℕ)) → IsShownFrom s p q → IfSome found (IsNext s q names) → IfSome found (IsNext s p names)
 next_from s p q names None f h = tt
 next_from s p q names (Some v) f h = record { value = f.same names ∙ h.value; on = omega (arith, f.on, h.on); after = h.after }

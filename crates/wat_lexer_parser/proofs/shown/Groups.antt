@@ -1,4 +1,4 @@
--- A group that is passed over, a token at a time.
+-- Skipping a group, one token at a time.
 use lib.Utf8.{encode, encodes}
 use Rattle.std.proofs.Common.{◌≡◌, ◌+◌, ◌-◌, ◌<◌, ◌∙◌, ◌++◌, ◌∷◌, [], ℕ, List, suc, zero, drop, get_or, get_or-drop, arith, ap, sym, subst, inl, inr, Some, None, false}
 use Rattle.std.specs.Prelude.{slice_get, slice_index}
@@ -14,7 +14,7 @@ use Rattle.wat_lexer_parser.specs.inside.ShownIn.{Inside, Showing, shown_in, aft
 use Rattle.wat_lexer_parser.specs.lemmas.Parts.{is_paren}
 use Rattle.wat_lexer_parser.specs.names.RegisteredNames.{Names}
 use Rattle.wat_lexer_parser.specs.places.Source.{Source}
-use Rattle.wat_lexer_parser.specs.shown.Shown.{left_open}
+use Rattle.wat_lexer_parser.specs.shown.Shown.{unclosed_ending}
 use Rattle.wat_lexer_parser.proofs.groups.Closing.{kind_cases}
 use Rattle.wat_lexer_parser.proofs.places.Comments.{drop_some, drop_none}
 use Rattle.wat_lexer_parser.proofs.shown.Skipping.{after_plain}
@@ -23,30 +23,30 @@ inside_at : (s : Source) (n : Names) (o : Token) (i d : ℕ) (t : Token) → sli
 unfolding shown_in
 inside_at s n o i d t e = ap (shown_in s.setting.text s.ending n (Inside o d)) (drop_some s.tokens i t e)
 
-pub inside_ends : (s : Source) (n : Names) (o : Token) (i d : ℕ) → slice_get s.tokens i ≡ None → found_inside s i d n o ≡ left_open s.ending o
+pub inside_ends : (s : Source) (n : Names) (o : Token) (i d : ℕ) → slice_get s.tokens i ≡ None → found_inside s i d n o ≡ unclosed_ending s.ending o
 unfolding shown_in
 inside_ends s n o i d e = ap (shown_in s.setting.text s.ending n (Inside o d)) (drop_none s.tokens i e)
 
--- it goes one level down
+-- An opening parenthesis increases the depth.
 pub inside_opens : (s : Source) (n : Names) (o : Token) (i d : ℕ) (t : Token) → slice_get s.tokens i ≡ Some t → t.kind ≡ LParen → found_inside s i d n o ≡ found_inside s (i + 1) (d + 1) n o
 inside_opens s n o i d t e k =
     let f : suc d ≡ d + 1 = omega arith in
     inside_at s n o i d t e ∙ ap (λ k. shown_in s.setting.text s.ending n (after k o d) (drop (i + 1) s.tokens)) k ∙ ap (λ d. found_inside s (i + 1) d n o) f
 
--- it goes one level up
+-- A closing parenthesis decreases the depth.
 pub inside_closes : (s : Source) (n : Names) (o : Token) (i d : ℕ) (t : Token) → slice_get s.tokens i ≡ Some t → t.kind ≡ RParen → 0 < d → found_inside s i d n o ≡ found_inside s (i + 1) (d - 1) n o
 inside_closes s n o i zero t e k h = absurd (omega (arith, h))
 inside_closes s n o i (suc d) t e k h =
     let f : d ≡ suc d - 1 = omega arith in
     inside_at s n o i (suc d) t e ∙ ap (λ k. shown_in s.setting.text s.ending n (after k o (suc d)) (drop (i + 1) s.tokens)) k ∙ ap (λ d. found_inside s (i + 1) d n o) f
 
--- it ends
+-- The closing parenthesis at depth 0 ends the group.
 pub inside_last : (s : Source) (n : Names) (o : Token) (i d : ℕ) (t : Token) → slice_get s.tokens i ≡ Some t → t.kind ≡ RParen → d ≡ 0 → found_inside s i d n o ≡ shown_in s.setting.text s.ending n Showing (drop (i + 1) s.tokens)
 inside_last s n o i d t e k h =
     inside_at s n o i d t e ∙ ap (λ k. shown_in s.setting.text s.ending n (after k o d) (drop (i + 1) s.tokens)) k
     ∙ ap (λ d. shown_in s.setting.text s.ending n (after RParen o d) (drop (i + 1) s.tokens)) h
 
--- another token changes nothing
+-- Other tokens do not change the depth.
 pub inside_passes : (s : Source) (n : Names) (o : Token) (i d : ℕ) (t : Token) → slice_get s.tokens i ≡ Some t → is_paren t.kind ≡ false → found_inside s i d n o ≡ found_inside s (i + 1) d n o
 inside_passes s n o i d t e k = inside_at s n o i d t e ∙ ap (λ k. shown_in s.setting.text s.ending n k (drop (i + 1) s.tokens)) (after_plain t.kind o d k)
 
@@ -56,7 +56,7 @@ no_paren t f g = elim (kind_cases t.kind) [
   | inr h ↦ elim h [ inl e ↦ absurd (g e) | inr e ↦ e ]
 ]
 
--- the byte of a parenthesis that closes
+-- The byte of a closing parenthesis.
 pub close_byte : (text : List ℕ) (t : Token) → IsUtf8 text → IsTokenOf text t → t.kind ≡ RParen → slice_index text t.offset ≡ 41
 unfolding encode
 close_byte text t u r e =

@@ -1,4 +1,4 @@
--- What is shown at a place, a step at a time.
+-- The visible token at a position, one step at a time.
 use Rattle.std.proofs.Common.{◌≡◌, ℕ, zero, suc, ◌+◌, ◌-◌, ◌<◌, ◌≤◌, List, [], ◌∷◌, refl, sym, ap, ◌∙◌, inl, inr, subst, length, drop, get_or, arith, length-drop, Some, None, Ok, Err}
 use Rattle.std.specs.Prelude.{slice_get, Option, Result, true, if◌then◌else◌}
 use Rattle.std.proofs.lemmas.List.{drop_more, drop_all}
@@ -11,7 +11,7 @@ use Rattle.wat_lexer_parser.specs.declared.parser.fault.Step.TheVariants.{Pass, 
 use Rattle.wat_lexer_parser.proofs.groups.Closing.{Closed}
 use Rattle.wat_lexer_parser.specs.lemmas.After.{does}
 use Rattle.wat_lexer_parser.specs.names.RegisteredNames.{Names, is_registered}
-use Rattle.wat_lexer_parser.specs.shown.Shown.{ended, left_open}
+use Rattle.wat_lexer_parser.specs.shown.Shown.{ended, unclosed_ending}
 use Rattle.wat_lexer_parser.specs.shown.Showing.{shown, placed}
 use Rattle.wat_lexer_parser.specs.inside.ShownIn.{Showing, shown_in, first, step_of, step_kind, step_next, step_named, name_at}
 use Rattle.wat_lexer_parser.specs.places.Source.{Source}
@@ -35,7 +35,7 @@ first-drop zero (t ∷ ts) = refl
 first-drop (suc i) [] = refl
 first-drop (suc i) (t ∷ ts) = first-drop i ts
 
--- the token at a place says what is shown there
+-- The token at a position determines the visible token there.
 pub shown_at : (s : Source) (n : Names) (i : ℕ) (t : Token) → i < length s.tokens → t ≡ get_or s.tokens i t
     → shown s i n ≡ placed s.tokens (does s.setting.text s.ending n t (drop (i + 1) s.tokens) (step_of s.setting.text n t (slice_get s.tokens (i + 1))))
 unfolding shown
@@ -76,7 +76,7 @@ shown_skip s n i j t h e f g =
     ∙ ap (placed s.tokens) (past_closed s.setting.text s.ending n t 0 (drop (i + 1) s.tokens) (drop (j + 1) s.tokens) g)
 
 pub shown_unclosed : (s : Source) (n : Names) (i : ℕ) (t : Token) → i < length s.tokens → t ≡ get_or s.tokens i t
-    → step_of s.setting.text n t (slice_get s.tokens (i + 1)) ≡ Skip → ((r : List Token) → Closed (drop (i + 1) s.tokens) r → ⊥) → shown s i n ≡ placed s.tokens (left_open s.ending t)
+    → step_of s.setting.text n t (slice_get s.tokens (i + 1)) ≡ Skip → ((r : List Token) → Closed (drop (i + 1) s.tokens) r → ⊥) → shown s i n ≡ placed s.tokens (unclosed_ending s.ending t)
 shown_unclosed s n i t h e f g =
     shown_at s n i t h e ∙ ap (λ k. placed s.tokens (does s.setting.text s.ending n t (drop (i + 1) s.tokens) k)) f
     ∙ ap (placed s.tokens) (elim (closes_or_not s.setting.text s.ending n t 0 (drop (i + 1) s.tokens)) [
@@ -84,7 +84,7 @@ shown_unclosed s n i t h e f g =
       | inr k ↦ k.shows
     ])
 
--- only an opening parenthesis begins a group
+-- Only an opening parenthesis begins a group.
 pub skip_opens : (s : Source) (n : Names) (t : Token) (u : Option Token) → step_of s.setting.text n t u ≡ Skip → t.kind ≡ LParen
 skip_opens s n t u e = opens t.kind refl
   where
@@ -102,7 +102,7 @@ skip_opens s n t u e = opens t.kind refl
     opens (Integer y) f = let g : step_kind s.setting.text n t (Integer y) u ≡ Skip = subst (λ x. step_kind s.setting.text n t x u ≡ Skip) f e in cc
     opens (Float y) f = let g : step_kind s.setting.text n t (Float y) u ≡ Skip = subst (λ x. step_kind s.setting.text n t x u ≡ Skip) f e in cc
 
--- what a step that skips has after it
+-- The tokens after a step that skips a group.
 heads_by : (s : Source) (n : Names) (i : ℕ) (t : Token) (o : Option Token) → slice_get s.tokens i ≡ Some t → slice_get s.tokens (i + 1) ≡ o → t.kind ≡ LParen → step_kind s.setting.text n t LParen o ≡ Skip → (u : Token) × HeadsAnnotation s.tokens i u
 heads_by s n i t None e f o h = elim (cases_Bool (is_marked s.setting.text t)) [
   | inl m ↦ let k : Finish ≡ Skip = sym (ap (λ b. if b then step_next s.setting.text n None else Take) m) ∙ h in cc
@@ -123,7 +123,7 @@ skip_heads s n i t l e h =
     let o = skip_opens s n t (slice_get s.tokens (i + 1)) h in
     heads_by s n i t (slice_get s.tokens (i + 1)) (slice_get_read s.tokens (length s.tokens) i t refl l e) refl o (subst (λ k. step_kind s.setting.text n t k (slice_get s.tokens (i + 1)) ≡ Skip) o h)
 
--- a token that is never shown is passed
+-- Whitespace and comments are skipped.
 pub blank_passes : (x : List ℕ) (n : Names) (t : Token) (u : Option Token) → is_blank t.kind ≡ true → step_of x n t u ≡ Pass
 blank_passes x n t u e = passes t.kind e
   where
@@ -145,7 +145,7 @@ pub shown_none : (s : Source) (n : Names) (i : ℕ) → slice_get s.tokens i ≡
 unfolding shown shown_in
 shown_none s n i e = ap (λ x. placed s.tokens (shown_in s.setting.text s.ending n Showing x)) (drop_none s.tokens i e)
 
--- what is shown after a parenthesis whose group is passed over
+-- The token visible at a parenthesis whose group is skipped.
 pub shown_group : (s : Source) (n : Names) (i : ℕ) (t : Token) → slice_get s.tokens i ≡ Some t → step_of s.setting.text n t (slice_get s.tokens (i + 1)) ≡ Skip → shown s i n ≡ placed s.tokens (found_inside s (i + 1) 0 n t)
 shown_group s n i t e f =
     shown_at s n i t (slice_get_within s.tokens i t e) (sym (get_or_from_slice_get s.tokens i t t e))
@@ -177,7 +177,7 @@ finish_by x n t (Some u) Reserved e = cc
 finish_by x n t (Some u) (Integer k) e = cc
 finish_by x n t (Some u) (Float k) e = cc
 
--- where the tokens end with a parenthesis and `@`, what is shown is what is shown after it
+-- If the tokens end with a `(` that is followed by `@`, the result of a peek is the one after it.
 pub shown_last : (s : Source) (n : Names) (i : ℕ) (t : Token) → slice_get s.tokens i ≡ Some t → step_of s.setting.text n t (slice_get s.tokens (i + 1)) ≡ Finish → shown s i n ≡ shown s (i + 1) n
 shown_last s n i t e f =
     shown_finish s n i t (slice_get_within s.tokens i t e) (sym (get_or_from_slice_get s.tokens i t t e)) f

@@ -1,4 +1,4 @@
--- After a parenthesis with `@` a token or a fault follows.
+-- A token or a lexical error follows a `(` that is followed by `@`.
 use lib.Utf8.{encode}
 use Rattle.std.proofs.Common.{◌≡◌, ℕ, ◌+◌, List, [], ◌∷◌, ◌++◌, ap, ◌∙◌, subst, length, arith, Some, None}
 use Rattle.std.specs.Prelude.{Option, IsTrue}
@@ -13,7 +13,7 @@ use Rattle.wat_lex.specs.declared.lexer.kinds.TokenKind.TheVariants.{LParen}
 use Rattle.wat_lexer_parser.specs.lemmas.Parts.{is_mark}
 use Rattle.wat_lexer_parser.specs.laws.ShownLaws.{MarksEndInFaults}
 
--- the last token of a tiling ends where the tiling does
+-- The last token of a tiling ends at the end of the tiling.
 pub record LastAt (s : Setting) (to : ℕ) (t : Token) : Type 0 where
   pub from : ℕ
   pub token : TokenAt s from t

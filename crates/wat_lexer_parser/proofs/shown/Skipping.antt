@@ -1,4 +1,4 @@
--- What is shown past a group.
+-- The visible token after a group.
 use Rattle.std.specs.Prelude.{Option}
 use Rattle.std.proofs.Common.{◌≡◌, ◌⊎◌, ℕ, zero, suc, List, [], ◌∷◌, false, refl, sym, ap, ◌∙◌, inl, inr, subst}
 use Rattle.wat_lex.specs.declared.lexer.kinds.TokenKind.{TokenKind}
@@ -8,7 +8,7 @@ use Rattle.wat_lex.specs.declared.lexer.faults.LexFault.{LexFault}
 use Rattle.wat_lexer_parser.specs.names.RegisteredNames.{Names}
 use Rattle.wat_lexer_parser.specs.lemmas.Parts.{is_paren}
 use Rattle.wat_lexer_parser.proofs.groups.Closing.{Closed, close, beyond, nested}
-use Rattle.wat_lexer_parser.specs.shown.Shown.{left_open}
+use Rattle.wat_lexer_parser.specs.shown.Shown.{unclosed_ending}
 use Rattle.wat_lexer_parser.specs.inside.ShownIn.{Inside, shown_in, after, closed_one}
 use Rattle.wat_lexer_parser.proofs.groups.Closing.{Closings, kind_cases, at_nil, at_close, at_plain, at_open}
 
@@ -33,10 +33,10 @@ past_closed x z n o d ts r (beyond {t = t} {s = u} e h) = ap (λ k. shown_in x z
 past_closed x z n o d ts r (nested {t = t} {s = u} {m = m} e g h) =
     ap (λ k. shown_in x z n (after k o d) u) e ∙ past_closed x z n o (suc d) u m g ∙ past_closed x z n o d m r h
 
--- the groups that are open are closed, or they are not
+-- The `d + 1` open groups are not closed in the tokens, so the finding inside the group of `o` is the ending.
 pub record NeverCloses (x : List ℕ) (z : Option LexFault) (n : Names) (o : Token) (d : ℕ) (ts : List Token) : Type 0 where
   pub none : (r : List Token) → Closings (suc d) ts r → ⊥
-  pub shows : shown_in x z n (Inside o d) ts ≡ left_open z o
+  pub shows : shown_in x z n (Inside o d) ts ≡ unclosed_ending z o
 
 pub closes_or_not : (x : List ℕ) (z : Option LexFault) (n : Names) (o : Token) (d : ℕ) (ts : List Token)
     → ((r : List Token) × Closings (suc d) ts r) ⊎ NeverCloses x z n o d ts

@@ -1,11 +1,11 @@
--- Something is shown of every list of tokens whose annotations have a name or a fault of it.
+-- Each list of tokens whose annotations have a name, or an error in it, has a finding.
 use Rattle.std.proofs.Common.{◌≡◌, ◌≢◌, ◌⊎◌, ℕ, zero, suc, ◌<◌, ◌+◌, List, [], ◌∷◌, true, false, refl, sym, ap, ◌∙◌, inl, inr, subst, length, drop, arith, Some, None, Err}
 use Rattle.std.specs.Prelude.{Option}
 use Rattle.std.specs.Str.{IsUtf8, IsCharBoundary}
 use Rattle.std.proofs.lemmas.Bool.{cases_Bool}
 use Rattle.wat_lex.specs.values.UniqueValues.{SomeName, good, fault}
 use Rattle.wat_lex.specs.tokens.ReadableTokens.{IsTokenOf, word_of}
-use Rattle.wat_lex.specs.tokens.EverySetting.{NamesAreThere, NamesAreValues, TokensAreReadable, TokensEndAtBoundaries, WordsOfTokens}
+use Rattle.wat_lex.specs.tokens.EverySetting.{NamesExist, NamesAreValues, TokensAreReadable, TokensEndAtBoundaries, WordsOfTokens}
 use Rattle.wat_lex.specs.tokens.Setting.{Setting, lenient}
 use Rattle.wat_lex.specs.tokens.Tiling.{Tiling}
 use Rattle.wat_lex.specs.grammar.Words.{Word}
@@ -40,14 +40,14 @@ kind_sort Reserved = inr (inr (refl, λ e. cc))
 kind_sort (Integer k) = inr (inr (refl, λ e. cc))
 kind_sort (Float k) = inr (inr (refl, λ e. cc))
 
--- each annotation has a name, or a fault of it
+-- Each annotation has a name, or an error in it.
 abbrev pub Nameable : List ℕ → List Token → Type 0
 Nameable text [] = Unit {0}
 Nameable text (t ∷ ts) = (t.kind ≡ Annotation → SomeName EmptyAnnotation (word_of text t)) × Nameable text ts
 
--- what is known of words, names and tokens
+-- The theorems about words, names and tokens that the proof uses.
 pub record Known : Type 0 where
-  pub there : NamesAreThere
+  pub there : NamesExist
   pub values : NamesAreValues
   pub readable : TokensAreReadable
   pub boundary : TokensEndAtBoundaries

@@ -1,4 +1,4 @@
--- What the cases show is what the function gives.
+-- The finding of the relation is the one of the function.
 use Rattle.std.proofs.Common.{◌≡◌, ◌≢◌, ℕ, List, [], ◌∷◌, Bool, true, false, refl, ap, ◌∙◌, inl, inr, Some, None, Ok, Err}
 use Rattle.std.specs.Prelude.{Option, Result, if◌then◌else◌}
 use Rattle.wat_lex.specs.declared.lexer.faults.LexError.{LexError}
@@ -12,7 +12,7 @@ use Rattle.wat_lexer_parser.specs.declared.parser.fault.Step.{Step}
 use Rattle.wat_lexer_parser.specs.declared.parser.fault.Step.TheVariants.{Pass, Take, Finish, Skip}
 use Rattle.wat_lexer_parser.specs.groups.Sorts.{Group}
 use Rattle.wat_lexer_parser.specs.names.RegisteredNames.{Names, is_registered}
-use Rattle.wat_lexer_parser.specs.shown.Shown.{Finding, HasName, IsMisnamed, Shown, none_left, blank, other, unmarked, none_follows, no_annotation, misnamed, registered, skipped, unclosed, left_open}
+use Rattle.wat_lexer_parser.specs.shown.Shown.{Finding, HasName, IsMisnamed, Shown, none_left, blank, other, unmarked, none_follows, no_annotation, misnamed, registered, skipped, unclosed, unclosed_ending}
 use Rattle.wat_lexer_parser.specs.inside.ShownIn.{Showing, Inside, shown_in, first, step_of, step_kind, step_next, step_named, name_by, name_at}
 use Rattle.wat_lex.specs.tokens.Blanks.{is_blank, is_marked}
 use Rattle.wat_lexer_parser.proofs.groups.Closing.{closed_from, group_from}
@@ -50,14 +50,14 @@ other_step x n t u Reserved e f = refl
 other_step x n t u (Integer k) e f = refl
 other_step x n t u (Float k) e f = refl
 
--- the function's name of an annotation is the grammar's
+-- The name of an annotation in the grammar is that of the function.
 pub named : NamesAreValues → (x : List ℕ) (u : Token) (v : List ℕ) → HasName x u v → name_at x u ≡ Some (Ok v)
 named laws x u v h = ap (λ k. name_by k x u) h.kind ∙ ap (λ r. Some r) (laws.good EmptyAnnotation (word_of x u) v h.name h.utf8 h.some)
 
 pub misnamed_is : NamesAreValues → (x : List ℕ) (u : Token) (e : LexError) → IsMisnamed x u e → name_at x u ≡ Some (Err e)
 misnamed_is laws x u e h = ap (λ k. name_by k x u) h.kind ∙ ap (λ r. Some r) (laws.fault EmptyAnnotation e (word_of x u) h.fault)
 
--- what a step leads to
+-- The finding after a step.
 pub by_step : (x : List ℕ) (z : Option LexFault) (n : Names) (t : Token) (r : List Token) (k : Step) → step_of x n t (first r) ≡ k → shown_in x z n Showing (t ∷ r) ≡ does x z n t r k
 by_step x z n t r k e = step_at x z n t r ∙ ap (does x z n t r) e
 
@@ -70,7 +70,7 @@ name_step x n t u v e f g = mark_step x n t (Some u) true e f ∙ ap (step_named
 pub registered_step : (x : List ℕ) (n : Names) (t u : Token) (v : List ℕ) (b : Bool) → t.kind ≡ LParen → is_marked x t ≡ true → name_at x u ≡ Some (Ok v) → is_registered n v ≡ b → step_of x n t (Some u) ≡ (if b then Take else Skip)
 registered_step x n t u v b e f g h = name_step x n t u (Some (Ok v)) e f g ∙ ap (λ y. if y then Take else Skip) h
 
-no_group : (x : List ℕ) (z : Option LexFault) (n : Names) (t : Token) (ts : List Token) → ((m : List Token) → Group ts m → ⊥) → shown_in x z n (Inside t 0) ts ≡ left_open z t
+no_group : (x : List ℕ) (z : Option LexFault) (n : Names) (t : Token) (ts : List Token) → ((m : List Token) → Group ts m → ⊥) → shown_in x z n (Inside t 0) ts ≡ unclosed_ending z t
 no_group x z n t ts h = elim (closes_or_not x z n t 0 ts) [ inl g ↦ absurd (h g.1.0 (group_from ts g.1.0 g.1.1)) | inr g ↦ g.shows ]
 
 pub shows_is : NamesAreValues → (x : List ℕ) (z : Option LexFault) (n : Names) (ts : List Token) (a : Finding) → Shown x z n ts a → shown_in x z n Showing ts ≡ a

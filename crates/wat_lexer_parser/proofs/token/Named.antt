@@ -1,4 +1,4 @@
--- An identifier that is taken, of which callers see whether its name is owned.
+-- The value of an identifier that is consumed, of which callers see its name and if the name is owned.
 use Rattle.std.proofs.Common.{◌≡◌, ◌∙◌, ℕ, Bool, false, List, ap, sym, refl, Some, None, Ok, Err}
 use Rattle.std.specs.Prelude.{◌&&◌, Option, Result, is_some, IfOk, IfSome}
 use Rattle.std.specs.Option.{option_map}
@@ -6,7 +6,7 @@ use Rattle.wat_lex.specs.errors.Errors.{Report}
 use Rattle.wat_lex.specs.declared.lexer.kinds.Token.{Token}
 use Rattle.wat_lexer_parser.specs.lemmas.After.{same_token}
 use Rattle.wat_lexer_parser.specs.parser.State.{Answers, Seen}
-use Rattle.wat_lexer_parser.specs.parser.Takers.{as_id, name_takes, taken, taken_by, word_takes}
+use Rattle.wat_lexer_parser.specs.parser.Takers.{as_id, name_is_decoded, taken, token_value_by, word_allocates}
 use Rattle.wat_lexer_parser.specs.lemmas.Parts.{may_take}
 use Rattle.wat_lexer_parser.specs.readings.Types.{as_owned_id, named_by}
 
@@ -36,14 +36,14 @@ module _ {T : Type 0} (bytes : T → List ℕ) (owned : T → Bool) (at : T → 
   found_named takes b n q (Err None) h k = h
   found_named takes b n q (Err (Some e)) h k = cc
 
-  by_reader : (o : Option (Result (List ℕ) Report)) (takes b : Bool) (q : ℕ) (r : Result (Option T) (Option Report)) → Answers (is_some o && takes) plain (taken_by q o) r → IfOk r (λ found. IfSome found (λ v. owned v ≡ b))
-      → Answers (is_some (named_by b o) && takes) named (taken_by q (named_by b o)) r
+  by_reader : (o : Option (Result (List ℕ) Report)) (takes b : Bool) (q : ℕ) (r : Result (Option T) (Option Report)) → Answers (is_some o && takes) plain (token_value_by q o) r → IfOk r (λ found. IfSome found (λ v. owned v ≡ b))
+      → Answers (is_some (named_by b o) && takes) named (token_value_by q (named_by b o)) r
   by_reader None takes b q r h k = none_named r h
   by_reader (Some (Ok n)) takes b q r h k = found_named takes b n q r h k
   by_reader (Some (Err f)) takes b q r h k = refused_named takes f r h
 
   pub named_answers : (x : List ℕ) (a : Seen) (r : Result (Option T) (Option Report)) → Answers (may_take as_id x a) plain (taken as_id x a) r
-      → ((t : Token) (q : ℕ) → a ≡ Ok (Some (t, q)) → IfOk r (λ found. IfSome found (λ v. owned v ≡ name_takes x t))) → Answers (may_take as_owned_id x a) named (taken as_owned_id x a) r
+      → ((t : Token) (q : ℕ) → a ≡ Ok (Some (t, q)) → IfOk r (λ found. IfSome found (λ v. owned v ≡ name_is_decoded x t))) → Answers (may_take as_owned_id x a) named (taken as_owned_id x a) r
   named_answers x (Ok None) r h k = none_named r h
-  named_answers x (Ok (Some (t, q))) r h k = by_reader (as_id x t t.kind) (word_takes x t t.kind) (name_takes x t) q r h (k t q refl)
+  named_answers x (Ok (Some (t, q))) r h k = by_reader (as_id x t t.kind) (word_allocates x t t.kind) (name_is_decoded x t) q r h (k t q refl)
   named_answers x (Err f) r h k = refused_named false f r h

@@ -1,4 +1,4 @@
--- The words of the tables are idchars, each seen by computing, and so is the word at a place.
+-- The words of the tables consist of idchars, by computation, and so does the word at each index.
 use Rattle.std.proofs.Common.{ℕ, List, [], ◌∷◌, zero, suc, refl, ◌≡◌, get_or, true}
 use Rattle.std.specs.List.{list_all}
 use Rattle.std.proofs.lemmas.Bool.{and_parts}

@@ -1,4 +1,4 @@
--- The values of a parser as codes, which `Model` asks for.
+-- Encodings of a parser's state and its parts as values of coded types, which the trait `Model` requires.
 use Rattle.std.specs.Prelude.{ℕ, Bool, List, refl, Option}
 use Rattle.std.specs.Coded.{Coded, code_by, coded×, coded_ℕ, coded_bool, coded_list, coded_option}
 use Rattle.std.specs.FinMap as map

@@ -1,4 +1,4 @@
--- What an integer of a type reads, by the bound and the messages. The search for proofs does not take these apart.
+-- The readings of integer types, by their bounds and messages, as definitions that proof search does not unfold.
 use Rattle.std.specs.Prelude.{ℕ, ℤ, Bool, List}
 use Rattle.wat_lex.specs.grammar.Numbers.{sign_token}
 use Rattle.wat_lex.specs.tokens.ReadableTokens.{word_of}
@@ -9,7 +9,7 @@ use Rattle.wat_lexer_parser.specs.parser.Takers.{as_integer, is_minus}
 use Rattle.wat_lexer_parser.specs.readings.Readings.{Reading, checked, spanned, token}
 use Rattle.wat_lexer_parser.specs.readings.Types.{signed_number, unsigned_below}
 
--- whether the token has a minus, and the number that its digits write
+-- The sign of an integer token, true for a minus, and the natural number that its digits denote.
 abbrev pub number_known : List ℕ → Token × IntegerKind → Bool × ℕ
 number_known text v = (is_minus (sign_token v.1.sign), integer_value v.1.hex (word_of text v.0))
 

@@ -1,4 +1,4 @@
--- Whether a text has tokens that count, from a place on. No part of the standard.
+-- A test for a significant token or a lexical error from a position on. Not part of the standard.
 use Rattle.std.specs.Prelude.{ℕ, Bool, ◌||◌, not, drop, is_some}
 use Rattle.std.specs.List.{list_any}
 use Rattle.wat_lex.specs.tokens.Blanks.{is_blank}

@@ -1,5 +1,5 @@
--- What `Shown` says, as a function of the raw tokens: by the law of what is shown nothing else is, so a reader of `Shown` may skip this. No
--- part of the standard.
+-- `Shown` as a function of the raw tokens. By the theorem `shown` the relation holds of this function's results alone,
+-- so a reader of `Shown` may skip this file. Not part of the standard.
 use Rattle.std.specs.Prelude.{ℕ, zero, suc, List, [], ◌∷◌, if◌then◌else◌, Option, Some, None, Result, Ok, Err}
 use Rattle.wat_lex.specs.tokens.ReadableTokens.{word_of}
 use Rattle.wat_lex.specs.values.WordValues.{name_value}
@@ -14,17 +14,18 @@ use Rattle.wat_lexer_parser.specs.declared.parser.fault.Step.{Step}
 use Rattle.wat_lexer_parser.specs.declared.parser.fault.Step.TheVariants.{Pass, Take, Finish, Refuse, Skip}
 use Rattle.wat_lex.specs.tokens.Blanks.{is_marked}
 use Rattle.wat_lexer_parser.specs.names.RegisteredNames.{Names, is_registered}
-use Rattle.wat_lexer_parser.specs.shown.Shown.{Finding, ended, left_open}
+use Rattle.wat_lexer_parser.specs.shown.Shown.{Finding, ended, unclosed_ending}
 
 abbrev pub name_by : TokenKind → List ℕ → Token → Option (Result (List ℕ) LexError)
 name_by Annotation text t = Some (name_value EmptyAnnotation (word_of text t))
 name_by kind text t = None
 
--- an annotation's name, or what is wrong with it; None for another token
+-- The name of an annotation, or the error in it; `None` for a token of another kind.
 abbrev pub name_at : List ℕ → Token → Option (Result (List ℕ) LexError)
 name_at text t = name_by t.kind text t
 
--- What the token in front means, by the one directly after it.
+-- The step for a token, given the token that follows it: skip the token, return it, skip its group, or return an
+-- error.
 abbrev pub step_named : Names → Token → Option (Result (List ℕ) LexError) → Step
 step_named names u None = Take
 step_named names u (Some (Err e)) = Refuse (record { offset = u.offset; kind = Lex e })
@@ -44,7 +45,8 @@ step_kind text names t kind u = Take
 abbrev pub step_of : List ℕ → Names → Token → Option Token → Step
 step_of text names t u = step_kind text names t t.kind u
 
--- in no group, or in one that this parenthesis opened, so many levels deep
+-- The state of the traversal: outside of skipped groups, or inside the group opened at a token, with a number of inner
+-- groups open.
 pub data Mode : Type 0 where
   Showing : Mode
   Inside : Token → ℕ → Mode
@@ -64,7 +66,7 @@ first (t ∷ r) = Some t
 
 unfoldable pub shown_in : List ℕ → Option LexFault → Names → Mode → List Token → Finding
 shown_in text ending names Showing [] = ended ending
-shown_in text ending names (Inside o d) [] = left_open ending o
+shown_in text ending names (Inside o d) [] = unclosed_ending ending o
 shown_in text ending names Showing (t ∷ r) = elim (step_of text names t (first r)) [
   | Pass ↦ shown_in text ending names Showing r
   | Take ↦ Ok (Some (t, r))

@@ -1,4 +1,4 @@
--- What a table notes of names, as lists of bytes.
+-- The name entries of a table, as lists of bytes.
 use Rattle.std.specs.Prelude.{ℕ, List, Option, Some, None, Result, Ok, Err, string_bytes}
 use Rattle.std.specs.declared.boxed.Box.{Box}
 use Rattle.std.specs.declared.string.String.{String}

@@ -1,4 +1,5 @@
--- What holds of every list of calls: looks and refused calls change nothing else. No part of the standard.
+-- A theorem about all sequences of calls: peeks and rejected calls have no effect on other calls. Not part of the
+-- standard.
 use Rattle.std.specs.Prelude.{◌≡◌, Bool, true, false, ◌&&◌, not, List, [], ◌∷◌, if◌then◌else◌}
 use Rattle.wat_lexer_parser.specs.declared.parser.calls.Call.{Call}
 use Rattle.wat_lexer_parser.specs.declared.parser.calls.Call.TheVariants as call
@@ -7,7 +8,7 @@ use Rattle.wat_lexer_parser.specs.declared.parser.calls.Reply.TheVariants as rep
 use Rattle.wat_lexer_parser.specs.calls.Calls.{answer, replies, state_after}
 use Rattle.wat_lexer_parser.specs.parser.State.{State}
 
--- the reply is that of a call that did something
+-- The reply is a token, a comment or `Done`: the call was not rejected.
 abbrev pub is_done : Reply → Bool
 is_done (reply.Token t) = true
 is_done (reply.Comment o n) = true
@@ -21,7 +22,7 @@ is_look other = false
 abbrev pub is_kept : State → Call → Bool
 is_kept s c = not (is_look c) && is_done (answer s c).0
 
--- the calls without looks and refused ones, and the replies to them
+-- The calls of a sequence without peeks and rejected calls, and the replies to them.
 unfoldable pub kept_calls : State → List Call → List Call
 kept_calls s [] = []
 kept_calls s (c ∷ cs) = if is_kept s c then c ∷ kept_calls (answer s c).1 cs else kept_calls (answer s c).1 cs
@@ -30,11 +31,11 @@ unfoldable pub kept_replies : State → List Call → List Reply
 kept_replies s [] = []
 kept_replies s (c ∷ cs) = if is_kept s c then (answer s c).0 ∷ kept_replies (answer s c).1 cs else kept_replies (answer s c).1 cs
 
--- without them the other replies and the last state are the same
-pub record NothingElse (s : State) (cs : List Call) : Type 0 where
+-- Without peeks and rejected calls, the other replies and the last state stay the same.
+pub record IsIndependentOfPeeks (s : State) (cs : List Call) : Type 0 where
   pub same_replies : replies s (kept_calls s cs) ≡ kept_replies s cs
   pub same_state : state_after s (kept_calls s cs) ≡ state_after s cs
 
--- which holds of each state and each list of calls
-abbrev pub LooksAndRefusals : Type 0
-LooksAndRefusals = (s : State) (cs : List Call) → NothingElse s cs
+-- Theorem: this holds for each state and each sequence of calls.
+abbrev pub PeeksAndRejectedCalls : Type 0
+PeeksAndRejectedCalls = (s : State) (cs : List Call) → IsIndependentOfPeeks s cs

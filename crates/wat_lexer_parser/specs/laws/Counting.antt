@@ -1,5 +1,5 @@
--- WebAssembly specification, text format, lexical format: tokens, white space, comments, annotations. What is shown of the tokens that
--- count is what is shown of all raw tokens.
+-- WebAssembly 2.0, 6.2 (lexical format), and the custom annotations proposal. The visible tokens of a text are those
+-- of its significant tokens.
 use Rattle.std.specs.Prelude.{ℕ, List, ◌∷◌, not, filter, drop, IsFalse, Option, Some, None, Ok, Err}
 use Rattle.std.specs.Str.{IsUtf8}
 use Rattle.wat_lex.specs.declared.lexer.faults.LexFault.{LexFault}
@@ -9,22 +9,24 @@ use Rattle.wat_lexer_parser.specs.names.RegisteredNames.{Names}
 use Rattle.wat_lexer_parser.specs.places.Source.{Source, IsRead}
 use Rattle.wat_lexer_parser.specs.shown.Shown.{Finding, Shown, IsMarked}
 
--- the tokens that count: neither white space nor comments
+-- The significant tokens: neither whitespace nor comments.
 abbrev pub counting : List Token → List Token
 counting ts = filter (λ t. not (is_blank t.kind)) ts
 
--- the same, of the tokens after the one that is shown
+-- The finding, with only the significant tokens after the visible one.
 abbrev pub counting_after : Finding → Finding
 counting_after (Ok None) = Ok None
 counting_after (Ok (Some (t, r))) = Ok (Some (t, counting r))
 counting_after (Err f) = Err f
 
--- what is shown from a place of a text on is shown of the tokens that count there, with those that count after it
+-- Theorem: the token visible from a position `p` of a text is the one visible in the significant tokens from there,
+-- and the significant tokens after it follow. This includes the end and errors.
 abbrev pub CountingShowsTheSame : Type 0
 CountingShowsTheSame = (s : Source) (names : Names) (p : ℕ) (a : Finding) → IsUtf8 s.setting.text → IsRead s → Shown s.setting.text s.ending names (drop p s.tokens) a
     → Shown s.setting.text s.ending names (counting (drop p s.tokens)) (counting_after a)
 
--- a token that counts is shown where it is, whatever names are registered, if it is no parenthesis with `@` directly after it
+-- Theorem: a significant token at the start of a list of tokens is visible under each set of names, unless it is a `(`
+-- followed immediately by `@`.
 abbrev pub PlainTokensAreShown : Type 0
 PlainTokensAreShown = (text : List ℕ) (ending : Option LexFault) (names : Names) (t : Token) (r : List Token) → IsFalse (is_blank t.kind) → (IsMarked text t → ⊥)
     → Shown text ending names (t ∷ r) (Ok (Some (t, r)))

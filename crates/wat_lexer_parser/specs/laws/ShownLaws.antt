@@ -1,5 +1,5 @@
--- WebAssembly specification, text format, lexical format: annotations. The laws of what is shown, beside that it is one thing: of groups,
--- of all that is shown, and of what looks take.
+-- Custom annotations proposal (lexical format, annotations). Theorems about visible tokens, apart from their
+-- uniqueness: about groups, all visible tokens, and the tokens that calls consume.
 use Rattle.std.specs.Prelude.{◌≡◌, ◌≢◌, ◌≤◌, ◌<◌, ◌+◌, ◌-◌, ℕ, List, [], ◌∷◌, ◌++◌, Option, Some, None, Ok, Err, length, drop, slice_get}
 use Rattle.std.specs.Str.{IsUtf8}
 use Rattle.wat_lex.specs.tokens.Setting.{Setting}
@@ -15,33 +15,35 @@ use Rattle.wat_lexer_parser.specs.laws.AllShown.{AllShown}
 use Rattle.wat_lexer_parser.specs.shown.Shown.{IsMarked}
 use Rattle.wat_lexer_parser.specs.shown.Showing.{shown}
 
--- the raw tokens from a place on are the tail of the raw tokens
+-- Theorem: the raw tokens from a position on are the tail of the raw tokens of the text.
 abbrev pub TailsAreRaw : Type 0
 TailsAreRaw = (s : Setting) (ts : List Token) (e : Option LexFault) (p : ℕ) → MaximalTiling s 0 ts e → p ≤ length ts → MaximalTiling s (offset_at ts p) (drop p ts) e
 
--- a group ends at one place
+-- Theorem: the end of a group is unique.
 abbrev pub GroupIsOne : Type 0
 GroupIsOne = (ts r q : List Token) → Group ts r → Group ts q → r ≡ q
 
--- from each place on, tokens are shown one after another, and then the end or a fault
+-- Theorem: from each position on there is a list of visible tokens, followed by the end or an error.
 abbrev pub SomethingIsAllShown : Type 0
 SomethingIsAllShown = (s : Source) (names : Names) (p : ℕ) → IsUtf8 s.setting.text → IsRead s → (us : List Token) × (f : Option Fault) × AllShown s.setting.text s.ending names (drop p s.tokens) us f
 
--- and no others
+-- Theorem: this list, and the end or error after it, are unique.
 abbrev pub AllShownIsOne : Type 0
 AllShownIsOne = (text : List ℕ) (e : Option LexFault) (names : Names) (ts us vs : List Token) (f g : Option Fault) → AllShown text e names ts us f → AllShown text e names ts vs g → (us ≡ vs) × (f ≡ g)
 
--- what a look at a place shows, and then all that is shown from the place after it
+-- Theorem: all visible tokens from a position are the token that a peek finds there, followed by those from the
+-- position after it. If a peek finds the end or an error, there are none, and this follows.
 pub record LooksAreAllShown : Type 0 where
   pub token : (s : Source) (names : Names) (p q : ℕ) (t : Token) (us : List Token) (e : Option Fault) → IsUtf8 s.setting.text → IsRead s → shown s p names ≡ Ok (Some (t, q))
       → AllShown s.setting.text s.ending names (drop q s.tokens) us e → AllShown s.setting.text s.ending names (drop p s.tokens) (t ∷ us) e
   pub end : (s : Source) (names : Names) (p : ℕ) → IsUtf8 s.setting.text → IsRead s → shown s p names ≡ Ok None → AllShown s.setting.text s.ending names (drop p s.tokens) [] None
   pub fault : (s : Source) (names : Names) (p : ℕ) (f : Fault) → IsUtf8 s.setting.text → IsRead s → shown s p names ≡ Err f → AllShown s.setting.text s.ending names (drop p s.tokens) [] (Some f)
 
--- A token that is shown at a place is one of the tokens from there on, and the place after it is where it ends.
+-- Theorem: a token that is visible at a position `p` is the raw token before the position `q` after it, is at or after
+-- `p`, and ends at the byte offset of `q`.
 abbrev pub ShownIsTaken : Type 0
 ShownIsTaken = (s : Source) (p : ℕ) (names : Names) (t : Token) (q : ℕ) → shown s p names ≡ Ok (Some (t, q)) → (p < q) × (q ≤ length s.tokens) × (slice_get s.tokens (q - 1) ≡ Some t) × (offset_at s.tokens q ≡ t.offset + t.len)
 
--- where the last token is a parenthesis with `@` directly after it, a fault of the text follows
+-- Theorem: if the last raw token is a `(` followed immediately by `@`, the text has a lexical error after it.
 abbrev pub MarksEndInFaults : Type 0
 MarksEndInFaults = (s : Source) (ts : List Token) (t : Token) → IsRead s → s.tokens ≡ ts ++ (t ∷ []) → IsMarked s.setting.text t → s.ending ≢ None

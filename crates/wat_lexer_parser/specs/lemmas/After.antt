@@ -1,4 +1,4 @@
--- What is left after a shown token, and where it is.
+-- The tokens after a visible token, and the position after it.
 use Rattle.std.proofs.Common.{◌≡◌, ℕ, zero, suc, ◌+◌, ◌-◌, ◌<◌, ◌≤◌, List, [], ◌∷◌, refl, sym, ap, ◌∙◌, length, drop, drop-drop, length-drop, arith, Some, None, Ok, Err}
 use Rattle.std.specs.Prelude.{Option, Result, slice_get}
 use Rattle.wat_lex.specs.declared.lexer.faults.LexFault.{LexFault}
@@ -7,7 +7,7 @@ use Rattle.wat_lexer_parser.specs.declared.parser.fault.Fault.{Fault}
 use Rattle.wat_lexer_parser.specs.declared.parser.fault.Step.{Step}
 use Rattle.wat_lexer_parser.specs.declared.parser.fault.Step.TheVariants.{Pass, Take, Finish, Refuse, Skip}
 use Rattle.wat_lexer_parser.specs.names.RegisteredNames.{Names}
-use Rattle.wat_lexer_parser.specs.shown.Shown.{Finding, ended, left_open}
+use Rattle.wat_lexer_parser.specs.shown.Shown.{Finding, ended, unclosed_ending}
 use Rattle.wat_lexer_parser.specs.laws.ShownLaws.{ShownIsTaken}
 use Rattle.wat_lexer_parser.specs.lemmas.Parts.{end_of}
 use Rattle.wat_lexer_parser.specs.places.Places.{offset_at}
@@ -15,7 +15,7 @@ use Rattle.wat_lexer_parser.specs.places.Source.{Source}
 use Rattle.wat_lexer_parser.specs.shown.Showing.{placed, shown}
 use Rattle.wat_lexer_parser.specs.inside.ShownIn.{Mode, Showing, Inside, shown_in, first, step_of, after}
 
--- what is shown of a token and the rest after it, by the step that the token means
+-- What is visible of a token and the tokens after it, given the token's step.
 abbrev pub does : List ℕ → Option LexFault → Names → Token → List Token → Step → Finding
 does x z n t r Pass = shown_in x z n Showing r
 does x z n t r Take = Ok (Some (t, r))
@@ -23,7 +23,7 @@ does x z n t r Finish = ended z
 does x z n t r (Refuse f) = Err f
 does x z n t r Skip = shown_in x z n (Inside t 0) r
 
--- the rest is what is left after this token, which is in the tokens after so many others
+-- `r` are the tokens after the token `t` in `ts`, which has `past` tokens before it.
 pub record After (t : Token) (ts r : List Token) : Type 0 where
   pub past : ℕ
   pub inside : past < length ts
@@ -40,7 +40,7 @@ not_ended : (z : Option LexFault) (t : Token) (r : List Token) → ended z ≡ O
 not_ended None t r e = cc
 not_ended (Some f) t r e = cc
 
-not_left : (z : Option LexFault) (o t : Token) (r : List Token) → left_open z o ≡ Ok (Some (t, r)) → ⊥
+not_left : (z : Option LexFault) (o t : Token) (r : List Token) → unclosed_ending z o ≡ Ok (Some (t, r)) → ⊥
 not_left None o t r e = cc
 not_left (Some f) o t r e = cc
 
@@ -57,7 +57,7 @@ rest_of d (Err f) = d
 pub same_token : {A B F : Type 0} (t u : A) (r q : B) → ◌≡◌ {A = Result (Option (A × B)) F} (Ok (Some (t, r))) (Ok (Some (u, q))) → (t ≡ u) × (r ≡ q)
 same_token t u r q e = (ap (token_of t) e, ap (rest_of r) e)
 
--- what is left after a shown token
+-- The finding's remaining tokens are those after the visible token.
 pub after_in : (x : List ℕ) (z : Option LexFault) (n : Names) (m : Mode) (ts : List Token) (t : Token) (r : List Token) → shown_in x z n m ts ≡ Ok (Some (t, r)) → After t ts r
 unfolding shown_in
 after_in x z n Showing [] t r e = absurd (not_ended z t r e)
@@ -74,7 +74,8 @@ after_in x z n (Inside o d) (u ∷ us) t r e = one_more t u us r (after_in x z n
 pub forward_in : (x : List ℕ) (z : Option LexFault) (n : Names) (m : Mode) (ts : List Token) (t : Token) (r : List Token) → shown_in x z n m ts ≡ Ok (Some (t, r)) → length r < length ts
 forward_in x z n m ts t r e = after_shorter t ts r (after_in x z n m ts t r e)
 
--- this token is shown at a place: it comes right before a later place, and what is left after it is the tail there
+-- The token `t` is visible at position `p` and `r` are the tokens after it: the position after `t` is greater than
+-- `p`, is within the tokens, and the token before it is `t`.
 pub record AfterPlace (t : Token) (ts : List Token) (p : ℕ) (r : List Token) : Type 0 where
   pub forward : p < length ts - length r
   pub inside : length ts - length r ≤ length ts
@@ -93,7 +94,7 @@ after_place t ts p r b =
     let k : length ts - length r - 1 ≡ p + b.past = omega (arith, h) in
     record { forward = omega (arith, h); inside = omega arith; there = ap (slice_get ts) k ∙ sym (get_of_tail ts p b.past) ∙ b.there; tail = e ∙ ap (λ k. drop k ts) (sym h) }
 
--- from a look at a place to what is shown there
+-- From the result of a peek at a position to the finding of the tokens from there.
 pub from_none : (ts : List Token) (a : Finding) → placed ts a ≡ Ok None → a ≡ Ok None
 from_none ts (Ok None) e = refl
 from_none ts (Ok (Some (t, r))) e = cc
@@ -109,12 +110,12 @@ from_token ts (Ok None) t q e = cc
 from_token ts (Ok (Some (u, r))) t q e = let k = same_token u t (length ts - length r) q e in (r, ap (λ v. Ok (Some (v, r))) k.0, k.1)
 from_token ts (Err f) t q e = cc
 
--- the byte of a place is the end of the token right before it
+-- The byte offset of a position is the end of the token before it.
 end_at : (ts : List Token) (q : ℕ) (t : Token) → 0 < q → slice_get ts (q - 1) ≡ Some t → offset_at ts q ≡ t.offset + t.len
 end_at ts zero t l e = absurd (omega arith)
 end_at ts (suc q) t l e = let k : q ≡ suc q - 1 = omega arith in ap (λ i. end_of (slice_get ts i)) k ∙ ap end_of e
 
--- the place after a shown token is further on, within the tokens, and the token ends there
+-- The position after a visible token is greater and within the tokens, and the token ends there.
 pub shown_is_taken : ShownIsTaken
 unfolding shown
 shown_is_taken s p n t q e =

@@ -1,5 +1,5 @@
--- The laws of readings: what is read takes a token, a lemma for each word of their language. A type's own reading has it by composing. No
--- part of the standard.
+-- Lemmas about readings: a reading consumes a token, with a lemma for each combinator of their language. The lemma for
+-- a type's reading is composed of these. Not part of the standard.
 use Rattle.std.proofs.Common.{◌≡◌, ◌<◌, ◌+◌, ℕ, List, Bool, true, false, arith, refl, ap, ◌∙◌, Some, None, Ok, Err}
 use Rattle.std.specs.Prelude.{Option, Result, codes}
 use Rattle.wat_lex.specs.errors.Errors.{Report}
@@ -9,7 +9,7 @@ use Rattle.wat_lexer_parser.specs.parser.Closures.{opened, closed, inside}
 use Rattle.wat_lexer_parser.specs.lemmas.Parts.{taken_or}
 use Rattle.wat_lexer_parser.specs.parser.Sights.{Sight}
 use Rattle.wat_lexer_parser.specs.parser.State.{State, Seen, seen, known, report_here}
-use Rattle.wat_lexer_parser.specs.parser.Takers.{Reader, taken, taken_at, taken_by, may_take_at, as_open, as_close}
+use Rattle.wat_lexer_parser.specs.parser.Takers.{Reader, taken, token_value_at, token_value_by, allocates_at, as_open, as_close}
 use Rattle.wat_lexer_parser.specs.places.Places.{current_span}
 use Rattle.wat_lexer_parser.specs.places.Source.{Source}
 use Rattle.wat_lexer_parser.specs.readings.Readings.{Outcome, Reading, refused, refuse, token, token_by, and_then, and_then_by, mapped, pair, known_as, spanned, allocated, checked, checked_by, passed_by, where_seen, where_seen_by, closed_by, inside_by, opened_by, group}
@@ -17,7 +17,7 @@ use Rattle.wat_lexer_parser.specs.readings.Reads.{Advances, Reads}
 use Rattle.wat_lexer_parser.specs.shown.Showing.{Look, shown}
 use Rattle.wat_lexer_parser.specs.lemmas.After.{forward_shown}
 
--- What is seen, and what is taken of it, is further on.
+-- The position after the visible token, and after a token that a reader consumes, is greater.
 
 abbrev after_of : {A F : Type 0} → ℕ → Result (Option (A × ℕ)) F → ℕ
 after_of d (Ok None) = d
@@ -33,7 +33,7 @@ pub forward_seen : (s : Source) (p : ℕ) (names : Names) (t : Token) (q : ℕ) 
 unfolding seen
 forward_seen s p names t q e = forward_known s.setting.text (shown s p names) p t q (λ u r k. (forward_shown s p names u r k).0) e
 
-taken_place : {V : Type 0} (o : Option (Result V Report)) (q : ℕ) (v : V) (r : ℕ) → taken_by q o ≡ Ok (Some (v, r)) → q ≡ r
+taken_place : {V : Type 0} (o : Option (Result V Report)) (q : ℕ) (v : V) (r : ℕ) → token_value_by q o ≡ Ok (Some (v, r)) → q ≡ r
 taken_place None q v r e = cc
 taken_place (Some (Ok w)) q v r e = ap (after_of q) e
 taken_place (Some (Err f)) q v r e = cc
@@ -51,7 +51,7 @@ opened_of r (Ok None) p o h e = cc
 opened_of r (Ok (Some (v, q))) p o h e = let k : q ≡ o = cc in omega (arith, h v q refl, k)
 opened_of r (Err f) p o h e = cc
 
--- after `(`, and after `)`
+-- The positions after `(` and after `)` are greater.
 pub forward_opened : (s : Source) (p : ℕ) (names : Names) (q : ℕ) → opened s p names ≡ Ok q → p < q
 unfolding opened
 forward_opened s p names q e = opened_of (report_here s p names (codes "expected `(`")) (taken as_open s.setting.text (seen s p names)) p q (forward_taken as_open s p names) e
@@ -60,7 +60,7 @@ pub forward_closed : (s : Source) (p : ℕ) (names : Names) (q : ℕ) → closed
 unfolding closed
 forward_closed s p names q e = opened_of (report_here s p names (codes "expected `)`")) (taken as_close s.setting.text (seen s p names)) p q (forward_taken as_close s p names) e
 
--- What is read takes a token.
+-- Each reading consumes a token.
 
 token_advances : {V : Type 0} (r : Result (Option (V × ℕ)) Report) (takes : Bool) (f : Report) (p : ℕ) (v : V) → ((w : V) (q : ℕ) → r ≡ Ok (Some (w, q)) → p < q) → (token_by r takes (refused f 0) p).answer ≡ Ok v → 0 < (token_by r takes (refused f 0) p).passed
 token_advances (Ok None) takes f p v h e = cc
@@ -69,7 +69,7 @@ token_advances (Err g) takes f p v h e = cc
 
 pub advances_token : {V : Type 0} (read : Reader V) (message : List ℕ) → Advances (token read message)
 advances_token read message a v e =
-    token_advances (taken_at read a) (may_take_at read a) (report_here a.source a.place a.names message) a.place v (forward_taken read a.source a.place a.names) e
+    token_advances (token_value_at read a) (allocates_at read a) (report_here a.source a.place a.names message) a.place v (forward_taken read a.source a.place a.names) e
 
 and_then_advances : {V W : Type 0} (r : Result V Report) (n : ℕ) (takes : Bool) (next : V → Reading W) (a : State) (w : W) → ((v : V) → r ≡ Ok v → 0 < n) → (and_then_by r n takes next a).answer ≡ Ok w → 0 < (and_then_by r n takes next a).passed
 and_then_advances (Ok v) n takes next a w h e = omega (arith, h v refl)
@@ -132,7 +132,7 @@ opened_advances (Err f) m a w h e = cc
 pub advances_group : {V : Type 0} (m : Reading V) → Advances (group m)
 advances_group m a w e = opened_advances (opened a.source a.place a.names) m a w (forward_opened a.source a.place a.names) e
 
--- What calls answer, of whose values the same is reported otherwise.
+-- The promise of a call holds for each view of its values that equals the given one.
 pub reads_alike : {V T : Type 0} (f g : T → V) (m : Reading V) (a : State) (r : Result T (Option Report)) (q : ℕ) → ((x : T) → f x ≡ g x) → Reads f m a r q → Reads g m a r q
 reads_alike f g m a (Ok x) q e h = (h.0 ∙ ap Ok (e x), h.1)
 reads_alike f g m a (Err None) q e h = h

@@ -1,5 +1,5 @@
--- What each word reads is what its rule says of the shown tokens, both ways. The ending is carried beside the tokens, so that this holds at every
--- place, also before a fault. The laws below are proofs, which a reader may skip.
+-- Proofs that each reading and its rule agree about the visible tokens, in both directions. They hold at every
+-- position, also before an error, because the ending is an argument. The contracts can be understood without them.
 use Rattle.std.proofs.Common.{◌≡◌, ◌∙◌, ◌<◌, ◌≤◌, ◌+◌, ◌-◌, ◌⊎◌, inl, inr, ℕ, zero, suc, arith, List, [], ◌∷◌, Bool, true, false, refl, sym, ap, subst, length, Some, None, Ok, Err}
 use Rattle.std.specs.Prelude.{Option, Result, codes, is_some, not}
 use Rattle.wat_lex.specs.errors.Errors.{Report}
@@ -9,8 +9,8 @@ use Rattle.wat_lex.specs.declared.lexer.kinds.TokenKind.TheVariants.{LParen, RPa
 use Rattle.wat_lexer_parser.specs.groups.Sorts.{is_close}
 use Rattle.wat_lexer_parser.specs.lemmas.After.{same_token, forward_shown}
 use Rattle.wat_lexer_parser.specs.names.RegisteredNames.{Names}
-use Rattle.wat_lexer_parser.specs.parser.State.{State, Seen, seen, known, report_here, message_at, at_place, seen_at}
-use Rattle.wat_lexer_parser.specs.parser.Takers.{Reader, taken, taken_by, as_annotation, as_open, as_close, taken_at, may_take_at}
+use Rattle.wat_lexer_parser.specs.parser.State.{State, Seen, seen, known, report_here, message_at, at_place, peek_at}
+use Rattle.wat_lexer_parser.specs.parser.Takers.{Reader, taken, token_value_by, as_annotation, as_open, as_close, token_value_at, allocates_at}
 use Rattle.wat_lexer_parser.specs.lemmas.Parts.{sees, taken_or}
 use Rattle.wat_lexer_parser.specs.places.Places.{current_span, empty_of}
 use Rattle.wat_lexer_parser.specs.lemmas.Parts as parts
@@ -24,7 +24,8 @@ use Rattle.wat_lexer_parser.specs.parser.Closures.{opened, closed, inside}
 use Rattle.wat_lexer_parser.specs.rules.Rules.{End, Ground, Rule, Telling, unless_fault, Nothing, Never, One, one, Then, Known, span_of, Spanned, Checked, WhereSeen, InGroup, Shrinks, While, none, more, known_word, after_kind, tells_kind, tells_word, tells_second, tells_after_open, tells_more}
 use Rattle.wat_lexer_parser.specs.rules.Rules as rules
 
--- these tokens are shown one after another from a place on, and then what the ending says
+-- `At s names e p us`: the visible tokens from the position `p` are `us`, followed by the end of the text or the error
+-- of `e`.
 abbrev pub At : Source → Names → End → ℕ → List Token → Type 0
 At s names e p [] = (seen s p names ≡ unless_fault {A = Option (Token × ℕ)} None e.fault) × (current_span s p names ≡ e.span)
 At s names e p (t ∷ us) = (q : ℕ) × (shown s p names ≡ Ok (Some (t, q))) × At s names e q us
@@ -38,7 +39,7 @@ ground a e = record { text = a.source.setting.text; end = e }
 pub move : (s : Source) (names : Names) (e : End) (p q : ℕ) (us : List Token) → p ≡ q → At s names e p us → At s names e q us
 move s names e p q us h at = subst (λ p. At s names e p us) h at
 
--- what a reading reads is what a rule says
+-- The reading `m` yields a value if and only if the rule `R` derives it, and both leave the same tokens.
 pub record Follows {V : Type 0} (m : Reading V) (R : Rule V) : Type 0 where
   pub sound : (a : State) (e : End) (us : List Token) (v : V) → From a e us → (m a).answer ≡ Ok v → (r : List Token) × From (on a (m a).passed) e r × R (ground a e) us v r
   pub complete : (a : State) (e : End) (us : List Token) (v : V) (r : List Token) → From a e us → R (ground a e) us v r → ((m a).answer ≡ Ok v) × From (on a (m a).passed) e r
@@ -91,7 +92,7 @@ follows_mapped f m R h = record {
       (ap (known_as f) k.0 ∙ ap Ok g.2, k.1);
 }
 
--- the span is one of the shown tokens, or is in the ending
+-- The current span is the offset of the first visible token, or that of the ending.
 pub span_at : (a : State) (e : End) (us : List Token) → From a e us → current_span a.source a.place a.names ≡ span_of (ground a e) us
 unfolding current_span
 span_at a e [] at = at.1
@@ -136,17 +137,17 @@ follows_checked check message m R h = record {
       (ap (λ o. o.answer) is, move a.source a.names e _ _ r (ap (λ o. a.place + o.passed) (sym is)) k.1);
 }
 
--- A token.
+-- Tokens.
 
 known_token : (x : List ℕ) (l : Look) (t : Token) (q : ℕ) → known x l ≡ Ok (Some (t, q)) → l ≡ Ok (Some (t, q))
 known_token x (Ok found) t q e = let k : found ≡ Some (t, q) = cc in ap Ok k
 known_token x (Err f) t q e = cc
 
-pub shown_token : (a : State) (t : Token) (q : ℕ) → seen_at a ≡ Ok (Some (t, q)) → shown a.source a.place a.names ≡ Ok (Some (t, q))
+pub shown_token : (a : State) (t : Token) (q : ℕ) → peek_at a ≡ Ok (Some (t, q)) → shown a.source a.place a.names ≡ Ok (Some (t, q))
 unfolding seen
 shown_token a t q e = known_token a.source.setting.text (shown a.source a.place a.names) t q e
 
-pub seen_token : (a : State) (t : Token) (q : ℕ) → shown a.source a.place a.names ≡ Ok (Some (t, q)) → seen_at a ≡ Ok (Some (t, q))
+pub seen_token : (a : State) (t : Token) (q : ℕ) → shown a.source a.place a.names ≡ Ok (Some (t, q)) → peek_at a ≡ Ok (Some (t, q))
 unfolding seen
 seen_token a t q e = ap (known a.source.setting.text) e
 
@@ -154,7 +155,7 @@ not_ended : (f : Option Report) (t : Token) (q : ℕ) → ◌≡◌ {A = Seen} (
 not_ended None t q e = cc
 not_ended (Some f) t q e = cc
 
-taken_by_token : {V : Type 0} (o : Option (Result V Report)) (r : ℕ) (v : V) (q : ℕ) → taken_by r o ≡ Ok (Some (v, q)) → (r ≡ q) × (o ≡ Some (Ok v))
+taken_by_token : {V : Type 0} (o : Option (Result V Report)) (r : ℕ) (v : V) (q : ℕ) → token_value_by r o ≡ Ok (Some (v, q)) → (r ≡ q) × (o ≡ Some (Ok v))
 taken_by_token None r v q e = cc
 taken_by_token (Some (Ok w)) r v q e = let k = same_token w v r q e in (k.1, ap (λ w. Some (Ok w)) k.0)
 taken_by_token (Some (Err f)) r v q e = cc
@@ -170,8 +171,8 @@ token_got (Ok None) takes f p v e = cc
 token_got (Ok (Some (w, q))) takes f p v e = let k : w ≡ v = cc in (q, ap (λ w. Ok (Some (w, q))) k, refl)
 token_got (Err g) takes f p v e = cc
 
--- the token that is seen is the first of those that are shown
-one_of_shown : {V : Type 0} (read : Reader V) (a : State) (e : End) (us : List Token) (v : V) (t : Token) (q n : ℕ) → From a e us → seen_at a ≡ Ok (Some (t, q)) → read a.source.setting.text t t.kind ≡ Some (Ok v) → n ≡ q - a.place
+-- A token that the reader accepts is the first visible token.
+one_of_shown : {V : Type 0} (read : Reader V) (a : State) (e : End) (us : List Token) (v : V) (t : Token) (q n : ℕ) → From a e us → peek_at a ≡ Ok (Some (t, q)) → read a.source.setting.text t t.kind ≡ Some (Ok v) → n ≡ q - a.place
     → (r : List Token) × From (on a n) e r × One read (ground a e) us v r
 one_of_shown read a e [] v t q n at is takes k = absurd (not_ended e.fault t q (sym is ∙ at.0))
 one_of_shown read a e (u ∷ r) v t q n at is takes k =
@@ -182,22 +183,22 @@ one_of_shown read a e (u ∷ r) v t q n at is takes k =
 pub follows_token : {V : Type 0} (read : Reader V) (message : List ℕ) → Follows (token read message) (One read)
 follows_token {V} read message = record {
   sound = λ a e us v at got.
-      let k = token_got (taken read a.source.setting.text (seen_at a)) _ _ a.place v got in
-      let t = taken_token read a.source.setting.text (seen_at a) v k.0 k.1 in
+      let k = token_got (taken read a.source.setting.text (peek_at a)) _ _ a.place v got in
+      let t = taken_token read a.source.setting.text (peek_at a) v k.0 k.1 in
       one_of_shown read a e us v t.0 k.0 _ at t.1 t.2 k.2;
   complete = λ a e us v r at g. takes a e us v r at g;
 }
   where
     takes : (a : State) (e : End) (us : List Token) (v : V) (r : List Token) → From a e us → One read (ground a e) us v r → ((token read message a).answer ≡ Ok v) × From (on a (token read message a).passed) e r
     takes a e us v r at (one {t = t} h) =
-        let is : taken read a.source.setting.text (seen_at a) ≡ Ok (Some (v, at.0)) = ap (taken read a.source.setting.text) (seen_token a t at.0 at.1) ∙ ap (taken_by at.0) h in
-        let o : token read message a ≡ given v (at.0 - a.place) _ = ap (λ x. token_by x (may_take_at read a) (refuse message a) a.place) is in
+        let is : taken read a.source.setting.text (peek_at a) ≡ Ok (Some (v, at.0)) = ap (taken read a.source.setting.text) (seen_token a t at.0 at.1) ∙ ap (token_value_by at.0) h in
+        let o : token read message a ≡ given v (at.0 - a.place) _ = ap (λ x. token_by x (allocates_at read a) (refuse message a) a.place) is in
         let l = forward_shown a.source a.place a.names t at.0 at.1 in
         (ap (λ o. o.answer) o, move a.source a.names e at.0 _ r (omega (arith, ap (λ o. o.passed) o, l.0)) at.2)
 
--- Looks.
+-- Peeks.
 
--- what is reported at a place is what is reported of the shown tokens
+-- The peek of a parser and the peek over visible tokens have equal results.
 abbrev pub Agrees : Sight → Telling → Type 0
 Agrees sight look = (a : State) (e : End) (us : List Token) → From a e us → (sight a).known ≡ look (ground a e) us
 
@@ -225,7 +226,7 @@ pub agrees_after_open : (sight : Sight) (look : Telling) → Agrees sight look �
 agrees_after_open sight look h a e [] at = ap (λ x. (seen_after sight a x).known) (ap (taken as_open a.source.setting.text) at.0 ∙ open_end a.source.setting.text e.fault) ∙ found_end (Unit {0}) sight a e.fault
 agrees_after_open sight look h a e (t ∷ us) at = ap (λ x. (seen_after sight a (taken as_open a.source.setting.text x)).known) (seen_token a t at.0 at.1) ∙ by_kind t.kind
   where
-    by_kind : (k : TokenKind) → (seen_after sight a (taken_by at.0 (as_open a.source.setting.text t k))).known ≡ after_kind k (look (ground a e) us)
+    by_kind : (k : TokenKind) → (seen_after sight a (token_value_by at.0 (as_open a.source.setting.text t k))).known ≡ after_kind k (look (ground a e) us)
     by_kind LParen = h (at_place a at.0) e us at.2
     by_kind k = refl
 
@@ -233,7 +234,7 @@ word_end : (read : Reader (Unit {0})) (x : List ℕ) (f : Option Report) → is_
 word_end read x None = refl
 word_end read x (Some f) = refl
 
-word_of : (q : ℕ) (o : Option (Result (Unit {0}) Report)) → is_taken (taken_by q o) ≡ known_word o
+word_of : (q : ℕ) (o : Option (Result (Unit {0}) Report)) → is_taken (token_value_by q o) ≡ known_word o
 word_of q None = refl
 word_of q (Some (Ok u)) = refl
 word_of q (Some (Err f)) = refl
@@ -246,27 +247,27 @@ agrees_word read w a e (t ∷ us) at =
 pub agrees_annotation : (w : List ℕ) → Agrees (sees_annotation w) (tells_word (spelling as_annotation w))
 agrees_annotation w a e us at = agrees_word as_annotation w a e us at
 
--- whether the end or `)` is seen
-abbrev over_of : Seen → Bool
-over_of (Ok None) = true
-over_of (Ok (Some (t, q))) = is_close t.kind
-over_of (Err f) = false
+-- True if the end of the text or a `)` is next.
+abbrev is_group_end : Seen → Bool
+is_group_end (Ok None) = true
+is_group_end (Ok (Some (t, q))) = is_close t.kind
+is_group_end (Err f) = false
 
-over_known : (x : List ℕ) (l : Look) → empty_of l ≡ over_of (known x l)
+over_known : (x : List ℕ) (l : Look) → empty_of l ≡ is_group_end (known x l)
 over_known x (Ok None) = refl
 over_known x (Ok (Some (t, q))) = refl
 over_known x (Err f) = refl
 
-over_here : (a : State) → empty_of (shown a.source a.place a.names) ≡ over_of (seen_at a)
+over_here : (a : State) → empty_of (shown a.source a.place a.names) ≡ is_group_end (peek_at a)
 unfolding seen
 over_here a = over_known a.source.setting.text (shown a.source a.place a.names)
 
-over_end : (f : Option Report) → not (over_of (unless_fault None f)) ≡ is_some f
+over_end : (f : Option Report) → not (is_group_end (unless_fault None f)) ≡ is_some f
 over_end None = refl
 over_end (Some f) = refl
 
 pub agrees_more : Agrees more_comes tells_more
-agrees_more a e [] at = ap (λ b. Ok (not b)) (over_here a ∙ ap over_of at.0) ∙ ap Ok (over_end e.fault)
+agrees_more a e [] at = ap (λ b. Ok (not b)) (over_here a ∙ ap is_group_end at.0) ∙ ap Ok (over_end e.fault)
 agrees_more a e (t ∷ us) at = ap (λ l. Ok (not (empty_of l))) at.1
 
 pub seen_got : {V : Type 0} (x : Result Bool Report) (takes : Bool) (o other : Outcome V) (v : V) → (where_seen_by x takes o other).answer ≡ Ok v
@@ -305,7 +306,7 @@ follows_none V missed = record {
   complete = λ a e us w r at h. absurd h;
 }
 
--- Loops.
+-- Repetitions.
 
 abbrev pub UpTo : {V : Type 0} → ℕ → Telling → Rule V → Rule (List V)
 UpTo zero look R = Never
@@ -365,34 +366,34 @@ taken_got f (Ok None) q e = cc
 taken_got f (Ok (Some (u, p))) q e = let k : p ≡ q = cc in (u, ap (λ p. Ok (Some (u, p))) k)
 taken_got f (Err g) q e = cc
 
-opened_got : (a : State) (p : ℕ) → opened a.source a.place a.names ≡ Ok p → (u : Unit {0}) × (taken_at as_open a ≡ Ok (Some (u, p)))
+opened_got : (a : State) (p : ℕ) → opened a.source a.place a.names ≡ Ok p → (u : Unit {0}) × (token_value_at as_open a ≡ Ok (Some (u, p)))
 unfolding opened
-opened_got a p e = taken_got _ (taken_at as_open a) p e
+opened_got a p e = taken_got _ (token_value_at as_open a) p e
 
-closed_got : (a : State) (q : ℕ) → closed a.source a.place a.names ≡ Ok q → (u : Unit {0}) × (taken_at as_close a ≡ Ok (Some (u, q)))
+closed_got : (a : State) (q : ℕ) → closed a.source a.place a.names ≡ Ok q → (u : Unit {0}) × (token_value_at as_close a ≡ Ok (Some (u, q)))
 unfolding closed
-closed_got a q e = taken_got _ (taken_at as_close a) q e
+closed_got a q e = taken_got _ (token_value_at as_close a) q e
 
-opened_of : (a : State) (p : ℕ) → taken_at as_open a ≡ Ok (Some (tt, p)) → opened a.source a.place a.names ≡ Ok p
+opened_of : (a : State) (p : ℕ) → token_value_at as_open a ≡ Ok (Some (tt, p)) → opened a.source a.place a.names ≡ Ok p
 unfolding opened
 opened_of a p e = ap (taken_or (report_here a.source a.place a.names (codes "expected `(`"))) e
 
-closed_of : (a : State) (q : ℕ) → taken_at as_close a ≡ Ok (Some (tt, q)) → closed a.source a.place a.names ≡ Ok q
+closed_of : (a : State) (q : ℕ) → token_value_at as_close a ≡ Ok (Some (tt, q)) → closed a.source a.place a.names ≡ Ok q
 unfolding closed
 closed_of a q e = ap (taken_or (report_here a.source a.place a.names (codes "expected `)`"))) e
 
--- a parenthesis that is taken is the first of the tokens that are shown
-paren_taken : (read : Reader (Unit {0})) (a : State) (e : End) (us : List Token) (u : Unit {0}) (q : ℕ) → From a e us → taken_at read a ≡ Ok (Some (u, q)) → (r : List Token) × From (at_place a q) e r × One read (ground a e) us u r × (a.place < q)
+-- A parenthesis that is consumed is the first visible token.
+paren_taken : (read : Reader (Unit {0})) (a : State) (e : End) (us : List Token) (u : Unit {0}) (q : ℕ) → From a e us → token_value_at read a ≡ Ok (Some (u, q)) → (r : List Token) × From (at_place a q) e r × One read (ground a e) us u r × (a.place < q)
 paren_taken read a e us u q at is =
-    let t = taken_token read a.source.setting.text (seen_at a) u q is in
+    let t = taken_token read a.source.setting.text (peek_at a) u q is in
     let l = forward_shown a.source a.place a.names t.0 q (shown_token a t.0 q t.1) in
     let k = one_of_shown read a e us u t.0 q (q - a.place) at t.1 t.2 refl in
     (k.0, move a.source a.names e (a.place + (q - a.place)) q k.0 (omega (arith, l.0)) k.1, k.2, l.0)
 
--- and the other way round
-taken_paren : (read : Reader (Unit {0})) (a : State) (e : End) (t : Token) (r : List Token) → From a e (t ∷ r) → read a.source.setting.text t t.kind ≡ Some (Ok tt) → (q : ℕ) × (taken_at read a ≡ Ok (Some (tt, q))) × From (at_place a q) e r × (a.place < q)
+-- If the first visible token is this parenthesis, it is consumed.
+taken_paren : (read : Reader (Unit {0})) (a : State) (e : End) (t : Token) (r : List Token) → From a e (t ∷ r) → read a.source.setting.text t t.kind ≡ Some (Ok tt) → (q : ℕ) × (token_value_at read a ≡ Ok (Some (tt, q))) × From (at_place a q) e r × (a.place < q)
 taken_paren read a e t r at h =
-    (at.0, ap (taken read a.source.setting.text) (seen_token a t at.0 at.1) ∙ ap (taken_by at.0) h, at.2, (forward_shown a.source a.place a.names t at.0 at.1).0)
+    (at.0, ap (taken read a.source.setting.text) (seen_token a t at.0 at.1) ∙ ap (token_value_by at.0) h, at.2, (forward_shown a.source a.place a.names t at.0 at.1).0)
 
 closed_by_got : {V : Type 0} (c : Result ℕ Report) (w : V) (takes : Bool) (p : ℕ) (v : V) → (closed_by c w takes p).answer ≡ Ok v → (q : ℕ) × (c ≡ Ok q) × (w ≡ v) × ((closed_by c w takes p).passed ≡ q - p)
 closed_by_got (Ok q) w takes p v e = let k : w ≡ v = cc in (q, refl, k, refl)
@@ -403,7 +404,7 @@ inside_got : {V : Type 0} (x : Result V Report) (o : Outcome V) (b a : State) (v
 inside_got (Ok w) o b a v e = let k = closed_by_got (closed a.source (b.place + o.passed) a.names) w o.takes_memory a.place v e in (k.0, ap Ok k.2, k.1, k.3)
 inside_got (Err f) o b a v e = cc
 
--- what a group got: the place after `(`, the value, the place after `)`
+-- The parts of a group: the position after `(`, the value, and the position after `)`.
 pub group_got : {V : Type 0} (x : Result ℕ Report) (m : Reading V) (a : State) (v : V) → (opened_by x m a).answer ≡ Ok v
     → (p q : ℕ) × (x ≡ Ok p) × ((m (inside a p)).answer ≡ Ok v) × (closed a.source (p + (m (inside a p)).passed) a.names ≡ Ok q) × ((opened_by x m a).passed ≡ q - a.place)
 group_got (Ok p) m a v e = let k = inside_got (m (inside a p)).answer (m (inside a p)) (inside a p) a v e in (p, k.0, refl, k.1, k.2, k.3)
@@ -415,8 +416,8 @@ group_passed m a v got =
     let b = at_place a (k.0 + (m (inside a k.0)).passed) in
     let o = opened_got a k.0 k.2 in
     let c = closed_got b k.1 k.4 in
-    let t = taken_token as_open a.source.setting.text (seen_at a) o.0 k.0 o.1 in
-    let u = taken_token as_close a.source.setting.text (seen_at b) c.0 k.1 c.1 in
+    let t = taken_token as_open a.source.setting.text (peek_at a) o.0 k.0 o.1 in
+    let u = taken_token as_close a.source.setting.text (peek_at b) c.0 k.1 c.1 in
     omega (arith, k.5, (forward_shown a.source a.place a.names t.0 k.0 (shown_token a t.0 k.0 t.1)).0, (forward_shown b.source b.place b.names u.0 k.1 (shown_token b u.0 k.1 u.1)).0)
 
 pub follows_group : {V : Type 0} (m : Reading V) (R : Rule V) → Follows m R → Follows (group m) (InGroup R)
@@ -445,9 +446,10 @@ follows_group {V} m R f = record {
         ap (λ x. opened_by x m a) (opened_of a p.0 p.1) ∙ ap (λ x. inside_by x i b a) k.0 ∙ ap (λ x. closed_by x v i.takes_memory a.place) (closed_of (at_place a (p.0 + i.passed)) q.0 q.1) in
         (ap (λ o. o.answer) is, move a.source a.names e q.0 _ r (omega (arith, ap (λ o. o.passed) is, p.3, q.3)) q.2)
 
--- A whole text.
+-- Whole texts.
 
--- what a whole text that begins with a value ends in: the value, a fault, or a token that is left
+-- The result for a whole text that begins with a value: the value, the error after it, or the error at a token that is
+-- left.
 abbrev pub left : {V : Type 0} → Source → End → V → List Token → Result V Report
 left s e v [] = unless_fault v e.fault
 left s e v (t ∷ r) = Err (message_at s t.offset (codes "extra tokens remaining after parse"))
@@ -456,7 +458,7 @@ ended_end : {V : Type 0} (f : Option Report) (v : V) (s : Source) → at_end (un
 ended_end None v s = refl
 ended_end (Some f) v s = refl
 
-ended_left : {V : Type 0} (a : State) (e : End) (r : List Token) (v : V) (s : Source) → From a e r → at_end (seen_at a) v s ≡ left s e v r
+ended_left : {V : Type 0} (a : State) (e : End) (r : List Token) (v : V) (s : Source) → From a e r → at_end (peek_at a) v s ≡ left s e v r
 ended_left a e [] v s at = ap (λ x. at_end x v s) at.0 ∙ ended_end e.fault v s
 ended_left a e (t ∷ r) v s at = ap (λ x. at_end x v s) (seen_token a t at.0 at.1)
 
@@ -474,7 +476,7 @@ left_none s e w v [] h = by_fault e.fault h
     by_fault (Some f) h = cc
 left_none s e w v (t ∷ r) h = cc
 
-whole_got : {V : Type 0} (x : Result V Report) (n : ℕ) (s : Source) (v : V) → whole_by x n s ≡ Ok v → (w : V) × (x ≡ Ok w) × (at_end (seen_at (on (start s) n)) w s ≡ Ok v)
+whole_got : {V : Type 0} (x : Result V Report) (n : ℕ) (s : Source) (v : V) → whole_by x n s ≡ Ok v → (w : V) × (x ≡ Ok w) × (at_end (peek_at (on (start s) n)) w s ≡ Ok v)
 whole_got (Ok w) n s v e = (w, refl, e)
 whole_got (Err f) n s v e = cc
 
@@ -486,12 +488,12 @@ whole_is_spelled m R f s e us v at h =
     let l = left_none s e k.0 v j.0 (sym (ended_left (on (start s) o.passed) e j.0 k.0 s j.1) ∙ k.2) in
     (l.0, subst (λ r. R (ground (start s) e) us v r) l.2 (subst (λ v. R (ground (start s) e) us v j.0) l.1 j.2))
 
--- Advancing: of the first token alone.
+-- Consumption of the first token.
 
 pub advances_token : {V : Type 0} (read : Reader V) (message : List ℕ) → ((a : State) (v : V) → (token read message a).answer ≡ Ok v → 0 < (token read message a).passed)
 advances_token read message a v e =
-    let k = token_got (taken read a.source.setting.text (seen_at a)) _ _ a.place v e in
-    let t = taken_token read a.source.setting.text (seen_at a) v k.0 k.1 in
+    let k = token_got (taken read a.source.setting.text (peek_at a)) _ _ a.place v e in
+    let t = taken_token read a.source.setting.text (peek_at a) v k.0 k.1 in
     omega (arith, k.2, (forward_shown a.source a.place a.names t.0 k.0 (shown_token a t.0 k.0 t.1)).0)
 
 pub shrinks_one : {V : Type 0} (read : Reader V) → Shrinks (One read)

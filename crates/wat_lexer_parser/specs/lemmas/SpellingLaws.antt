@@ -1,11 +1,12 @@
--- What is read of a whole text is what a rule spells of it. These are proofs, which a reader may skip.
+-- Proofs that parsing a whole text yields the value that a rule derives for it. The contracts can be understood
+-- without them.
 use Rattle.std.proofs.Common.{◌≡◌, ◌∙◌, ◌+◌, ◌-◌, ℕ, List, [], ◌∷◌, Bool, true, false, refl, sym, ap, subst, length, drop, Some, None, Ok, Err}
 use Rattle.std.proofs.lemmas.Str.{IsCharBoundary-start}
 use Rattle.std.specs.Prelude.{IfOk, Option, Result}
 use Rattle.std.specs.Option.{option_map}
 use Rattle.std.specs.Str.{IsUtf8}
 use Rattle.wat_lex.specs.errors.Errors.{Report}
-use Rattle.wat_lex.specs.tokens.EverySetting.{EachPlaceIsTiled, TilingsAreOne}
+use Rattle.wat_lex.specs.tokens.EverySetting.{EachBoundaryHasTiling, TilingsAreUnique}
 use Rattle.wat_lex.specs.tokens.Setting.{Setting}
 use Rattle.wat_lex.specs.declared.lexer.kinds.Token.{Token}
 use Rattle.wat_lexer_parser.specs.declared.parser.fault.Fault.{Fault}
@@ -44,7 +45,7 @@ end_more : (text : List ℕ) (p q : ℕ) (t : Token) (us : List Token) (f : Opti
 end_more text p q t us None e = refl
 end_more text p q t us (Some f) e = ap (λ n. end_from text n us (Some f)) e
 
--- all that is shown from a place on, as looks show it one by one
+-- All visible tokens from a position, as a sequence of peeks.
 at_by : OneThingShown → (s : Source) (names : Names) (p : ℕ) (ts us : List Token) (f : Option Fault) → AllShown s.setting.text s.ending names ts us f → ts ≡ drop p s.tokens → At s names (end_from s.setting.text (offset_at s.tokens p) us f) p us
 at_by one s names p ts _ _ (all_shown.end shows) e =
     let is = shown_is one s names p ts (Ok None) e shows in
@@ -71,7 +72,7 @@ left_is s v us [] None = refl
 left_is s v us [] (Some f) = refl
 left_is s v us (t ∷ l) f = refl
 
-pub reads_as_spelled : {V : Type 0} → TilingsAreOne → SomethingIsAllShown → OneThingShown → (m : Reading V) (R : Rule V) → Follows m R → ReadsAsSpelled m R
+pub reads_as_spelled : {V : Type 0} → TilingsAreUnique → SomethingIsAllShown → OneThingShown → (m : Reading V) (R : Rule V) → Follows m R → ReadsAsSpelled m R
 reads_as_spelled one_tiling some one m R law = record {
   read = λ s v u r e.
       let k = some s no_names 0 u r in
@@ -86,19 +87,20 @@ reads_as_spelled one_tiling some one m R law = record {
       spelled_is_whole m R law s (end_from x 0 h.tokens f) h.tokens v l at h.begins ∙ left_is s v h.tokens l f;
 }
 
--- a text spells one value
+-- A rule derives at most one value for a text.
 pub spelled_once : {V : Type 0} {m : Reading V} {R : Rule V} → ReadsAsSpelled m R → (x : Setting) (v w : V) → Spells R x v → Spells R x w → v ≡ w
 spelled_once law x v w h k =
     let s : Source = record { setting = x; track = false; tokens = h.shown.tokens; ending = h.shown.ending } in
     let is : ◌≡◌ {A = Result _ _} (Ok v) (Ok w) = sym (law.spelled s v [] None h.shown.tiling h) ∙ law.spelled s w [] None h.shown.tiling k in
     cc
 
--- a text has raw tokens
-pub some_source : EachPlaceIsTiled → (x : Setting) (track : Bool) → IsUtf8 x.text → (s : Source) × IsRead s × (s.setting ≡ x) × (s.track ≡ track)
+-- Each text has raw tokens.
+pub some_source : EachBoundaryHasTiling → (x : Setting) (track : Bool) → IsUtf8 x.text → (s : Source) × IsRead s × (s.setting ≡ x) × (s.track ≡ track)
 some_source some x track u =
     let tiling = some x 0 u (IsCharBoundary-start x.text u) in (record { setting = x; track = track; tokens = tiling.0; ending = tiling.1 }, tiling.2, refl, refl)
 
--- A call that reads a whole text answers a value that the text spells; and where the text spells one, the answer is this.
+-- A call that parses a whole text returns a value only if the rule derives it; and if the rule derives a value, the
+-- call returns this value.
 module _ {V T : Type 0} {m : Reading V} {R : Rule V} (law : ReadsAsSpelled m R) (s : Source) (x : Setting) (takes : Bool) (f : T → V) where
   pub answer_is_spelled : (r : Result T (Option Report)) → IsRead s → s.setting ≡ x → IsUtf8 x.text → Answers takes f (whole m s) r → IfOk r (λ v. Spells R x (f v))
   answer_is_spelled (Ok v) read e u h = subst (λ y. Spells R y (f v)) e (law.read s (f v) (subst (λ y. IsUtf8 y.text) (sym e) u) read h)

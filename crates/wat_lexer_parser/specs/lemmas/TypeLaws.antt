@@ -1,4 +1,4 @@
--- The laws of what the types read: it takes a token.
+-- Lemmas about the readings of the library's types: each consumes a token.
 use Rattle.std.proofs.Common.{◌^◌, ℕ, List, [], ◌∷◌, Bool, true}
 use Rattle.std.specs.Prelude.{◌++◌, codes, length, nat_le, Option}
 use Rattle.wat_lexer_parser.specs.lemmas.ReadingLaws.{advances_token, advances_and_then, advances_mapped, advances_spanned, advances_checked, advances_where_seen, advances_refuse, advances_group}
@@ -10,7 +10,7 @@ use Rattle.wat_lexer_parser.specs.readings.Reads.{Advances}
 use Rattle.wat_lexer_parser.specs.readings.Types.{Reference, Number, ByName, Spelled, identifier, an_identifier, integer, an_integer, u32, unsigned_below, an_index, item, bytes, text, utf8_or_refused, spelling, word, keyword, reserved_symbol, annotation, name_annotation, as_owned_id}
 use Rattle.wat_words.specs.Words.{quoted, annotation_word}
 
--- each of several alternatives takes a token
+-- The reading of each alternative consumes a token.
 abbrev pub EachAdvances : {V : Type 0} → List (Choice V) → Type 0
 EachAdvances [] = Unit {0}
 EachAdvances (c ∷ cs) = Advances c.reading × EachAdvances cs

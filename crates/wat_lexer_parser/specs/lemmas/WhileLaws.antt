@@ -1,9 +1,9 @@
--- Reading as long as a type is seen, one at a time: what a loop keeps, how it goes on, and what it ends with.
+-- Repetitions, one value at a time: the invariant of a loop, its preservation, and the result at the loop's end.
 use Rattle.std.proofs.Common.{◌≡◌, ◌∙◌, ◌≤◌, ◌<◌, ◌+◌, ℕ, zero, suc, List, [], ◌∷◌, ◌++◌, Bool, true, false, arith, refl, sym, ap, length, append_assoc, None, Some, Ok, Err}
 use Rattle.std.specs.Prelude.{◌||◌, IsTrue, Option, Result, is_err}
 use Rattle.std.proofs.lemmas.List.{append-nil}
 use Rattle.wat_lex.specs.errors.Errors.{Report}
-use Rattle.wat_lexer_parser.specs.parser.Sights.{Sight, Tells}
+use Rattle.wat_lexer_parser.specs.parser.Sights.{Sight, PeekIs}
 use Rattle.wat_lexer_parser.specs.parser.State.{State, at_place}
 use Rattle.wat_lexer_parser.specs.readings.Readings.{Outcome, Reading, known_as, mapped, mapped_by, also_first, also_taking, and_then, after, give, on, refused, and_then_by, where_seen_by, up_to, while_seen}
 use Rattle.wat_lexer_parser.specs.readings.Reads.{Advances, IsKept, Reads}
@@ -20,7 +20,7 @@ or_true : (b : Bool) → (b || true) ≡ true
 or_true true = refl
 or_true false = refl
 
--- these values were read of all, and the rest is still to be read, from this place on
+-- The loop invariant: the values `vs` were read, and the remaining ones are to be read from the position `q`.
 pub record IsSoFar {V : Type 0} (sight : Sight) (m : Reading V) (a : State) (vs : List V) (q : ℕ) : Type 0 where
   pub left : ℕ
   pub enough : length a.source.tokens < left + q
@@ -28,7 +28,7 @@ pub record IsSoFar {V : Type 0} (sight : Sight) (m : Reading V) (a : State) (vs 
   pub passed : a.place + (while_seen sight m a).passed ≡ q + (up_to left sight m (at_place a q)).passed
   pub asks : (up_to left sight m (at_place a q)).takes_memory ≡ true → (while_seen sight m a).takes_memory ≡ true
 
--- at first none were
+-- The invariant holds before the loop, with no values.
 pub none_so_far : {V : Type 0} (sight : Sight) (m : Reading V) (a : State) → IsSoFar sight m a [] a.place
 unfolding while_seen
 none_so_far sight m a = record {
@@ -39,7 +39,7 @@ none_so_far sight m a = record {
   asks = λ h. h;
 }
 
--- what is left where the type is seen, not seen, and where that can't be known
+-- The remaining repetition if the peek yields `true`, `false`, or an error.
 goes_on : {V : Type 0} (n : ℕ) (sight : Sight) (m : Reading V) (b : State) → (sight b).known ≡ Ok true → up_to (suc n) sight m b ≡ also_taking (sight b).takes (also_first m (up_to n sight m) b)
 goes_on n sight m b e = ap (λ r. where_seen_by r (sight b).takes (also_first m (up_to n sight m) b) (give [] b)) e
 
@@ -56,19 +56,19 @@ first_of m rest b v e = ap (λ r. also_taking true (and_then_by r (m b).passed (
 refused_first : {V : Type 0} (m : Reading V) (rest : Reading (List V)) (b : State) (f : Report) → (m b).answer ≡ Err f → also_first m rest b ≡ also_taking true (refused f (m b).passed)
 refused_first m rest b f e = ap (λ r. also_taking true (and_then_by r (m b).passed (m b).takes_memory (λ v. mapped (λ vs. v ∷ vs) rest) b)) e
 
--- something is left within the tokens
+-- The bound is not reached at a position within the tokens.
 one_left : (left n q : ℕ) → n < left + q → q ≤ n → (k : ℕ) × (left ≡ suc k)
 one_left zero n q l h = absurd (omega (arith, l, h))
 one_left (suc k) n q l h = (k, refl)
 
 module _ {V : Type 0} (sight : Sight) (m : Reading V) (a : State) (vs : List V) (q : ℕ) where
-  -- memory may be asked for where one is left
+  -- The repetition may allocate if there is another value.
   pub asks_for_more : IsSoFar sight m a vs q → q ≤ length a.source.tokens → (sight (at_place a q)).known ≡ Ok true → (while_seen sight m a).takes_memory ≡ true
   asks_for_more h within e =
       let k = one_left h.left (length a.source.tokens) q h.enough within in
       h.asks (ap (λ n. (up_to n sight m (at_place a q)).takes_memory) k.1 ∙ ap (λ o. o.takes_memory) (goes_on k.0 sight m (at_place a q) e) ∙ or_true (sight (at_place a q)).takes)
 
-  -- one value more
+  -- The invariant is preserved by one more value.
   pub one_more : IsSoFar sight m a vs q → q ≤ length a.source.tokens → (sight (at_place a q)).known ≡ Ok true → (v : V) (r : ℕ) → (m (at_place a q)).answer ≡ Ok v → q + (m (at_place a q)).passed ≡ r → q < r → IsSoFar sight m a (vs ++ (v ∷ [])) r
   one_more h within e v r read far on =
       let b = at_place a q in
@@ -89,7 +89,7 @@ module _ {V : Type 0} (sight : Sight) (m : Reading V) (a : State) (vs : List V) 
         asks = λ _. asks_for_more h within e;
       }
 
-  -- all were read where the type is not seen
+  -- If the peek yields `false`, the values read so far are the result.
   pub all_read : IsSoFar sight m a vs q → q ≤ length a.source.tokens → (sight (at_place a q)).known ≡ Ok false → ((while_seen sight m a).answer ≡ Ok vs) × (a.place + (while_seen sight m a).passed ≡ q)
   all_read h within e =
       let k = one_left h.left (length a.source.tokens) q h.enough within in
@@ -98,7 +98,7 @@ module _ {V : Type 0} (sight : Sight) (m : Reading V) (a : State) (vs : List V) 
       let passed : a.place + (while_seen sight m a).passed ≡ q + (up_to h.left sight m (at_place a q)).passed = h.passed in
       (h.answer ∙ ap (λ o. known_as (λ ws. vs ++ ws) o.answer) o ∙ ap Ok (append-nil vs), omega (arith, passed, none))
 
-  -- one that is refused refuses all
+  -- If one value is an error, the repetition is the same error.
   pub one_refused : IsSoFar sight m a vs q → q ≤ length a.source.tokens → (sight (at_place a q)).known ≡ Ok true → (f : Report) → (m (at_place a q)).answer ≡ Err f
       → ((while_seen sight m a).answer ≡ Err f) × (a.place + (while_seen sight m a).passed ≡ q + (m (at_place a q)).passed)
   one_refused h within e f read =
@@ -107,7 +107,7 @@ module _ {V : Type 0} (sight : Sight) (m : Reading V) (a : State) (vs : List V) 
       let step = ap (λ n. up_to n sight m b) k.1 ∙ goes_on k.0 sight m b e ∙ ap (also_taking (sight b).takes) (refused_first m (up_to k.0 sight m) b f read) in
       (h.answer ∙ ap (λ o. known_as (λ ws. vs ++ ws) o.answer) step, h.passed ∙ ap (λ o. q + o.passed) step)
 
-  -- so does a look that is
+  -- If the peek is an error, the repetition is the same error.
   pub look_refused : IsSoFar sight m a vs q → q ≤ length a.source.tokens → (f : Report) → (sight (at_place a q)).known ≡ Err f → ((while_seen sight m a).answer ≡ Err f) × (a.place + (while_seen sight m a).passed ≡ q)
   look_refused h within f e =
       let k = one_left h.left (length a.source.tokens) q h.enough within in
@@ -116,7 +116,7 @@ module _ {V : Type 0} (sight : Sight) (m : Reading V) (a : State) (vs : List V) 
       let passed : a.place + (while_seen sight m a).passed ≡ q + (up_to h.left sight m (at_place a q)).passed = h.passed in
       (h.answer ∙ ap (λ o. known_as (λ ws. vs ++ ws) o.answer) o, omega (arith, passed, none))
 
-  -- memory may be asked for where the look is refused, and where it may itself
+  -- The repetition may allocate if the peek is an error, or may allocate itself.
   pub look_refusal_asks : IsSoFar sight m a vs q → q ≤ length a.source.tokens → (f : Report) → (sight (at_place a q)).known ≡ Err f → (while_seen sight m a).takes_memory ≡ true
   look_refusal_asks h within f e =
       let k = one_left h.left (length a.source.tokens) q h.enough within in
@@ -128,9 +128,10 @@ module _ {V : Type 0} (sight : Sight) (m : Reading V) (a : State) (vs : List V) 
       let k = one_left h.left (length a.source.tokens) q h.enough within in
       h.asks (ap (λ n. (up_to n sight m (at_place a q)).takes_memory) k.1 ∙ ap (λ o. o.takes_memory) (stops k.0 sight m (at_place a q) e) ∙ ap (λ b. b || false) t)
 
--- The same of calls: what a loop has read, where its parser is, which is kept but for its place.
+-- Lemmas about calls: `b` is the state of the parser in the loop, which differs from the state before the loop in its
+-- position only.
 
--- one value more, which a call has read
+-- The invariant is preserved by a call that reads one more value.
 pub one_more_read : {V T : Type 0} (f : T → V) (sight : Sight) (m : Reading V) (a b : State) (vs : List V) (x : T) (r : ℕ) → Advances m → IsSoFar sight m a vs b.place → IsKept a b → b.place ≤ length a.source.tokens → (sight b).known ≡ Ok true → Reads f m b (Ok x) r
     → IsSoFar sight m a (vs ++ (f x ∷ [])) r
 one_more_read f sight m a b vs x r advances h kept within e reads =
@@ -141,7 +142,7 @@ one_more_read f sight m a b vs x r advances h kept within e reads =
     let on : b.place < r = omega (arith, reads.1, some) in
     one_more sight m a vs b.place h within seen (f x) r read far on
 
--- a call that refuses one refuses all
+-- If a call returns an error, so does the loop.
 pub one_refused_read : {V T U : Type 0} (f : T → V) (g : U → List V) (sight : Sight) (m : Reading V) (a b : State) (vs : List V) (e : Option Report) (r : ℕ) → IsSoFar sight m a vs b.place → IsKept a b → b.place ≤ length a.source.tokens → (sight b).known ≡ Ok true
     → Reads {T = T} f m b (Err e) r → Reads {T = U} g (while_seen sight m) a (Err e) r
 one_refused_read f g sight m a b vs None r h kept within e reads = asks_for_more sight m a vs b.place h within (ap (λ b. (sight b).known) (sym kept) ∙ e)
@@ -150,7 +151,7 @@ one_refused_read f g sight m a b vs (Some x) r h kept within e reads =
     let k = one_refused sight m a vs b.place h within seen x (ap (λ b. (m b).answer) (sym kept) ∙ reads.0) in
     (k.0, k.1 ∙ ap (λ c. b.place + (m c).passed) (sym kept) ∙ reads.1)
 
--- where none is seen any more, those are all
+-- If the peek yields `false`, the values read so far are the result.
 pub all_read_at : {V : Type 0} (sight : Sight) (m : Reading V) (a b : State) (vs : List V) → IsSoFar sight m a vs b.place → IsKept a b → b.place ≤ length a.source.tokens → (sight b).known ≡ Ok false
     → ((while_seen sight m a).answer ≡ Ok vs) × (a.place + (while_seen sight m a).passed ≡ b.place)
 all_read_at sight m a b vs h kept within e = all_read sight m a vs b.place h within (ap (λ b. (sight b).known) (sym kept) ∙ e)
@@ -163,15 +164,15 @@ asks_by (Ok b) true fault asks h = asks refl b refl
 asks_by (Ok b) false fault asks h = let k : false ≡ true = h in cc
 asks_by (Err f) takes fault asks h = fault f refl
 
--- a look that refuses refuses all
-pub look_refused_read : {V U : Type 0} (g : U → List V) (sight : Sight) (m : Reading V) (a b : State) (vs : List V) (e : Option Report) → IsSoFar sight m a vs b.place → IsKept a b → b.place ≤ length a.source.tokens → Tells (sight b) (Err e) → Reads {T = U} g (while_seen sight m) a (Err e) b.place
+-- If the peek returns an error, so does the loop.
+pub look_refused_read : {V U : Type 0} (g : U → List V) (sight : Sight) (m : Reading V) (a b : State) (vs : List V) (e : Option Report) → IsSoFar sight m a vs b.place → IsKept a b → b.place ≤ length a.source.tokens → PeekIs (sight b) (Err e) → Reads {T = U} g (while_seen sight m) a (Err e) b.place
 look_refused_read g sight m a b vs None h kept within known =
     let here = sym kept in
     asks_by {A = (while_seen sight m a).takes_memory ≡ true} (sight b).known (sight b).takes (λ f e. look_refusal_asks sight m a vs b.place h within f (ap (λ b. (sight b).known) here ∙ e))
     (λ t s e. look_asks sight m a vs b.place h within (ap (λ b. (sight b).takes) here ∙ t) s (ap (λ b. (sight b).known) here ∙ e)) known
 look_refused_read g sight m a b vs (Some x) h kept within known = look_refused sight m a vs b.place h within x (ap (λ b. (sight b).known) (sym kept) ∙ known)
 
--- where something was read, memory may have been asked for
+-- The repetition may allocate if it has a value.
 some_by : {V : Type 0} (r : Result Bool Report) (takes : Bool) (o : Outcome (List V)) (a : State) (v : V) (vs : List V) → (where_seen_by r takes (also_taking true o) (give [] a)).answer ≡ Ok (v ∷ vs)
     → (where_seen_by r takes (also_taking true o) (give [] a)).takes_memory ≡ true
 some_by (Ok true) takes o a v vs e = or_true takes

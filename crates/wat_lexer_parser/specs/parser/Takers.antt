@@ -1,5 +1,6 @@
--- WebAssembly specification, text format, lexical format: tokens, comments, annotations; values: integers, floats, strings, identifiers.
--- What takers of one kind of token answer of what is seen. Floats have their value by the relations of their words.
+-- WebAssembly 2.0, 6.2 (lexical format: tokens, comments) and 6.3 (values: integers, floats, strings, identifiers),
+-- and the custom annotations proposal. The results of consuming a token of one kind, given the visible token. The
+-- value of a float is a relation in `wat_lex`; it is not defined here.
 use Rattle.std.specs.List.{list_any}
 use Rattle.std.specs.Str.Parse.{digits_value, without_leading_sign}
 use Rattle.std.specs.Prelude.{ℕ, Bool, true, false, ◌==◌, ◌&&◌, List, is_some, Option, Some, None, Result, Ok, Err}
@@ -11,32 +12,34 @@ use Rattle.wat_lex.specs.declared.lexer.kinds.SignToken.{SignToken}
 use Rattle.wat_lex.specs.declared.lexer.kinds.SignToken.TheVariants.{Minus}
 use Rattle.wat_lex.specs.declared.lexer.kinds.TokenKind.TheVariants.{String, Id, Keyword, Reserved, Integer, Float}
 use Rattle.wat_lex.specs.declared.lexer.read.numbers.Integer.{Integer as Number}
-use Rattle.wat_lexer_parser.specs.parser.State.{State, Seen, seen_at, known, Report, lexical, comment_at}
+use Rattle.wat_lexer_parser.specs.parser.State.{State, Seen, peek_at, known, Report, lexical, comment_at}
 use Rattle.wat_lexer_parser.specs.Cases.{cases_of}
 use Rattle.wat_lexer_parser.specs.places.Source.{Token, TokenKind, LParen, RParen, Annotation, LexError, EmptyId, EmptyAnnotation, token_text, word_of}
 
--- how tokens of one kind are read: None for another kind, else a value or a refusal
+-- A reader of tokens of one kind, over a text, a token and its kind: `None` for another kind, otherwise its value or
+-- an error.
 abbrev pub Reader : Type 0 → Type 0
 Reader V = List ℕ → Token → TokenKind → Option (Result V Report)
 
-abbrev pub taken_by : {V : Type 0} → ℕ → Option (Result V Report) → Result (Option (V × ℕ)) Report
-taken_by q None = Ok None
-taken_by q (Some (Ok v)) = Ok (Some (v, q))
-taken_by q (Some (Err f)) = Err f
+abbrev pub token_value_by : {V : Type 0} → ℕ → Option (Result V Report) → Result (Option (V × ℕ)) Report
+token_value_by q None = Ok None
+token_value_by q (Some (Ok v)) = Ok (Some (v, q))
+token_value_by q (Some (Err f)) = Err f
 
--- the value of the seen token with the place after it; None where another kind or the end is seen
+-- The value of the visible token with the position after it. It is `None` at the end of the text, or if the token has
+-- another kind.
 abbrev pub taken : {V : Type 0} → Reader V → List ℕ → Seen → Result (Option (V × ℕ)) Report
-taken read text found = cases_of found (Ok None) (λ t q. taken_by q (read text t t.kind)) Err
+taken read text found = cases_of found (Ok None) (λ t q. token_value_by q (read text t t.kind)) Err
 
--- the same from a parser's state
-abbrev pub taken_at : {V : Type 0} → Reader V → State → Result (Option (V × ℕ)) Report
-taken_at read a = taken read a.source.setting.text (seen_at a)
+-- The value of the token that is visible from a parser's state, with the position after it.
+abbrev pub token_value_at : {V : Type 0} → Reader V → State → Result (Option (V × ℕ)) Report
+token_value_at read a = taken read a.source.setting.text (peek_at a)
 
--- whether a token of the kind is seen
+-- True if a token of the kind is visible from a parser's state.
 abbrev pub sees_at : {V : Type 0} → Reader V → State → Result Bool Report
-sees_at read a = cases_of (seen_at a) (Ok false) (λ t q. Ok (is_some (read a.source.setting.text t t.kind))) Err
+sees_at read a = cases_of (peek_at a) (Ok false) (λ t q. Ok (is_some (read a.source.setting.text t t.kind))) Err
 
--- the token alone
+-- The visible token, without the position after it.
 abbrev pub token_of : Seen → Result (Option Token) Report
 token_of found = cases_of found (Ok None) (λ t q. Ok (Some t)) Err
 
@@ -59,18 +62,18 @@ abbrev pub is_minus : Option SignToken → Bool
 is_minus (Some Minus) = true
 is_minus other = false
 
--- whether an integer has a minus, and the whole number that its digits write
+-- The value of an integer token: its sign, true for a minus, and the natural number that its digits denote.
 abbrev pub as_integer : Reader (Bool × ℕ)
 as_integer text t = elim [ Integer k ↦ Some (Ok (is_minus (sign_token k.sign), integer_value k.hex (word_of text t))) | other ↦ None ]
 
--- the same of an integer that is read
+-- The sign and the natural number of a parsed integer.
 abbrev pub number_of : Number → Bool × ℕ
 number_of i = (is_minus (integer_sign i), digits_value (integer_base i) (without_leading_sign (integer_digits i)))
 
 abbrev pub as_float : Reader (Unit {0})
 as_float text t = elim [ Float k ↦ Some (Ok tt) | other ↦ None ]
 
--- a name, or the report of what is wrong with it, at the token
+-- The name, or the report of its error at the token's offset.
 abbrev pub name_or_report : List ℕ → Token → Result (List ℕ) LexError → Result (List ℕ) Report
 name_or_report text t (Ok name) = Ok name
 name_or_report text t (Err e) = Err (lexical text (record { offset = t.offset; error = e }))
@@ -81,27 +84,28 @@ as_id text t = elim [ Id ↦ Some (name_or_report text t (name_value EmptyId (wo
 abbrev pub as_annotation : Reader (List ℕ)
 as_annotation text t = elim [ Annotation ↦ Some (name_or_report text t (name_value EmptyAnnotation (word_of text t))) | other ↦ None ]
 
--- the text of the comment in front, with the place after it
+-- The text of the comment at a parser's position, after at most one whitespace token, with the position after it.
 abbrev pub comment_taken : State → Result (Option (List ℕ × ℕ)) Report
 comment_taken a = taken (λ text t kind. Some (Ok (token_text text t))) a.source.setting.text (known a.source.setting.text (comment_at a.source a.place))
 
 abbrev pub contains : ℕ → List ℕ → Bool
 contains c w = list_any (λ d. d == c) w
 
--- quoted names with an escape are decoded
-abbrev pub name_takes : List ℕ → Token → Bool
-name_takes text t = contains quote (word_of text t) && contains backslash (word_of text t)
+-- True if the name of an identifier or annotation is a string with an escape, which must be decoded.
+abbrev pub name_is_decoded : List ℕ → Token → Bool
+name_is_decoded text t = contains quote (word_of text t) && contains backslash (word_of text t)
 
--- whether reading a word takes memory; strings with an escape are decoded, and numbers with underscores or `0x` are rewritten
-abbrev pub word_takes : List ℕ → Token → TokenKind → Bool
-word_takes text t String = contains backslash (word_of text t)
-word_takes text t Id = name_takes text t
-word_takes text t Annotation = name_takes text t
-word_takes text t (Integer k) = is_integer_rewritten k
-word_takes text t (Float k) = is_float_rewritten k
-word_takes text t kind = false
+-- True if reading a token's value may allocate: strings with an escape are decoded, and numbers with underscores or a
+-- `0x` prefix are rewritten. A NaN payload after `nan:0x` is rewritten only if it has underscores.
+abbrev pub word_allocates : List ℕ → Token → TokenKind → Bool
+word_allocates text t String = contains backslash (word_of text t)
+word_allocates text t Id = name_is_decoded text t
+word_allocates text t Annotation = name_is_decoded text t
+word_allocates text t (Integer k) = is_integer_rewritten k
+word_allocates text t (Float k) = is_float_rewritten k
+word_allocates text t kind = false
 
--- whether taking the seen token may take memory, where it is of the kind that is read
-abbrev pub may_take_at : {V : Type 0} → Reader V → State → Bool
-may_take_at read a =
-    cases_of (seen_at a) false (λ t q. is_some (read a.source.setting.text t t.kind) && word_takes a.source.setting.text t t.kind) (λ f. false)
+-- True if consuming the visible token may allocate. False if it has another kind than the reader's.
+abbrev pub allocates_at : {V : Type 0} → Reader V → State → Bool
+allocates_at read a =
+    cases_of (peek_at a) false (λ t q. is_some (read a.source.setting.text t t.kind) && word_allocates a.source.setting.text t t.kind) (λ f. false)

@@ -1,5 +1,5 @@
--- What a parser reads: a text with the lexer's flags, its raw tokens, and what they end with. No part of the standard. The names of tokens
--- and faults that the other rooms use are passed on.
+-- The input of a parser: a text with the lexer's flags, its raw tokens and their ending. Not part of the standard. The
+-- names of tokens and errors that other definitions use are exported from here.
 use Rattle.std.specs.Prelude.{Bool, List, Option}
 use Rattle.wat_lex.specs.tokens.Setting.{Setting}
 use Rattle.wat_lex.specs.tokens.Tiling.{MaximalTiling}
@@ -13,13 +13,14 @@ pub use Rattle.wat_lex.specs.declared.lexer.kinds.TokenKind.TheVariants.{LineCom
 pub use Rattle.wat_lexer_parser.specs.declared.parser.fault.Fault.{Fault}
 pub use Rattle.wat_lexer_parser.specs.declared.parser.fault.FaultKind.TheVariants.{Lex, Unclosed}
 
--- `track` is answered back alone
+-- A text with its raw tokens and their ending. `track` is the flag that `track_instr_spans` returns; lexing does not
+-- depend on it.
 pub record Source : Type 0 where
   pub setting : Setting
   pub track : Bool
   pub tokens : List Token
   pub ending : Option LexFault
 
--- the tokens and the ending are those of the text
+-- The tokens and the ending are those of the text.
 abbrev pub IsRead : Source → Type 0
 IsRead s = MaximalTiling s.setting 0 s.tokens s.ending

@@ -1,5 +1,5 @@
--- WebAssembly specification, text format: values (integers, strings, names, identifiers), lexical format (keywords), modules (indices);
--- and the annotations proposal. What each type reads, and where peeking sees it.
+-- WebAssembly 2.0, 6.3 (values: integers, strings, names, identifiers), 6.2.2 (keywords) and 6.6.1 (indices), and the
+-- custom annotations proposal. The readings of the library's types, and their peeks.
 use Rattle.std.specs.Prelude.{ℕ, ◌*◌, ◌^◌, nat_lt, nat_le, Bool, true, false, if◌then◌else◌, ℤ, pos, neg_ℤ, ◌-ℤ◌, List, ◌++◌, codes, Option, Some, None, Result, Ok, Err, bytes_eq}
 use Rattle.std.specs.Str.{is_utf8}
 use Rattle.wat_lex.specs.errors.Errors.{Report}
@@ -7,12 +7,12 @@ use Rattle.wat_lex.specs.identifiers.Identifiers.{Identifier}
 use Rattle.wat_lex.specs.declared.lexer.kinds.TokenKind.TheVariants as kind
 use Rattle.wat_lex.specs.declared.token.Index.{Index}
 use Rattle.wat_lex.specs.declared.token.Index.TheVariants as index
-use Rattle.wat_lexer_parser.specs.parser.Sights.{Sight, freely, sight_of, seen_after, second}
-use Rattle.wat_lexer_parser.specs.parser.Takers.{Reader, taken_at, may_take_at, name_takes, as_id, as_integer, as_string, as_keyword, as_reserved, as_annotation, as_open}
+use Rattle.wat_lexer_parser.specs.parser.Sights.{Sight, without_allocation, sight_of, seen_after, second}
+use Rattle.wat_lexer_parser.specs.parser.Takers.{Reader, token_value_at, allocates_at, name_is_decoded, as_id, as_integer, as_string, as_keyword, as_reserved, as_annotation, as_open}
 use Rattle.wat_lexer_parser.specs.readings.Readings.{Reading, token, refuse, refuse_after, give, and_then, mapped, pair, spanned, allocated, checked, where_seen, optional, group, under}
 use Rattle.wat_words.specs.Words.{quoted, annotation_word}
 
--- Identifiers: the name, whether it is owned, the generation, and the byte at which it is.
+-- Identifiers: the name, a flag that is true if the name is owned, the generation, and the byte offset.
 
 pub record Spelled : Type 0 where
   pub name : List ℕ
@@ -23,14 +23,14 @@ pub record Spelled : Type 0 where
 abbrev pub spelled : Identifier → Spelled
 spelled i = record { name = i.name; owned = i.owned; generation = i.generation; span = i.span }
 
--- the name of an identifier, and whether it is decoded, so that it is in memory of its own
+-- The name of an identifier, with a flag that is true if the name is owned, because it was decoded.
 abbrev pub named_by : Bool → Option (Result (List ℕ) Report) → Option (Result (List ℕ × Bool) Report)
 named_by owned None = None
 named_by owned (Some (Ok name)) = Some (Ok (name, owned))
 named_by owned (Some (Err f)) = Some (Err f)
 
 abbrev pub as_owned_id : Reader (List ℕ × Bool)
-as_owned_id text t kind = named_by (name_takes text t) (as_id text t kind)
+as_owned_id text t kind = named_by (name_is_decoded text t) (as_id text t kind)
 
 abbrev pub identifier : Reading Spelled
 identifier = mapped (λ v. record { name = v.0.0; owned = v.0.1; generation = 0; span = v.1 }) (spanned (token as_owned_id (codes "expected an identifier")))
@@ -38,20 +38,20 @@ identifier = mapped (λ v. record { name = v.0.0; owned = v.0.1; generation = 0;
 abbrev pub an_identifier : Sight
 an_identifier = sight_of as_id
 
--- Integers, by whether the word has a minus, and the number that its digits write.
+-- Integers: a function `fits` maps the sign and the natural number that the digits denote to a value of the type.
 
--- no minus, not even before 0, and below a bound
+-- Unsigned integers below a bound. A minus sign is an error, also before 0.
 abbrev pub unsigned_below : ℕ → Bool × ℕ → Option ℕ
 unsigned_below bound (true, n) = None
 unsigned_below bound (false, n) = if nat_lt n bound then Some n else None
 
--- from -half on, and below twice half, which stands for the number modulo that
+-- Signed integers from `-half` to `2 * half - 1`. A number from `half` on denotes the number less `2 * half`.
 abbrev pub signed_within : ℕ → Bool × ℕ → Option ℤ
 signed_within half (true, n) = if nat_le n half then Some (neg_ℤ (pos n)) else None
 signed_within half (false, n) =
     if nat_lt n half then Some (pos n) else if nat_lt n (2 * half) then Some (pos n -ℤ pos (2 * half)) else None
 
--- the same, which the search for proofs does not take apart
+-- `signed_within`, as a definition that proof search does not unfold.
 unfoldable pub signed_number : ℕ → Bool × ℕ → Option ℤ
 signed_number half n = signed_within half n
 
@@ -59,14 +59,14 @@ abbrev pub integer : {V : Type 0} → List ℕ → (Bool × ℕ → Option V) �
 integer name fits =
     checked fits (codes "invalid " ++ name ++ codes " number: constant out of range") (token as_integer (codes "expected a " ++ name))
 
--- one without a sign, of 32 bits
+-- An unsigned 32-bit integer.
 abbrev pub u32 : Reading ℕ
 u32 = integer (codes "u32") (unsigned_below (2 ^ 32))
 
 abbrev pub an_integer : Sight
 an_integer = sight_of as_integer
 
--- Indices: an identifier, or a `u32` with the byte at which it is.
+-- Indices: an identifier, or a `u32` with its byte offset.
 
 pub data Reference : Type 0 where
   Number : ℕ → ℕ → Reference
@@ -90,15 +90,15 @@ as_index text t kind = None
 abbrev pub sees_index : Sight
 sees_index = sight_of as_index
 
--- an item's kind and its index, in a group
+-- An item reference: its kind and its index, in a group.
 abbrev pub item : {V : Type 0} → Reading V → Reading (V × Reference)
 item m = group (pair m an_index)
 
--- what is seen after a `(`
+-- A peek after a `(`. False if the visible token is of another kind.
 abbrev pub after_open : Sight → Sight
-after_open sight a = seen_after sight a (taken_at as_open a)
+after_open sight a = seen_after sight a (token_value_at as_open a)
 
--- Strings: bytes, or a text of UTF-8, which may be kept in memory of its own.
+-- Strings: bytes, or a text in UTF-8, which may be copied into an allocation of its own.
 
 abbrev pub bytes : Reading (List ℕ)
 bytes = token as_string (codes "expected a string")
@@ -115,14 +115,14 @@ owned_text = allocated text
 abbrev pub a_string : Sight
 a_string = sight_of as_string
 
--- Words: a token of a kind that spells one. The value is the byte at which it is.
+-- Words: a token of a kind whose value is a given word. The value of the reading is the token's byte offset.
 
 abbrev pub spelling_by : List ℕ → Option (Result (List ℕ) Report) → Option (Result (Unit {0}) Report)
 spelling_by w None = None
 spelling_by w (Some (Ok v)) = if bytes_eq v w then Some (Ok tt) else None
 spelling_by w (Some (Err f)) = Some (Err f)
 
--- such a token that spells this word, or whose name is at fault
+-- A reader of tokens with this word. A token whose name has an error yields that error.
 abbrev pub spelling : Reader (List ℕ) → List ℕ → Reader (Unit {0})
 spelling read w text t k = spelling_by w (read text t k)
 
@@ -135,7 +135,7 @@ abbrev pub word : Reader (List ℕ) → List ℕ → List ℕ → Reading ℕ
 word read w expected = mapped (λ v. v.1) (spanned (token (spelling read w) expected))
 
 abbrev pub sees_word : Reader (List ℕ) → List ℕ → Sight
-sees_word read w a = freely (is_taken (taken_at (spelling read w) a))
+sees_word read w a = without_allocation (is_taken (token_value_at (spelling read w) a))
 
 unfoldable pub keyword : Bool → List ℕ → Reading ℕ
 keyword at w = word as_keyword w (codes "expected keyword " ++ quoted at w)
@@ -146,18 +146,20 @@ reserved_symbol at w = word as_reserved w (codes "expected reserved symbol " ++ 
 unfoldable pub annotation : Bool → List ℕ → Reading ℕ
 annotation at w = word as_annotation w (codes "expected annotation " ++ quoted at w)
 
--- an annotation of this name; each annotation's name is compared with it, and may be decoded for that
+-- A peek for an annotation of this name. The name of each annotation is compared with it, and may have to be decoded
+-- for that.
 abbrev pub sees_annotation : List ℕ → Sight
-sees_annotation w a = record { known = is_taken (taken_at (spelling as_annotation w) a); takes = may_take_at as_annotation a }
+sees_annotation w a = record { known = is_taken (token_value_at (spelling as_annotation w) a); takes = allocates_at as_annotation a }
 
--- the name that an annotation gives, after `@name`; and such an annotation in a group, where `@name` is the second token
+-- The reading of `@name` and a string, whose value is the string; and the optional group that contains them. The peek
+-- for the group compares the second token with `@name`.
 abbrev pub name_annotation : Reading (List ℕ)
 name_annotation = and_then (annotation true (annotation_word 1)) (λ at. text)
 
 abbrev pub optional_name : Reading (Option (List ℕ))
 optional_name = optional (second (sees_annotation (annotation_word 1))) (group name_annotation)
 
--- under the standard annotations' names
+-- A reading during which the names of the standard annotations are registered.
 abbrev pub under_standard : {V : Type 0} → Reading V → Reading V
 under_standard m =
     under (codes "custom") (under (codes "producers") (under (codes "name") (under (codes "dylink.0") (under (codes "metadata.code.branch_hint") m))))

@@ -1,5 +1,5 @@
--- WebAssembly specification, text format: values (integers, strings, names, identifiers), lexical format (keywords), modules (indices);
--- and the annotations proposal. What types of the library read, as formats: the reading of each is the one that `readings/Types` has.
+-- WebAssembly 2.0, 6.3 (values: integers, strings, names, identifiers), 6.2.2 (keywords) and 6.6.1 (indices), and the
+-- custom annotations proposal. The formats of the library's types. The reading of each is the one of `readings/Types`.
 use Rattle.std.proofs.Common.{◌≡◌, ap, refl}
 use Rattle.std.specs.Prelude.{ℕ, ◌^◌, Bool, true, false, if◌then◌else◌, List, ◌++◌, codes, Option}
 use Rattle.std.specs.Str.{is_utf8}
@@ -33,14 +33,14 @@ utf8_is v = by_test (is_utf8 v)
     by_test true = refl
     by_test false = refl
 
--- a string of UTF-8
+-- A string whose value is UTF-8.
 abbrev pub text : Format (List ℕ)
 text = as_read (and_then bytes (λ v. utf8_by (is_utf8 v) v)) types.text (ap (λ next. words.and_then types.bytes next) (λ at v. utf8_is v at))
 
 abbrev pub owned_text : Format (List ℕ)
 owned_text = allocated text
 
--- a token that spells a word; the value is the byte at which it is
+-- A token with a given word. The value is its byte offset.
 abbrev pub word : Reader (List ℕ) → List ℕ → List ℕ → Format ℕ
 word read w expected = mapped (λ v. v.1) (spanned (token (spelling read w) expected))
 
@@ -79,12 +79,12 @@ a_group = a_token as_open
 abbrev pub a_keyword : List ℕ → Lookout
 a_keyword w = a_word as_keyword w
 
--- an identifier, or a number of 32 bits with the byte at which it is
+-- An index: an identifier, or a 32-bit integer with its byte offset.
 abbrev pub an_index : Format Reference
 an_index =
     where_seen an_identifier (mapped ByName identifier)
     (where_seen an_integer (mapped (λ v. Number v.0 v.1) (spanned u32)) (refuse (codes "unexpected token, expected an index or an identifier")))
 
--- the name that an annotation gives, in a group, where `@name` is the second token
+-- An optional group `(@name "..")`, whose value is the name. The peek compares the second token with `@name`.
 abbrev pub optional_name : Format (Option (List ℕ))
 optional_name = optional (second (a_named (annotation_word 1))) (group (and_then (annotation (annotation_word 1)) (λ at. text)))

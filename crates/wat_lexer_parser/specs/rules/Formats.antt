@@ -1,5 +1,6 @@
--- A format: what is read, and what is spelled. Each word of the language of readings is here a format of formats, so that who writes a format writes
--- one term, and has its reading, its rule, and the proof that what is read is what is spelled. No part of the standard.
+-- Formats: a format pairs a reading with its grammar rule and the proofs that relate them. Each combinator of readings
+-- is defined here for formats, so the author of a format writes one term, which yields the reading, the rule, and the
+-- proof that they agree. Not part of the standard.
 use Rattle.std.proofs.Common.{◌≡◌, ◌<◌, ◌≤◌, ◌⊎◌, inl, inr, ℕ, arith, List, [], ◌∷◌, ◌++◌, Bool, true, false, refl, ap, subst, length, Some, None, Ok, Err}
 use Rattle.std.specs.Prelude.{◌&&◌, ◌||◌, Option, Result, nat_le}
 use Rattle.std.specs.List.{flat_map}
@@ -18,7 +19,7 @@ use Rattle.wat_lexer_parser.specs.parser.Sights.{Sight}
 use Rattle.wat_lexer_parser.specs.parser.Sights as sights
 use Rattle.wat_lexer_parser.specs.readings.Types as types
 
--- `takes_token`: a value takes a token at least
+-- A format. `takes_token` states that each value consumes at least one token.
 pub record Format (V : Type 0) : Type 1 where
   pub reading : Reading V
   pub rule : Rule V
@@ -28,7 +29,7 @@ pub record Format (V : Type 0) : Type 1 where
   pub shrinks : takes_token ≡ true → Shrinks rule
   pub advances : takes_token ≡ true → Advances reading
 
--- a look of a parser, and what it tells of the tokens that are shown
+-- A peek of a parser, the same peek over visible tokens, and the proof that they agree.
 pub record Lookout : Type 0 where
   pub sight : Sight
   pub look : Telling
@@ -40,15 +41,15 @@ never_takes e = cc
 pub never_reads : {V A : Type 0} (f : Report) (v : V) → ◌≡◌ {A = Result V Report} (Err f) (Ok v) → A
 never_reads f v e = cc
 
--- a token of a kind
+-- A peek for a token of a kind.
 abbrev pub a_token : {V : Type 0} → Reader V → Lookout
 a_token read = record { sight = sights.sight_of read; look = tells_kind read; agrees = agrees_kind read }
 
--- a token of a kind that spells this word
+-- A peek for a token of a kind with this word.
 abbrev pub a_word : Reader (List ℕ) → List ℕ → Lookout
 a_word read w = record { sight = types.sees_word read w; look = tells_word (types.spelling read w); agrees = agrees_word read w }
 
--- an annotation of this name
+-- A peek for an annotation of this name.
 abbrev pub a_named : List ℕ → Lookout
 a_named w = record { sight = types.sees_annotation w; look = tells_word (types.spelling as_annotation w); agrees = agrees_annotation w }
 
@@ -94,7 +95,7 @@ refuse_after {V} message = record {
   advances = λ e a v h. never_reads _ v h;
 }
 
--- the same format of a reading that is the same
+-- The format, with an equal reading instead of its own.
 abbrev pub as_read : {V : Type 0} → (m : Format V) (n : Reading V) → m.reading ≡ n → Format V
 as_read m n e = record {
   reading = n;
@@ -152,7 +153,7 @@ checked check message m = record {
       omega (arith, m.advances e a k.0 k.1, k.3);
 }
 
--- the same value, for which memory may be asked
+-- The format of the same value, for which the reading may allocate if `takes` is true.
 abbrev pub also : {V : Type 0} → Bool → Format V → Format V
 also takes m = record {
   reading = λ a. also_taking takes (m.reading a);
@@ -184,7 +185,7 @@ pub one_true : (a b : Bool) → (a || b) ≡ true → (a ≡ true) ⊎ (b ≡ tr
 one_true true b e = inl refl
 one_true false b e = inr e
 
--- one, and then another that does not go by the first value: it takes a token where either does
+-- A format followed by another, which does not depend on the first value. It consumes a token if one of the two does.
 abbrev pub followed_by : {V W : Type 0} → Format V → Format W → Format W
 followed_by {V} {W} m n = record {
   reading = words.and_then m.reading (λ v. n.reading);
@@ -235,7 +236,7 @@ pub while_keeps : {V : Type 0} (look : Telling) (R : Rule V) → Keeps R → (g 
 while_keeps look R k g ts _ _ (none e) = omega arith
 while_keeps look R k g ts _ r (more {r = us} {v = v} {vs = vs} e h w) = omega (arith, k g ts v us h, while_keeps look R k g us vs r w)
 
--- all as long as it is seen, of a format that takes a token
+-- A repetition of a format as long as the peek yields `true`. The format must consume a token.
 abbrev pub while_seen : {V : Type 0} → Lookout → (m : Format V) → m.takes_token ≡ true → Format (List V)
 while_seen l m e = record {
   reading = words.while_seen l.sight m.reading;
@@ -247,11 +248,11 @@ while_seen l m e = record {
   advances = never_takes;
 }
 
--- all before `)` or the end
+-- A repetition of a format up to `)` or the end of the text.
 abbrev pub many : {V : Type 0} → (m : Format V) → m.takes_token ≡ true → Format (List V)
 many m e = while_seen more_comes m e
 
--- the values of lists, in one list
+-- A repetition of a format of lists, whose values are concatenated.
 abbrev pub joined_while : {V : Type 0} → Lookout → (m : Format (List V)) → m.takes_token ≡ true → Format (List V)
 joined_while l m e = mapped (λ vss. flat_map (λ vs. vs) vss) (while_seen l m e)
 
@@ -269,7 +270,8 @@ group m = record {
   advances = λ e a v h. group_passed m.reading a v h;
 }
 
--- Alternatives, each known by a look, and how messages show it; where none is seen, the refusal that one of them was expected.
+-- Alternatives, each with its peek, its description in messages, and its format. If no peek yields `true`, the error
+-- is that one of them was expected.
 
 pub data Choices (V : Type 0) : Type 1 where
   nothing_else : Choices V

@@ -1,8 +1,9 @@
--- WebAssembly specification, text format. Lexical format: tokens (keyword). Values: identifiers (idchar). The annotations proposal: names.
+-- WebAssembly 2.0, 6.2.2 (tokens, keyword) and 6.3.5 (identifiers, idchar); the custom annotations proposal (names).
 use Rattle.std.specs.Prelude.{ℕ, List, IsTrue}
 use Rattle.std.specs.List.{list_all}
 use Rattle.wat_lex.specs.grammar.Classes.{is_idchar}
 
--- the word at each place is idchars alone, so that a text has it as it is, without a string
+-- Each entry of a table of words consists of idchars alone, so a text contains it literally, without a string. The
+-- entries are indexed from 0.
 abbrev pub WordsAreIdchars : (ℕ → List ℕ) → Type 0
 WordsAreIdchars word_at = (place : ℕ) → IsTrue (list_all is_idchar (word_at place))

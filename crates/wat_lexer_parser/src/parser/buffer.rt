@@ -1,4 +1,4 @@
-//! The buffer of a text.
+//! Buffers with a token table.
 ghost use Rattle.std.specs.Prelude.{◌≡◌, ◌<◌, ◌^◌, false, length, IfOk, IfErr};
 ghost use Rattle.std.specs.Str.{IsUtf8};
 ghost use Rattle.wat_lexer_parser.specs.names.RegisteredNames.{no_names};
@@ -13,10 +13,10 @@ use std::marker::Model;
 use wat_lex::error::Error;
 use wat_lex::lexer::{LexFault, Lexer, Settings, Token};
 
-/// A text with its raw tokens, of which a parser shows those that count.
+/// A text with a table of its raw tokens.
 ///
-/// The tokens are found once, when the buffer is made. A fault of the text is kept, and reported
-/// when the parser reaches it.
+/// The text is lexed once, when the buffer is created. A lexical error is stored, and reported when
+/// a parser reaches it.
 #[derive(Drop)]
 pub struct ParseBuffer<'a> {
     lexer: Lexer<'a>,
@@ -52,8 +52,11 @@ impl<'a> Model for ParseBuffer<'a> {
 }
 
 impl<'a> ParseBuffer<'a> {
-    /// The buffer of a text of at most `u32::MAX` bytes, with both settings of the lexer off. It is
-    /// refused only when out of memory.
+    /// Lexes a text, with both settings of the lexer off. The text must be shorter than 2^32 bytes.
+    ///
+    /// # Errors
+    ///
+    /// Fails only if an allocation fails.
     pub fn new(alloc: Global, text: &'a str) -> Result<ParseBuffer<'a>, Error>
         requires { length text.now < 2 ^ 32 }
         ensures setting { IfOk result (λ b. b.setting ≡ record {
@@ -67,7 +70,11 @@ impl<'a> ParseBuffer<'a> {
         ParseBuffer::new_with_lexer(alloc, Lexer::new(text))
     }
 
-    /// The buffer of a lexer's text, with its settings.
+    /// Lexes the text of a lexer, with its settings.
+    ///
+    /// # Errors
+    ///
+    /// Fails only if an allocation fails.
     pub fn new_with_lexer(alloc: Global, lexer: Lexer<'a>) -> Result<ParseBuffer<'a>, Error>
         ensures setting { IfOk result (λ b. b.setting ≡ lexer.entry) }
         ensures track { IfOk result (λ b. b.track ≡ false) }
@@ -83,7 +90,7 @@ impl<'a> ParseBuffer<'a> {
         })
     }
 
-    /// Sets whether the spans of instructions are tracked, which a parser only answers back.
+    /// Sets the flag that [`Parser::track_instr_spans`] returns. It has no other effect.
     pub fn track_instr_spans(&mut self, track: bool) -> &mut Self
         ensures same { result.ghost_name ≡ self.entry.ghost_name }
         ensures track { result.now ≡ record self.old { track = track } }
@@ -92,7 +99,7 @@ impl<'a> ParseBuffer<'a> {
         self
     }
 
-    /// The raw tokens of the text, up to its end or its first fault.
+    /// Returns the raw tokens of the text, up to its end or its first lexical error.
     pub fn raw(&self) -> &[Token]
         ensures tokens { result.now ≡ self.now.tokens }
         ensures read { IsRead self.now }
@@ -100,7 +107,7 @@ impl<'a> ParseBuffer<'a> {
         &self.table.tokens
     }
 
-    /// The first fault of the text.
+    /// Returns the first lexical error of the text.
     pub fn lex_fault(&self) -> Option<LexFault>
         ensures ending { result ≡ self.now.ending }
         ensures read { IsRead self.now }
@@ -108,7 +115,7 @@ impl<'a> ParseBuffer<'a> {
         self.table.fault
     }
 
-    /// A parser at the text's start, with no names registered and no group open.
+    /// Creates a parser at the start of the text, with no names registered and no group open.
     pub fn parser(&self) -> Parser<'_>
         ensures start { result ≡ record {
           source = self.now;
@@ -121,8 +128,8 @@ impl<'a> ParseBuffer<'a> {
         Parser::new(SourceRef::of_table(self.table_ref()))
     }
 
-    /// What holds of every buffer: its tokens are those of its text, which is UTF-8 and of fewer than
-    /// 2^32 bytes. The call does nothing, as [`Parser::lemma_sound`], which says the same of a parser.
+    /// Lemma (no effect): a buffer's tokens are those of its text, which is UTF-8 and shorter than
+    /// 2^32 bytes.
     pub fn lemma_sound(&self)
         ensures read { IsRead self.now }
         ensures utf8 { IsUtf8 self.now.setting.text }
@@ -132,7 +139,7 @@ impl<'a> ParseBuffer<'a> {
         let _text = table.text();
     }
 
-    /// The tokens are those of the text, which has no others. A lemma: the call does nothing.
+    /// Lemma (no effect): the raw tokens of a text are unique under its lexer settings.
     pub(crate) fn lemma_only(&self)
         ensures only { (s : Source) → IsRead s → s.setting ≡ self.now.setting →
             s.track ≡ self.now.track → s ≡ self.now }
@@ -142,7 +149,7 @@ impl<'a> ParseBuffer<'a> {
         let _table = self.table_ref();
     }
 
-    /// The buffer as its parsers read it.
+    /// Returns the buffer as its parsers borrow it.
     pub(crate) fn table_ref(&self) -> TableRef<'_>
         ensures same { result ≡ self.now }
         ensures read { IsRead self.now }

@@ -1,5 +1,19 @@
-//! A cursor over what a parser shows.
-ghost use Rattle.std.specs.Prelude.{◌≡◌, ◌⊎◌, ◌↔◌, ◌≤◌, ◌<◌, ◌^◌, ◌++◌, ℕ, IfOk, IfSome, length, false, Option};
+//! Cursors over the visible tokens.
+ghost use Rattle.std.specs.Prelude.{
+  ◌≡◌,
+  ◌⊎◌,
+  ◌↔◌,
+  ◌≤◌,
+  ◌<◌,
+  ◌^◌,
+  ◌++◌,
+  ℕ,
+  IfOk,
+  IfSome,
+  length,
+  false,
+  Option,
+};
 ghost use Rattle.std.specs.Prelude.{Some, Ok};
 ghost use Rattle.std.specs.Cow.{cow_str_bytes, cow_slice_items, IsBorrowedSlice, IsBorrowedStr};
 ghost use Rattle.std.specs.Option.{option_map};
@@ -18,13 +32,13 @@ ghost use Rattle.wat_lex.specs.declared.lexer.kinds.Token.{Token};
 ghost use Rattle.wat_lex.specs.declared.lexer.kinds.TokenKind.TheVariants as variant;
 ghost use Rattle.wat_lexer_parser.specs.inside.Next.{IsAfter, IsPlace};
 ghost use Rattle.wat_lexer_parser.specs.parser.State.{Answers, IsSound, at_place};
-ghost use Rattle.wat_lexer_parser.specs.parser.State.{report_here, seen_at};
-ghost use Rattle.wat_lexer_parser.specs.parser.Takers.{taken_at, sees_at, token_of};
-ghost use Rattle.wat_lexer_parser.specs.parser.Takers.{comment_taken, may_take_at, name_or_report};
+ghost use Rattle.wat_lexer_parser.specs.parser.State.{report_here, peek_at};
+ghost use Rattle.wat_lexer_parser.specs.parser.Takers.{token_value_at, sees_at, token_of};
+ghost use Rattle.wat_lexer_parser.specs.parser.Takers.{comment_taken, allocates_at, name_or_report};
 ghost use Rattle.wat_lexer_parser.specs.parser.Takers.{as_open, as_close, as_keyword, as_reserved};
 ghost use Rattle.wat_lexer_parser.specs.parser.Takers.{as_id, as_annotation, as_string};
 ghost use Rattle.wat_lexer_parser.specs.parser.Takers.{as_integer, as_float, number_of};
-ghost use Rattle.wat_lexer_parser.specs.parser.Takers.{name_takes};
+ghost use Rattle.wat_lexer_parser.specs.parser.Takers.{name_is_decoded};
 ghost use Rattle.wat_lexer_parser.specs.places.Places.{current_span, empty_of, offset_at};
 ghost use Rattle.wat_lexer_parser.specs.shown.Showing.{shown};
 
@@ -35,19 +49,29 @@ use wat_lex::error::Error;
 use wat_lex::lexer::{Float, Integer, Token, TokenKind};
 use wat_lex::token::Span;
 
-/// A place in a parser's text, from which tokens are taken without moving the parser.
+/// A position in a parser's text, from which tokens are consumed without moving the parser.
+///
+/// At the end of the text the `peek_` methods return `false`, and the methods that consume a token
+/// return `None`.
+///
+/// # Errors
+///
+/// The methods return an error if the next token cannot be lexed, if an annotation before it has an
+/// invalid name or its group does not end, or if an allocation fails. Only methods that decode a
+/// value allocate, apart from error messages.
 #[derive(Clone, Copy)]
 pub struct Cursor<'p, 'a> {
     parser: &'p Parser<'a>,
+    /// Number of raw tokens before the position.
     at: usize,
-    /// Where the place is in the text.
+    /// Byte offset of the position.
     byte: usize,
     ghost in_text: { at ≤ length parser.now.source.tokens },
     ghost at_byte: { byte ≡ offset_at parser.now.source.tokens at },
 }
 
 impl<'p, 'a> Cursor<'p, 'a> {
-    /// The cursor at a parser's place.
+    /// Creates a cursor at a parser's position.
     pub(crate) fn new(parser: &'p Parser<'a>) -> Cursor<'p, 'a>
         ensures parser { result.parser.now ≡ parser.now }
         ensures at { result.at ≡ parser.now.place }
@@ -60,26 +84,28 @@ impl<'p, 'a> Cursor<'p, 'a> {
         }
     }
 
+    /// Returns the number of raw tokens before the position.
     pub(crate) fn place(self) -> usize
         ensures { result ≡ self.entry.at }
     {
         self.at
     }
 
-    /// The byte of the place.
+    /// Returns the byte offset of the position.
     pub(crate) fn byte(self) -> usize
         ensures { IsPlace self.entry.parser.now.source self.entry.at result }
     {
         self.byte
     }
 
-    /// What is shown here, with the place after it.
-    // What a parser keeps is handed over in registers; what a call writes to memory is read there apart from it.
+    /// Returns the next visible token, and the position after it.
+    // For speed, a cached token stays in registers. The result of `look_again` is returned in
+    // memory, so it is taken apart in a separate branch.
     #[inline(always)]
     #[tactic(auto, unfolding(crate::specs::parser::State::seen))]
     fn look(self) -> Result<Option<(Token, usize)>, Error>
         ensures value { Answers false (λ found. found)
-            (seen_at (at_place self.entry.parser.now self.entry.at)) result }
+            (peek_at (at_place self.entry.parser.now self.entry.at)) result }
         ensures on { IfOk result (λ found. IfSome found (λ v. self.entry.at < v.1)) }
         ensures after { IfOk result (λ found. IfSome found
             (IsAfter self.entry.parser.now.source)) }
@@ -94,12 +120,12 @@ impl<'p, 'a> Cursor<'p, 'a> {
         }
     }
 
-    /// The same, by a look at the text or its table.
+    /// Returns the next visible token, and the position after it, from the text or its table.
     #[inline(never)]
     #[tactic(auto, unfolding(crate::specs::parser::State::seen))]
     fn look_again(self) -> Result<Option<(Token, usize)>, Error>
         ensures value { Answers false (λ found. found)
-            (seen_at (at_place self.entry.parser.now self.entry.at)) result }
+            (peek_at (at_place self.entry.parser.now self.entry.at)) result }
         ensures on { IfOk result (λ found. IfSome found (λ v. self.entry.at < v.1)) }
         ensures after { IfOk result (λ found. IfSome found
             (IsAfter self.entry.parser.now.source)) }
@@ -111,8 +137,8 @@ impl<'p, 'a> Cursor<'p, 'a> {
         }
     }
 
-    /// What holds of every cursor: what [`Parser::lemma_sound`] says of its parser, and it is among
-    /// the tokens. The call does nothing.
+    /// Lemma (no effect): [`Parser::lemma_sound`] holds for the cursor's parser, and the cursor's
+    /// position is at most the number of tokens.
     pub fn lemma_sound(&self)
         ensures sound { IsSound self.now.parser.now }
         ensures within { self.now.at ≤ length self.now.parser.now.source.tokens }
@@ -121,8 +147,8 @@ impl<'p, 'a> Cursor<'p, 'a> {
         parser.lemma_sound();
     }
 
-    /// The current span: that of the token that is shown, the text's length at the end, or the
-    /// place itself where a fault is shown.
+    /// Returns the current span: the offset of the next visible token, the length of the text at
+    /// its end, or the offset of the position itself at an error.
     pub fn cur_span(&self) -> Span
         ensures value { result ≡ current_span self.now.parser.now.source self.now.at
             self.now.parser.now.names }
@@ -133,7 +159,7 @@ impl<'p, 'a> Cursor<'p, 'a> {
         parser.span_from(self.at, self.byte)
     }
 
-    /// Whether the end or `)` is shown; false at a fault.
+    /// Returns `true` if `)` or the end of the text is next; `false` at an error.
     pub(crate) fn is_empty(self) -> bool
         ensures { result ≡ empty_of (shown self.entry.parser.now.source self.entry.at
             self.entry.parser.now.names) }
@@ -142,7 +168,7 @@ impl<'p, 'a> Cursor<'p, 'a> {
         parser.is_empty_from(self.at, self.byte)
     }
 
-    /// The text in which the cursor is.
+    /// Returns the whole source text, including the part before the position.
     pub(crate) fn text(self) -> &'a str
         ensures { result.now ≡ self.entry.parser.now.source.setting.text }
     {
@@ -150,17 +176,17 @@ impl<'p, 'a> Cursor<'p, 'a> {
         parser.text()
     }
 
-    /// The current span, where this token is shown.
+    /// Returns the current span, given the next visible token.
     #[tactic(auto, using(crate::proofs::places::TakenSpans::taken_span))]
     pub(crate) fn span_of(self, token: Token) -> Span
-        requires { (q : ℕ) × (seen_at (at_place self.parser.now self.at) ≡ Ok (Some (token, q))) }
+        requires { (q : ℕ) × (peek_at (at_place self.parser.now self.at) ≡ Ok (Some (token, q))) }
         ensures { result ≡ current_span self.entry.parser.now.source self.entry.at
             self.entry.parser.now.names }
     {
         Span::from_offset(token.offset)
     }
 
-    /// An error at the current span.
+    /// Creates an error with this message at the current span.
     pub fn error(&self, message: &str) -> Error
         ensures { IsUnlessMemory result (report_here self.now.parser.now.source self.now.at
             self.now.parser.now.names message.now) }
@@ -169,7 +195,7 @@ impl<'p, 'a> Cursor<'p, 'a> {
         parser.source().error_at(self.cur_span(), message)
     }
 
-    /// An error at the current span with a message of two parts.
+    /// Creates an error at the current span whose message is `what` followed by `word`.
     pub(crate) fn error_of(&self, what: &str, word: &str) -> Error
         ensures { IsUnlessMemory result (report_here self.now.parser.now.source self.now.at
             self.now.parser.now.names (what.now ++ word.now)) }
@@ -181,10 +207,10 @@ impl<'p, 'a> Cursor<'p, 'a> {
         }
     }
 
-    /// The token that is shown, or None at the end, or the error of the fault that is shown.
+    /// Returns the next visible token, or `None` at the end of the text.
     pub fn token(&self) -> Result<Option<Token>, Error>
         ensures value { Answers false (λ t. t)
-            (token_of (seen_at (at_place self.now.parser.now self.now.at))) result }
+            (token_of (peek_at (at_place self.now.parser.now self.now.at))) result }
         ensures reader { IfOk result (λ found. IfSome found (
             IsTokenOf self.now.parser.now.source.setting.text)) }
     {
@@ -195,10 +221,10 @@ impl<'p, 'a> Cursor<'p, 'a> {
         }
     }
 
-    /// Takes the token that is shown, whatever its kind.
+    /// Consumes the next visible token of any kind. Returns `None` at the end of the text.
     pub fn any(self) -> Result<Option<(Token, Self)>, Error>
         ensures value { Answers false (option_map (λ v. (v.0, v.1.at)))
-            (seen_at (at_place self.entry.parser.now self.entry.at)) result }
+            (peek_at (at_place self.entry.parser.now self.entry.at)) result }
         ensures parser { IfOk result (λ found. IfSome found (λ v. v.1.parser ≡ self.entry.parser)) }
         ensures on { IfOk result (λ found. IfSome found (λ v. self.entry.at < v.1.at)) }
         ensures reader { IfOk result (λ found. IfSome found (λ v.
@@ -210,7 +236,7 @@ impl<'p, 'a> Cursor<'p, 'a> {
         }
     }
 
-    /// The cursor at the place after a token.
+    /// Returns the cursor after a token.
     #[inline(always)]
     fn moved(self, token: Token, at: usize) -> Self
         requires { IsAfter self.parser.now.source (token, at) }
@@ -224,7 +250,7 @@ impl<'p, 'a> Cursor<'p, 'a> {
         }
     }
 
-    /// Whether `(` is shown.
+    /// Returns `true` if the next visible token is `(`.
     pub fn peek_lparen(self) -> Result<bool, Error>
         ensures { Answers false (λ b. b)
             (sees_at as_open (at_place self.entry.parser.now self.entry.at)) result }
@@ -235,7 +261,7 @@ impl<'p, 'a> Cursor<'p, 'a> {
         }
     }
 
-    /// Whether `)` is shown.
+    /// Returns `true` if the next visible token is `)`.
     pub fn peek_rparen(self) -> Result<bool, Error>
         ensures { Answers false (λ b. b)
             (sees_at as_close (at_place self.entry.parser.now self.entry.at)) result }
@@ -246,7 +272,7 @@ impl<'p, 'a> Cursor<'p, 'a> {
         }
     }
 
-    /// Whether an identifier, whatever its name, is shown.
+    /// Returns `true` if the next visible token is an identifier. Its name is not checked.
     pub fn peek_id(self) -> Result<bool, Error>
         ensures { Answers false (λ b. b)
             (sees_at as_id (at_place self.entry.parser.now self.entry.at)) result }
@@ -257,7 +283,7 @@ impl<'p, 'a> Cursor<'p, 'a> {
         }
     }
 
-    /// Whether a reserved token is shown.
+    /// Returns `true` if the next visible token is a reserved token.
     pub fn peek_reserved(self) -> Result<bool, Error>
         ensures { Answers false (λ b. b)
             (sees_at as_reserved (at_place self.entry.parser.now self.entry.at)) result }
@@ -268,7 +294,7 @@ impl<'p, 'a> Cursor<'p, 'a> {
         }
     }
 
-    /// Whether a keyword is shown.
+    /// Returns `true` if the next visible token is a keyword.
     pub fn peek_keyword(self) -> Result<bool, Error>
         ensures { Answers false (λ b. b)
             (sees_at as_keyword (at_place self.entry.parser.now self.entry.at)) result }
@@ -279,7 +305,7 @@ impl<'p, 'a> Cursor<'p, 'a> {
         }
     }
 
-    /// Whether an integer is shown.
+    /// Returns `true` if the next visible token is an integer.
     pub fn peek_integer(self) -> Result<bool, Error>
         ensures { Answers false (λ b. b)
             (sees_at as_integer (at_place self.entry.parser.now self.entry.at)) result }
@@ -290,7 +316,7 @@ impl<'p, 'a> Cursor<'p, 'a> {
         }
     }
 
-    /// Whether a floating-point number is shown.
+    /// Returns `true` if the next visible token is a floating-point number.
     pub fn peek_float(self) -> Result<bool, Error>
         ensures { Answers false (λ b. b)
             (sees_at as_float (at_place self.entry.parser.now self.entry.at)) result }
@@ -301,7 +327,7 @@ impl<'p, 'a> Cursor<'p, 'a> {
         }
     }
 
-    /// Whether a string is shown.
+    /// Returns `true` if the next visible token is a string.
     pub fn peek_string(self) -> Result<bool, Error>
         ensures { Answers false (λ b. b)
             (sees_at as_string (at_place self.entry.parser.now self.entry.at)) result }
@@ -312,10 +338,10 @@ impl<'p, 'a> Cursor<'p, 'a> {
         }
     }
 
-    /// Takes `(`.
+    /// Consumes `(` and returns the cursor after it. Returns `None` if it is not next.
     pub fn lparen(self) -> Result<Option<Self>, Error>
         ensures value { Answers false (option_map (λ next. (tt, next.at)))
-            (taken_at as_open (at_place self.entry.parser.now self.entry.at)) result }
+            (token_value_at as_open (at_place self.entry.parser.now self.entry.at)) result }
         ensures parser { IfOk result (λ found. IfSome found (λ next.
             next.parser ≡ self.entry.parser)) }
         ensures on { IfOk result (λ found. IfSome found (λ next. self.entry.at < next.at)) }
@@ -329,10 +355,10 @@ impl<'p, 'a> Cursor<'p, 'a> {
         }
     }
 
-    /// Takes `)`.
+    /// Consumes `)` and returns the cursor after it. Returns `None` if it is not next.
     pub fn rparen(self) -> Result<Option<Self>, Error>
         ensures value { Answers false (option_map (λ next. (tt, next.at)))
-            (taken_at as_close (at_place self.entry.parser.now self.entry.at)) result }
+            (token_value_at as_close (at_place self.entry.parser.now self.entry.at)) result }
         ensures parser { IfOk result (λ found. IfSome found (λ next.
             next.parser ≡ self.entry.parser)) }
         ensures on { IfOk result (λ found. IfSome found (λ next. self.entry.at < next.at)) }
@@ -346,19 +372,20 @@ impl<'p, 'a> Cursor<'p, 'a> {
         }
     }
 
-    /// Takes an identifier, and answers its name, without the `$`.
+    /// Consumes an identifier and returns its name, without the `$`. Returns `None` if the next
+    /// token is of another kind. Fails if the name is not valid.
     pub fn id(self) -> Result<Option<(CowStr<'a>, Self)>, Error>
-        ensures value { Answers (may_take_at as_id (at_place self.entry.parser.now self.entry.at))
+        ensures value { Answers (allocates_at as_id (at_place self.entry.parser.now self.entry.at))
             (option_map (λ v. (cow_str_bytes v.0, v.1.at)))
-            (taken_at as_id (at_place self.entry.parser.now self.entry.at)) result }
+            (token_value_at as_id (at_place self.entry.parser.now self.entry.at)) result }
         ensures borrowed { (t : Token) (q : ℕ) →
-            seen_at (at_place self.entry.parser.now self.entry.at) ≡ Ok (Some (t, q)) →
+            peek_at (at_place self.entry.parser.now self.entry.at) ≡ Ok (Some (t, q)) →
             IfOk result (λ found. IfSome found (λ v. IsBorrowedStr v.0 ↔
             HasNoEscape (word_of self.entry.parser.now.source.setting.text t))) }
         ensures owned { (t : Token) (q : ℕ) →
-            seen_at (at_place self.entry.parser.now self.entry.at) ≡ Ok (Some (t, q)) →
+            peek_at (at_place self.entry.parser.now self.entry.at) ≡ Ok (Some (t, q)) →
             IfOk result (λ found. IfSome found (λ v. is_owned_str v.0 ≡
-            name_takes self.entry.parser.now.source.setting.text t)) }
+            name_is_decoded self.entry.parser.now.source.setting.text t)) }
         ensures parser { IfOk result (λ found. IfSome found (λ v.
             v.1.parser ≡ self.entry.parser)) }
         ensures on { IfOk result (λ found. IfSome found (λ v. self.entry.at < v.1.at)) }
@@ -376,10 +403,11 @@ impl<'p, 'a> Cursor<'p, 'a> {
         }
     }
 
-    /// Takes a keyword.
+    /// Consumes a keyword and returns its text. Returns `None` if the next token is of another
+    /// kind.
     pub fn keyword(self) -> Result<Option<(&'a str, Self)>, Error>
         ensures value { Answers false (option_map (λ v. (v.0.now, v.1.at)))
-            (taken_at as_keyword (at_place self.entry.parser.now self.entry.at)) result }
+            (token_value_at as_keyword (at_place self.entry.parser.now self.entry.at)) result }
         ensures parser { IfOk result (λ found. IfSome found (λ v.
             v.1.parser ≡ self.entry.parser)) }
         ensures on { IfOk result (λ found. IfSome found (λ v. self.entry.at < v.1.at)) }
@@ -396,14 +424,15 @@ impl<'p, 'a> Cursor<'p, 'a> {
         }
     }
 
-    /// Takes an annotation, and answers its name, without the `@`.
+    /// Consumes an annotation and returns its name, without the `@`. Returns `None` if the next
+    /// token is of another kind. Fails if the name is not valid.
     pub fn annotation(self) -> Result<Option<(CowStr<'a>, Self)>, Error>
         ensures value { Answers
-            (may_take_at as_annotation (at_place self.entry.parser.now self.entry.at))
+            (allocates_at as_annotation (at_place self.entry.parser.now self.entry.at))
             (option_map (λ v. (cow_str_bytes v.0, v.1.at)))
-            (taken_at as_annotation (at_place self.entry.parser.now self.entry.at)) result }
+            (token_value_at as_annotation (at_place self.entry.parser.now self.entry.at)) result }
         ensures borrowed { (t : Token) (q : ℕ) →
-            seen_at (at_place self.entry.parser.now self.entry.at) ≡ Ok (Some (t, q)) →
+            peek_at (at_place self.entry.parser.now self.entry.at) ≡ Ok (Some (t, q)) →
             IfOk result (λ found. IfSome found (λ v. IsBorrowedStr v.0 ↔
             HasNoEscape (word_of self.entry.parser.now.source.setting.text t))) }
         ensures parser { IfOk result (λ found. IfSome found (λ v.
@@ -423,10 +452,11 @@ impl<'p, 'a> Cursor<'p, 'a> {
         }
     }
 
-    /// Takes a reserved token.
+    /// Consumes a reserved token and returns its text. Returns `None` if the next token is of
+    /// another kind.
     pub fn reserved(self) -> Result<Option<(&'a str, Self)>, Error>
         ensures value { Answers false (option_map (λ v. (v.0.now, v.1.at)))
-            (taken_at as_reserved (at_place self.entry.parser.now self.entry.at)) result }
+            (token_value_at as_reserved (at_place self.entry.parser.now self.entry.at)) result }
         ensures parser { IfOk result (λ found. IfSome found (λ v.
             v.1.parser ≡ self.entry.parser)) }
         ensures on { IfOk result (λ found. IfSome found (λ v. self.entry.at < v.1.at)) }
@@ -443,14 +473,15 @@ impl<'p, 'a> Cursor<'p, 'a> {
         }
     }
 
-    /// Takes an integer.
+    /// Consumes an integer and returns its sign, base and digits. Returns `None` if the next token
+    /// is of another kind.
     pub fn integer(self) -> Result<Option<(Integer<'a>, Self)>, Error>
         ensures value { Answers
-            (may_take_at as_integer (at_place self.entry.parser.now self.entry.at))
+            (allocates_at as_integer (at_place self.entry.parser.now self.entry.at))
             (option_map (λ v. (number_of v.0, v.1.at)))
-            (taken_at as_integer (at_place self.entry.parser.now self.entry.at)) result }
+            (token_value_at as_integer (at_place self.entry.parser.now self.entry.at)) result }
         ensures word { (t : Token) (q : ℕ) (k : IntegerKind) →
-            seen_at (at_place self.entry.parser.now self.entry.at) ≡ Ok (Some (t, q)) →
+            peek_at (at_place self.entry.parser.now self.entry.at) ≡ Ok (Some (t, q)) →
             t.kind ≡ variant.Integer k → IfOk result (λ found. IfSome found (λ v.
             IsIntegerOf k (word_of self.entry.parser.now.source.setting.text t) v.0
             × IsNumeralOf k (word_of self.entry.parser.now.source.setting.text t) v.0)) }
@@ -460,7 +491,7 @@ impl<'p, 'a> Cursor<'p, 'a> {
             v.1.parser ≡ self.entry.parser)) }
         ensures on { IfOk result (λ found. IfSome found (λ v. self.entry.at < v.1.at)) }
         ensures taken { IfOk result (λ found. IfSome found (λ v. (t : Token)
-            × (seen_at (at_place self.entry.parser.now self.entry.at) ≡ Ok (Some (t, v.1.at))))) }
+            × (peek_at (at_place self.entry.parser.now self.entry.at) ≡ Ok (Some (t, v.1.at))))) }
     {
         match self.look()? {
             Some((token, at)) => match token.kind {
@@ -475,14 +506,15 @@ impl<'p, 'a> Cursor<'p, 'a> {
         }
     }
 
-    /// Takes a floating-point number.
+    /// Consumes a floating-point number and returns its parts. Returns `None` if the next token is
+    /// of another kind.
     pub fn float(self) -> Result<Option<(Float<'a>, Self)>, Error>
         ensures value { Answers
-            (may_take_at as_float (at_place self.entry.parser.now self.entry.at))
+            (allocates_at as_float (at_place self.entry.parser.now self.entry.at))
             (option_map (λ v. (tt, v.1.at)))
-            (taken_at as_float (at_place self.entry.parser.now self.entry.at)) result }
+            (token_value_at as_float (at_place self.entry.parser.now self.entry.at)) result }
         ensures word { (t : Token) (q : ℕ) (k : FloatKind) →
-            seen_at (at_place self.entry.parser.now self.entry.at) ≡ Ok (Some (t, q)) →
+            peek_at (at_place self.entry.parser.now self.entry.at) ≡ Ok (Some (t, q)) →
             t.kind ≡ variant.Float k → IfOk result (λ found. IfSome found (λ v.
             IsFloatOf k (word_of self.entry.parser.now.source.setting.text t) v.0)) }
         ensures parser { IfOk result (λ found. IfSome found (λ v.
@@ -502,14 +534,15 @@ impl<'p, 'a> Cursor<'p, 'a> {
         }
     }
 
-    /// Takes a string, and answers its value.
+    /// Consumes a string and returns its value. Returns `None` if the next token is of another
+    /// kind.
     pub fn string(self) -> Result<Option<(CowSlice<'a, u8>, Self)>, Error>
         ensures value { Answers
-            (may_take_at as_string (at_place self.entry.parser.now self.entry.at))
+            (allocates_at as_string (at_place self.entry.parser.now self.entry.at))
             (option_map (λ v. (cow_slice_items v.0, v.1.at)))
-            (taken_at as_string (at_place self.entry.parser.now self.entry.at)) result }
+            (token_value_at as_string (at_place self.entry.parser.now self.entry.at)) result }
         ensures borrowed { (t : Token) (q : ℕ) →
-            seen_at (at_place self.entry.parser.now self.entry.at) ≡ Ok (Some (t, q)) →
+            peek_at (at_place self.entry.parser.now self.entry.at) ≡ Ok (Some (t, q)) →
             IfOk result (λ found. IfSome found (λ v. IsBorrowedSlice v.0 ↔
             HasNone backslash (word_of self.entry.parser.now.source.setting.text t))) }
         ensures parser { IfOk result (λ found. IfSome found (λ v.
@@ -529,8 +562,8 @@ impl<'p, 'a> Cursor<'p, 'a> {
         }
     }
 
-    /// Takes the comment that comes next, with white space before it or none, and answers its text.
-    /// None where the end or another token comes next; the error where a fault does.
+    /// Consumes a comment, and whitespace before it, and returns its text. Returns `None` if
+    /// another token comes first, or at the end of the text.
     pub fn comment(self) -> Result<Option<(&'a str, Self)>, Error>
         ensures value { Answers false (option_map (λ v. (v.0.now, v.1.at)))
             (comment_taken (at_place self.entry.parser.now self.entry.at)) result }
@@ -547,16 +580,16 @@ impl<'p, 'a> Cursor<'p, 'a> {
     }
 }
 
-/// The name of an identifier or an annotation, or the error of what is wrong with it.
+/// Returns the name of an identifier or an annotation, or an error at the token if it is not valid.
 fn name_of<'a>(alloc: Global, text: &'a str, token: &Token) -> Result<CowStr<'a>, Error>
     requires token { IsTokenOf text.now token.now }
     requires kind { (token.now.kind ≡ variant.Id) ⊎ (token.now.kind ≡ variant.Annotation) }
-    ensures value { Answers (name_takes text.now token.now) (λ name. cow_str_bytes name)
+    ensures value { Answers (name_is_decoded text.now token.now) (λ name. cow_str_bytes name)
         (name_or_report text.now token.now
         (name_value (empty_name token.now.kind) (word_of text.now token.now))) result }
     ensures borrowed { IfOk result (λ name.
         IsBorrowedStr name ↔ HasNoEscape (word_of text.now token.now)) }
-    ensures owned { IfOk result (λ name. is_owned_str name ≡ name_takes text.now token.now) }
+    ensures owned { IfOk result (λ name. is_owned_str name ≡ name_is_decoded text.now token.now) }
 {
     match token.name(alloc, text)? {
         Ok(name) => Ok(name),

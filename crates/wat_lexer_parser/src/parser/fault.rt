@@ -1,35 +1,36 @@
-//! What a look reaches in place of a token.
+//! Errors that a peek finds instead of a token.
 use wat_lex::lexer::LexError;
 
-/// What is wrong with what is shown.
+/// The kind of an error that a peek finds.
 #[derive(Clone, Copy, Debug, PartialEq, Eq)]
 pub enum FaultKind {
-    /// A fault of the text, or of an annotation's name.
+    /// A lexical error of the text, or an invalid annotation name.
     Lex(LexError),
-    /// The text ends in the group of an annotation that is not registered.
+    /// The end of the text inside the group of an unregistered annotation.
     Unclosed,
 }
 
-/// What is wrong with what is shown, and where.
+/// An error that a peek finds, with its offset.
 #[derive(Clone, Copy, Debug, PartialEq, Eq)]
 pub struct Fault {
-    /// In bytes from the text's start.
+    /// Offset in bytes from the start of the text.
     pub offset: usize,
-    /// What is wrong.
+    /// Kind of the error.
     pub kind: FaultKind,
 }
 
-/// What the token in front means for a look.
+/// The effect of a raw token on a peek.
 #[derive(Clone, Copy)]
 pub enum Step {
-    /// It is never shown.
+    /// A token that is never visible.
     Pass,
-    /// It is shown.
+    /// A visible token.
     Take,
-    /// What the tokens end with is shown.
+    /// The `(` of `(@` as the last raw token: the peek finds the end of the text or its lexical
+    /// error.
     Finish,
-    /// This fault is shown.
+    /// An error that the peek returns.
     Refuse(Fault),
-    /// It begins a group that is skipped.
+    /// The `(` of a group that the peek skips.
     Skip,
 }

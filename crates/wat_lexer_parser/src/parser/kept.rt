@@ -1,12 +1,13 @@
-//! What a parser keeps of its last look.
+//! The cached result of a parser's last peek.
 ghost use Rattle.std.specs.Prelude.{◌≡◌, ◌<◌, Some, None};
 
 use std::marker::Model;
 use wat_lex::lexer::{Token, TokenKind};
 
-/// The token that is shown at a parser's place, with the place after it, where that is known.
-// The parts are written and read each for itself: a processor waits where it reads as one what was written in parts just before. No token is before
-// the place 0, so that it says that nothing is known, and a move writes no part for that.
+/// The token visible at a parser's position and the position after it, if they are known.
+// The fields are loaded and stored one by one: a single wide load of fields that were just stored
+// separately would stall the processor. `after` is 0 if nothing is known: no token ends at position
+// 0, so a move stores no separate flag.
 #[derive(Drop)]
 pub struct Kept {
     offset: usize,
@@ -26,7 +27,7 @@ impl Model for Kept {
 }
 
 impl Kept {
-    /// Nothing is known.
+    /// Creates a cache without a token.
     #[inline(always)]
     pub fn nothing() -> Kept
         ensures { result ≡ None }
@@ -39,7 +40,7 @@ impl Kept {
         }
     }
 
-    /// The token, with the place after it, where it is known.
+    /// Returns the token and the position after it, if they are known.
     #[inline(always)]
     pub fn found(&self) -> Option<(Token, usize)>
         ensures { result ≡ self.now }
@@ -55,7 +56,7 @@ impl Kept {
         Some((token, self.after))
     }
 
-    /// Keeps this token, with the place after it.
+    /// Stores a token and the position after it.
     #[inline(always)]
     pub fn keep(&mut self, token: Token, after: usize)
         requires { 0 < after }
@@ -67,7 +68,7 @@ impl Kept {
         self.kind = token.kind;
     }
 
-    /// Nothing is known any more.
+    /// Removes the stored token.
     #[inline(always)]
     pub fn clear(&mut self)
         ensures { self.new ≡ None }

@@ -1,10 +1,10 @@
-//! A buffer that holds no table.
+//! Buffers without a token table.
 ghost use Rattle.std.specs.Prelude.{◌≡◌, ◌<◌, ◌^◌, false, length};
 ghost use Rattle.std.specs.Str.{IsUtf8};
 ghost use Rattle.wat_lexer_parser.specs.names.RegisteredNames.{no_names};
 ghost use Rattle.wat_lexer_parser.specs.parser.State.{Answers};
 ghost use Rattle.wat_lexer_parser.specs.places.Source.{IsRead, Source};
-ghost use Rattle.wat_lexer_parser.specs.readings.Readings.{whole, whole_takes};
+ghost use Rattle.wat_lexer_parser.specs.readings.Readings.{whole, whole_may_allocate};
 
 use crate::parser::source_ref::SourceRef;
 use crate::parser::text_ref::TextRef;
@@ -15,13 +15,14 @@ use std::marker::Model;
 use wat_lex::error::Error;
 use wat_lex::lexer::{LexFault, Lexer};
 
-/// A text that its parsers lex as they go.
+/// A text that its parsers lex on demand.
 ///
-/// It holds no tokens, so that it takes neither time nor memory to make. Parsers of it show what
-/// those of a [`ParseBuffer`](crate::parser::ParseBuffer) show. A move lexes up to the token that is shown next, which the parser
-/// keeps; `peek2`, `peek3` and a cursor that goes on lex what they look at, and so does each look
-/// where a fault or the end is shown. The group of an annotation that is passed over is lexed by each
-/// of these.
+/// Creating a buffer neither lexes nor allocates. Its parsers yield the same tokens as those of a
+/// [`ParseBuffer`](crate::parser::ParseBuffer).
+///
+/// A parser that advances lexes up to the next visible token, and caches it. `peek2`, `peek3`,
+/// cursors that advance, and peeks at an error or at the end of the text lex their tokens each
+/// time. If they skip the group of an unregistered annotation, they lex it again.
 #[derive(Drop)]
 pub struct LazyBuffer<'a> {
     lexer: Lexer<'a>,
@@ -44,7 +45,8 @@ impl<'a> Model for LazyBuffer<'a> {
 }
 
 impl<'a> LazyBuffer<'a> {
-    /// The buffer of a text of at most `u32::MAX` bytes, with both settings of the lexer off.
+    /// Creates a buffer of a text, with both settings of the lexer off. The text must be shorter
+    /// than 2^32 bytes.
     pub fn new(alloc: Global, text: &'a str) -> LazyBuffer<'a>
         requires { length text.now < 2 ^ 32 }
         ensures setting { result.setting ≡ record {
@@ -57,7 +59,7 @@ impl<'a> LazyBuffer<'a> {
         LazyBuffer::new_with_lexer(alloc, Lexer::new(text))
     }
 
-    /// The buffer of a lexer's text, with its settings.
+    /// Creates a buffer of the text of a lexer, with its settings.
     pub fn new_with_lexer(alloc: Global, lexer: Lexer<'a>) -> LazyBuffer<'a>
         ensures setting { result.setting ≡ lexer.entry }
         ensures track { result.track ≡ false }
@@ -71,7 +73,7 @@ impl<'a> LazyBuffer<'a> {
         }
     }
 
-    /// Sets whether the spans of instructions are tracked, which a parser only answers back.
+    /// Sets the flag that [`Parser::track_instr_spans`] returns. It has no other effect.
     pub fn track_instr_spans(&mut self, track: bool) -> &mut Self
         ensures same { result.ghost_name ≡ self.entry.ghost_name }
         ensures track { result.now ≡ record self.old { track = track } }
@@ -80,14 +82,14 @@ impl<'a> LazyBuffer<'a> {
         self
     }
 
-    /// The lexer, for the raw tokens of the text one by one.
+    /// Returns the lexer, which yields the raw tokens of the text one by one.
     pub fn lexer(&self) -> &Lexer<'a>
         ensures { result.now ≡ self.now.setting }
     {
         &self.lexer
     }
 
-    /// The first fault of the text, which is lexed for it. It takes no memory.
+    /// Returns the first lexical error of the text, which is lexed up to there. Does not allocate.
     pub fn lex_fault(&self) -> Option<LexFault>
         ensures ending { result ≡ self.now.ending }
         ensures read { IsRead self.now }
@@ -96,7 +98,7 @@ impl<'a> LazyBuffer<'a> {
         self.lexer.first_fault(0)
     }
 
-    /// A parser at the text's start, with no names registered and no group open.
+    /// Creates a parser at the start of the text, with no names registered and no group open.
     pub fn parser(&self) -> Parser<'_>
         ensures start { result ≡ record {
           source = self.now;
@@ -115,21 +117,28 @@ impl<'a> LazyBuffer<'a> {
         )))
     }
 
-    /// Reads the whole text, as [`parse`](crate::parser::parse) does: a value exactly where the type
-    /// reads the text from its start up to its end, and else the refusal of the type, or of what is
-    /// left.
+    /// Parses the whole text, like [`parse`](crate::parser::parse), with no annotation names
+    /// registered.
+    ///
+    /// Returns a value if and only if the type's `meaning` reads the whole text.
+    ///
+    /// # Errors
+    ///
+    /// Returns the error of the type, or `extra tokens remaining after parse` at the first
+    /// remaining token, or the error that a peek finds after the value. Fails if an allocation
+    /// fails.
     pub fn parse<'b, T: Parse<'b>>(&'b self) -> Result<T, Error>
         ensures value { (s : Source) → IsRead s → s.setting ≡ self.now.setting →
             s.track ≡ self.now.track →
-            Answers (whole_takes T.meaning s) T.value (whole T.meaning s) result }
+            Answers (whole_may_allocate T.meaning s) T.value (whole T.meaning s) result }
         ensures read { IsRead self.now }
     {
         self.lemma_only();
         read(self.parser())
     }
 
-    /// What holds of every buffer: its tokens are those of its text, which is UTF-8 and of fewer than
-    /// 2^32 bytes. The call does nothing.
+    /// Lemma (no effect): a buffer's tokens are those of its text, which is UTF-8 and shorter than
+    /// 2^32 bytes.
     pub fn lemma_sound(&self)
         ensures read { IsRead self.now }
         ensures utf8 { IsUtf8 self.now.setting.text }
@@ -138,7 +147,7 @@ impl<'a> LazyBuffer<'a> {
         let _text = self.lexer.input();
     }
 
-    /// The tokens are those of the text, which has no others. A lemma: the call does nothing.
+    /// Lemma (no effect): the raw tokens of a text are unique under its lexer settings.
     fn lemma_only(&self)
         ensures only { (s : Source) → IsRead s → s.setting ≡ self.now.setting →
             s.track ≡ self.now.track → s ≡ self.now }

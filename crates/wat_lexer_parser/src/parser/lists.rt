@@ -1,4 +1,4 @@
-//! Calls of a parser that read a list.
+//! Parsing of lists.
 ghost use Rattle.std.specs.Prelude.{◌≤◌, map};
 ghost use Rattle.wat_lexer_parser.specs.parser.Sights.{second};
 ghost use Rattle.wat_lexer_parser.specs.readings.Readings.{many, while_seen};
@@ -8,7 +8,7 @@ use crate::parser::{Cursor, Parse, Parser, Peek};
 use std::marker::PhantomData;
 use wat_lex::error::Error;
 
-/// Anything but `)` and the end.
+/// Anything except `)` and the end of the text. An error counts too, so that the list reports it.
 pub struct Something(());
 
 impl Peek for Something {
@@ -28,7 +28,7 @@ impl Peek for Something {
     }
 }
 
-/// A type after the token that is shown.
+/// The type `P`, after the next visible token.
 pub struct After<P> {
     of: PhantomData<P>,
 }
@@ -48,7 +48,7 @@ impl<P: Peek> Peek for After<P> {
 }
 
 impl<'a> Parser<'a> {
-    /// Reads all values of a type before `)` or the end.
+    /// Parses values of type `T` until `)` or the end of the text.
     pub fn all_of<T: Parse<'a>>(&mut self) -> Result<Vec<T>, Error>
         requires { Advances T.meaning }
         ensures kept { IsKept self.old self.new }
@@ -59,8 +59,8 @@ impl<'a> Parser<'a> {
         self.all_while::<Something, T>()
     }
 
-    /// Reads values of a type as long as another is seen after the token that is shown, as `param`
-    /// is in `(param i32)`.
+    /// Parses values of type `T` as long as a `P` comes after the next visible token, like `param`
+    /// in `(param i32)`.
     pub fn all_after<P: Peek, T: Parse<'a>>(&mut self) -> Result<Vec<T>, Error>
         requires { Advances T.meaning }
         ensures kept { IsKept self.old self.new }
@@ -71,7 +71,7 @@ impl<'a> Parser<'a> {
         self.all_while::<After<P>, T>()
     }
 
-    /// Reads values of a type as long as another is seen.
+    /// Parses values of type `T` as long as a `P` comes next.
     pub fn all_while<P: Peek, T: Parse<'a>>(&mut self) -> Result<Vec<T>, Error>
         requires { Advances T.meaning }
         ensures kept { IsKept self.old self.new }

@@ -1,4 +1,4 @@
-//! A look at several types, one of which is expected.
+//! Lookahead at one of several types.
 ghost use Rattle.std.specs.Prelude.{◌≡◌, ◌||◌, ◌++◌, ◌∷◌, [], OnErr, IfOk, cond};
 ghost use Rattle.std.specs.Prelude.{codes, map, string_bytes};
 ghost use Rattle.wat_lex.specs.errors.Errors.{IsUnlessMemory};
@@ -12,8 +12,8 @@ use std::alloc::{AllocError, Global};
 use std::marker::Model;
 use wat_lex::error::Error;
 
-/// A look at what is shown that remembers at which types it peeked in vain, for the message that
-/// one of them was expected. It holds the first four of them itself.
+/// A sequence of peeks at one position, which records the types that do not come next, for the
+/// error message. The first 4 are stored inline.
 #[derive(Drop)]
 pub struct Lookahead1<'p, 'a> {
     parser: &'p Parser<'a>,
@@ -37,6 +37,7 @@ impl<'p, 'a> Model for Lookahead1<'p, 'a> {
 }
 
 impl<'p, 'a> Lookahead1<'p, 'a> {
+    /// Creates a lookahead at a parser's position.
     pub(crate) fn new(parser: &'p Parser<'a>) -> Lookahead1<'p, 'a>
         ensures { result ≡ (parser.now, []) }
     {
@@ -46,8 +47,8 @@ impl<'p, 'a> Lookahead1<'p, 'a> {
         }
     }
 
-    /// Whether a type is seen at the parser's place. One that is not is remembered, from the fifth on
-    /// in memory.
+    /// Returns `true` if a `T` comes next. Otherwise records the type for the error message; from
+    /// the fifth type on this allocates.
     pub fn peek<T: Peek>(&mut self) -> Result<bool, Error>
         ensures value { Answers ((T.sight self.old.0).takes
             || needs_memory self.old.1 (T.sight self.old.0).known) (λ b. b)
@@ -63,14 +64,14 @@ impl<'p, 'a> Lookahead1<'p, 'a> {
         Ok(false)
     }
 
-    /// The parser that is looked at.
+    /// Returns the parser that is peeked at.
     pub fn parser(&self) -> &Parser<'a>
         ensures { result.now ≡ self.now.0 }
     {
         self.parser
     }
 
-    /// The error at the current span that one of the types was expected which were not seen.
+    /// Creates an error at the current span, whose message lists the recorded types.
     pub fn error(self) -> Error
         ensures { IsUnlessMemory result (attempts_report self.entry.0 self.entry.1) }
     {
@@ -82,7 +83,9 @@ impl<'p, 'a> Lookahead1<'p, 'a> {
     }
 }
 
-/// What was expected: one of the types that were not seen, or, of none, anything but the end.
+/// Returns the message that one of the recorded types was expected. If there are none, returns
+/// `unexpected end of input` if `is_empty`, that is, at `)` or the end of the text, and otherwise
+/// `unexpected token`.
 fn message(alloc: Global, is_empty: bool, attempts: &[&'static str]) -> Result<String, AllocError>
     ensures { IfOk result (λ message. string_bytes message ≡
         attempts_message is_empty (map (λ t. t.now) attempts.now)) }
@@ -102,7 +105,7 @@ fn message(alloc: Global, is_empty: bool, attempts: &[&'static str]) -> Result<S
     one_of(alloc, attempts)
 }
 
-/// That one of several types was expected.
+/// Returns the message that one of 3 or more types was expected.
 #[tactic(auto, using(crate::proofs::parser::Joins::join_mapped))]
 fn one_of(alloc: Global, attempts: &[&'static str]) -> Result<String, AllocError>
     ensures { IfOk result (λ message. string_bytes message ≡

@@ -1,6 +1,17 @@
-//! The registered names.
+//! Registered annotation names.
 ghost use Rattle.std.specs.Prelude.{◌≡◌, ◌<◌, ◌+◌, ◌-◌, ◌^◌, IsSome, OnOk, OnErr, IsTrue, ◌↔◌};
-ghost use Rattle.std.specs.Prelude.{Some, Ok, ℕ, List, alloc_error, is_some, IfErr, cond, nat_eq, false};
+ghost use Rattle.std.specs.Prelude.{
+  Some,
+  Ok,
+  ℕ,
+  List,
+  alloc_error,
+  is_some,
+  IfErr,
+  cond,
+  nat_eq,
+  false,
+};
 ghost use Rattle.std.specs.FinMap as map;
 ghost use Rattle.std.specs.String.{string_cmp, string_bytes};
 ghost use Rattle.std.specs.BTreeMap.{UpdatesBy, get_by_text};
@@ -23,6 +34,7 @@ use std::collections::BTreeMap;
 use std::marker::Model;
 use wat_lex::lexer::Token;
 
+/// The registered annotation names, each with its number of registrations.
 #[derive(Drop)]
 pub struct Names {
     counts: BTreeMap<String, usize>,
@@ -45,15 +57,20 @@ impl Model for Names {
     ghost invariant = { λ n. IsPositive (names_of n.counts.entries) };
 }
 
+/// The reason why a name was not registered.
 #[derive(Clone, Copy, PartialEq, Eq)]
 pub enum RegisterError {
+    /// An overflow: the name is registered `usize::MAX` times.
     TooOften,
+    /// An allocation failure.
     OutOfMemory(AllocError),
 }
 
 impl<T: Drop> From<AllocFailed<T>> for RegisterError {
     ghost use Rattle.std.specs.Prelude.{◌≡◌, alloc_error};
-    ghost use Rattle.wat_lexer_parser.specs.declared.parser.names.RegisterError.TheVariants.{OutOfMemory};
+    ghost use Rattle.wat_lexer_parser.specs.declared.parser.names.RegisterError.TheVariants.{
+      OutOfMemory,
+    };
 
     ghost from_gives = { λ _ e. e ≡ OutOfMemory alloc_error };
 
@@ -64,7 +81,9 @@ impl<T: Drop> From<AllocFailed<T>> for RegisterError {
 
 impl From<AllocError> for RegisterError {
     ghost use Rattle.std.specs.Prelude.{◌≡◌};
-    ghost use Rattle.wat_lexer_parser.specs.declared.parser.names.RegisterError.TheVariants.{OutOfMemory};
+    ghost use Rattle.wat_lexer_parser.specs.declared.parser.names.RegisterError.TheVariants.{
+      OutOfMemory,
+    };
 
     ghost from_gives = { λ refused e. e ≡ OutOfMemory refused };
 
@@ -73,7 +92,7 @@ impl From<AllocError> for RegisterError {
     }
 }
 
-/// Sets the count of a name that is there.
+/// Sets the number of registrations of a name, which must be registered.
 fn set_count(counts: &mut BTreeMap<String, usize>, name: &str, count: usize)
     requires { IsSome (get_by_text counts.old name.now) }
     ensures { UpdatesBy string_cmp (λ k. slice_cmp nat_cmp name.now (string_bytes k)) counts.old
@@ -84,7 +103,7 @@ fn set_count(counts: &mut BTreeMap<String, usize>, name: &str, count: usize)
     }
 }
 
-/// Whether the name of an annotation is this one.
+/// Returns `true` if an annotation has the given name.
 fn names_it(text: &str, token: Token, name: &str) -> bool
     requires token { IsTokenOf text.now token }
     requires kind { token.kind ≡ Annotation }
@@ -93,7 +112,7 @@ fn names_it(text: &str, token: Token, name: &str) -> bool
     token.has_name(text, name)
 }
 
-/// Whether the name of an annotation is one of the keys.
+/// Returns `true` if an annotation's name is one of the keys.
 fn has_key(counts: &BTreeMap<String, usize>, text: &str, token: Token) -> bool
     requires token { IsTokenOf text.now token }
     requires kind { token.kind ≡ Annotation }
@@ -103,6 +122,7 @@ fn has_key(counts: &BTreeMap<String, usize>, text: &str, token: Token) -> bool
 }
 
 impl Names {
+    /// Creates an empty set of names.
     pub fn new(alloc: Global) -> Names
         ensures { result ≡ map.empty }
     {
@@ -111,13 +131,14 @@ impl Names {
         }
     }
 
-    /// No name has a count of 0. A lemma: the call does nothing.
+    /// Lemma (no effect): no name has a count of 0.
     pub fn lemma_positive(&self)
         ensures { IsPositive self.now }
     {
         let _names = self.counts.len();
     }
 
+    /// Returns the number of registrations of a name, 0 if it is not registered.
     pub fn count(&self, name: &str) -> usize
         ensures { result ≡ count self.now name.now }
     {
@@ -127,21 +148,22 @@ impl Names {
         }
     }
 
-    /// Whether no name is registered.
+    /// Returns `true` if no names are registered.
     pub fn are_none(&self) -> bool
         ensures { IsTrue result → self.now ≡ map.empty }
     {
         self.counts.is_empty()
     }
 
+    /// Returns `true` if a name is registered.
     pub fn is_registered(&self, name: &str) -> bool
         ensures { result ≡ is_registered self.now name.now }
     {
         self.count(name) > 0
     }
 
-    /// Whether the name of an annotation is registered, which is compared with each that is. It takes
-    /// no memory.
+    /// Returns `true` if an annotation's name is registered. Compares it with each registered name,
+    /// and does not allocate.
     pub fn has_name_of(&self, text: &str, token: Token) -> bool
         requires token { IsTokenOf text.now token }
         requires kind { token.kind ≡ Annotation }
@@ -151,7 +173,7 @@ impl Names {
         has_key(&self.counts, text, token)
     }
 
-    /// Sets the count of a name that is registered.
+    /// Sets the number of registrations of a registered name. `times` must not be 0.
     pub fn set(&mut self, name: &str, times: usize)
         requires there { 0 < count self.old name.now }
         requires some { 0 < times }
@@ -160,13 +182,16 @@ impl Names {
         set_count(&mut self.counts, name, times);
     }
 
+    /// Adds a registration of a name. Allocates only if the name is not registered yet. Has no
+    /// effect if it fails.
     pub fn register(&mut self, alloc: Global, name: &str) -> Result<(), RegisterError>
         ensures ok { OnOk result (self.new ≡ map.insert self.old name.now (count self.old name.now
             + 1)) }
         ensures err { OnErr result (self.new ≡ self.old) }
         ensures there { OnOk result (0 < count self.new name.now) }
         ensures undo { OnOk result (fewer self.new name.now ≡ self.old) }
-        ensures often { IsErrOf result RegisterError.TooOften ↔ count self.old name.now ≡ usize.MAX }
+        ensures often { IsErrOf result RegisterError.TooOften
+            ↔ count self.old name.now ≡ usize.MAX }
         ensures free { IsErrOf result (RegisterError.OutOfMemory alloc_error) →
             is_registered self.old name.now ≡ false }
     {
@@ -183,6 +208,7 @@ impl Names {
         Ok(())
     }
 
+    /// Removes a registration of a name, which must be registered.
     pub fn unregister(&mut self, name: &str)
         requires { 0 < count self.old name.now }
         ensures { self.new ≡ fewer self.old name.now }

@@ -1,4 +1,4 @@
-//! What can be read.
+//! The trait of types that a parser can parse.
 ghost use Rattle.std.specs.Prelude.{◌≤◌};
 ghost use Rattle.wat_lexer_parser.specs.readings.Readings.{Reading};
 ghost use Rattle.wat_lexer_parser.specs.readings.Reads.{IsKept, Reads};
@@ -6,25 +6,25 @@ ghost use Rattle.wat_lexer_parser.specs.readings.Reads.{IsKept, Reads};
 use crate::parser::Parser;
 use wat_lex::error::Error;
 
-/// What calls of a parser answer.
+/// The result of a parser's functions.
 pub type Result<T, E = Error> = std::result::Result<T, E>;
 
-/// A type that can be read from a parser.
+/// A type that can be parsed.
 ///
-/// A type of one's own says what its values are to callers, and what it reads, in the language of
-/// readings; its `parse` calls those of its parts. What can be proved of the reading of a type
-/// that is a parameter is what is here.
+/// An implementation defines the value of the type that callers see, and its `meaning`: what it
+/// reads, in the language of readings. Its `parse` calls those of its parts. The clauses below are
+/// all that can be proved about parsing a type parameter.
 pub trait Parse<'a>: Sized + Drop {
-    // What callers see of a value.
+    // The type of the value that callers see.
     ghost Value: { Type 0 };
 
     ghost value: { Self → Value };
 
-    // What the type reads from a parser's place on, or how it refuses, and how far it goes.
+    // The value or error that parsing yields in a parser's state, and the number of raw tokens
+    // consumed.
     ghost meaning: { Reading Value };
 
-    /// Reads a value. Buffer, names and depth stay as they were, and the place never goes back,
-    /// also where it is refused.
+    /// Parses a value. Only the position changes, never backwards, even if an error is returned.
     fn parse(parser: &mut Parser<'a>) -> Result<Self, Error>
         ensures kept { IsKept parser.old parser.new }
         ensures on { parser.old.place ≤ parser.new.place }

@@ -1,4 +1,4 @@
-//! What parsers read: a text with its table, or without.
+//! Source texts of parsers, with or without a token table.
 ghost use Rattle.std.specs.Prelude.{◌≡◌, ◌<◌, ◌^◌, ◌+◌, length, IfOk, IfSome, IsTrue, false};
 ghost use Rattle.std.specs.Str.{IsUtf8};
 ghost use Rattle.wat_lex.specs.errors.Errors.{IsUnlessMemory};
@@ -20,23 +20,26 @@ use wat_lex::error::Error;
 use wat_lex::lexer::Token;
 use wat_lex::token::Span;
 
-/// Where raw tokens come from.
+/// A source of raw tokens.
 #[derive(Drop)]
 enum Tokens<'a> {
-    /// A table, which has all of them.
+    /// A table of all raw tokens.
     Table(TableRef<'a>),
-    /// The text, which is lexed at each look.
+    /// The text, lexed again by each peek.
     Text(TextRef<'a>),
 }
 
-/// A text as parsers read it. What they show is the same from both.
+/// A borrowed source text of a parser. Both kinds of sources yield the same tokens.
 #[derive(Drop)]
 pub struct SourceRef<'a> {
     tokens: Tokens<'a>,
 }
 
 impl<'a> Model for SourceRef<'a> {
-    ghost use Rattle.wat_lexer_parser.specs.declared.parser.source_ref.Tokens.TheVariants.{Table, Text};
+    ghost use Rattle.wat_lexer_parser.specs.declared.parser.source_ref.Tokens.TheVariants.{
+      Table,
+      Text,
+    };
     ghost use Rattle.wat_lexer_parser.specs.inside.Codes.{source_code};
     ghost use Rattle.wat_lexer_parser.specs.places.Source.{Source};
 
@@ -64,7 +67,7 @@ impl<'a> SourceRef<'a> {
         }
     }
 
-    /// The tokens are those of the text, and so many at most. A lemma: the call does nothing.
+    /// Lemma (no effect): the view's tokens are the raw tokens of the text, fewer than 2^63.
     pub fn lemma_read(&self)
         ensures read { IsRead self.now }
         ensures small { length self.now.tokens < 2 ^ 63 }
@@ -75,6 +78,7 @@ impl<'a> SourceRef<'a> {
         }
     }
 
+    /// Returns the flag set by `track_instr_spans` of the buffer.
     pub fn tracks(&self) -> bool
         ensures { result ≡ self.now.track }
     {
@@ -104,7 +108,7 @@ impl<'a> SourceRef<'a> {
         }
     }
 
-    /// What is shown at a place, with the place after it. It takes no memory.
+    /// Returns the token visible at a position, and the position after it. Does not allocate.
     pub fn look(
         &self,
         place: usize,
@@ -122,8 +126,9 @@ impl<'a> SourceRef<'a> {
         }
     }
 
-    /// The first token at a place that is no white space, with its own place, and what it means. A
-    /// table tells of none that is not shown.
+    /// Returns the first raw token at or after a position that is not whitespace, its position, and
+    /// its classification. With a table, comments are skipped too, and the classification is
+    /// `Sight::Nothing` unless the token is visible under every set of names.
     #[inline(always)]
     pub fn first_at(&self, place: usize, byte: usize) -> (Token, usize, Sight)
         requires { IsPlace self.now place byte }
@@ -138,8 +143,10 @@ impl<'a> SourceRef<'a> {
         }
     }
 
-    /// Keeps what is shown at a place, where a parenthesis may be that `@` comes directly after.
-    // It writes where a parser keeps it: what a call hands over in memory would be read as one just after it was written in parts.
+    /// Caches the token visible at a position. `is_marked` means that `(` and `@` are at the
+    /// position.
+    // Writes directly to the parser's cache: a result returned in memory would be loaded as a whole
+    // just after it was stored in parts.
     #[inline(never)]
     pub fn keep_past(
         &self,
@@ -163,7 +170,8 @@ impl<'a> SourceRef<'a> {
         }
     }
 
-    /// Keeps what a look at a place finds there.
+    /// Caches the token visible at a position, found by `look`. Clears the cache at the end of the
+    /// text or at an error.
     #[inline(never)]
     pub fn keep_look(&self, place: usize, byte: usize, names: &Names, kept: &mut Kept)
         requires { IsPlace self.now place byte }
@@ -176,7 +184,8 @@ impl<'a> SourceRef<'a> {
         }
     }
 
-    /// The comment at a place, with the place after it. It takes no memory.
+    /// Returns the comment at a position, after optional whitespace, and the position after it.
+    /// Returns `None` if another token or the end of the text comes first. Does not allocate.
     pub fn comment_at(&self, place: usize, byte: usize) -> Result<Option<(Token, usize)>, Fault>
         requires { IsPlace self.now place byte }
         ensures value { result ≡ comment_at self.now place }
@@ -189,7 +198,7 @@ impl<'a> SourceRef<'a> {
         }
     }
 
-    /// Whether the text has a token that counts, or a fault.
+    /// Returns `true` if the text has a significant token or a lexical error.
     pub fn is_meaningful(&self) -> bool
         ensures { result ≡ is_meaningful self.now }
     {
@@ -199,7 +208,8 @@ impl<'a> SourceRef<'a> {
         }
     }
 
-    /// The error of a fault that is shown.
+    /// Converts an error that a peek found to an [`Error`]. A group without end is reported without
+    /// its source line.
     #[cold]
     #[tactic(auto, unfolding(crate::specs::parser::State::report_of))]
     pub fn error_of(&self, fault: Fault) -> Error
@@ -215,7 +225,7 @@ impl<'a> SourceRef<'a> {
         }
     }
 
-    /// The error of a message at a byte of the text.
+    /// Creates an error with this message at an offset of the text.
     #[cold]
     pub fn error_at(&self, span: Span, message: &str) -> Error
         ensures { IsUnlessMemory result (message_at self.now span message.now) }

@@ -1,4 +1,4 @@
-//! What the tokens in front mean for a look, whichever source they come from.
+//! Effects of raw tokens on a peek, for both kinds of sources.
 ghost use Rattle.std.specs.Prelude.{◌≡◌, ◌<◌, ◌^◌, IsTrue, Some, Ok};
 ghost use Rattle.wat_lex.specs.tokens.Blanks.{is_comment, is_space};
 ghost use Rattle.wat_lex.specs.tokens.ReadableTokens.{IsTokenOf};
@@ -12,7 +12,7 @@ use crate::parser::names::Names;
 use crate::parser::table::is_quoted;
 use wat_lex::lexer::{LexError, LexFault, Token, TokenKind};
 
-/// The fault that is shown where the text has one.
+/// Returns the error that a peek reports for a lexical error.
 pub fn lexical(fault: LexFault) -> Fault
     ensures { result ≡ record { offset = fault.offset; kind = Lex fault.error } }
 {
@@ -34,7 +34,7 @@ pub fn is_comment(kind: TokenKind) -> bool
     matches!(kind, TokenKind::LineComment | TokenKind::BlockComment)
 }
 
-/// What an annotation of this name means for the parenthesis before it.
+/// Returns the effect of a `(` that is followed by an annotation of the given name.
 pub fn step_by(name: &str, token: Token, names: &Names) -> Step
     ensures { result ≡ step_named names.now token (Some (Ok name.now)) }
 {
@@ -45,8 +45,9 @@ pub fn step_by(name: &str, token: Token, names: &Names) -> Step
     }
 }
 
-/// What an annotation means whose name is at fault.
-pub fn step_refused(error: LexError, token: Token) -> Step
+/// Returns the effect of a `(` that is followed by an annotation with an invalid name: an error at
+/// the annotation.
+pub fn step_of_invalid_name(error: LexError, token: Token) -> Step
     ensures { result ≡ Refuse (record { offset = token.offset; kind = Lex error }) }
 {
     Step::Refuse(Fault {
@@ -55,7 +56,8 @@ pub fn step_refused(error: LexError, token: Token) -> Step
     })
 }
 
-/// Whether the annotation is skipped since no name is registered and it has one. False says nothing.
+/// Returns `true` only if an annotation is skipped because its name is valid and no names are
+/// registered. `false` does not imply the opposite.
 pub fn is_unregistered(text: &str, token: Token, names: &Names) -> bool
     requires token { IsTokenOf text.now token }
     requires kind { token.kind ≡ Annotation }
@@ -67,15 +69,15 @@ pub fn is_unregistered(text: &str, token: Token, names: &Names) -> bool
     if !names.are_none() {
         return false;
     }
-    // A name without quotes is not read for that.
+    // An unquoted name is valid if it is not empty; it need not be decoded.
     if is_quoted(text, token) {
         return token.name_fault(text).is_none();
     }
     token.len > 1
 }
 
-/// What an annotation means for the parenthesis before it, by its name. It takes no memory, as a
-/// name with escapes is compared with each that is registered while it is read.
+/// Returns the effect of a `(` that is followed by an annotation, by its name. Does not allocate: a
+/// name with escapes is compared with each registered name while it is decoded.
 pub fn step_annotation(text: &str, token: Token, names: &Names) -> Step
     requires token { IsTokenOf text.now token }
     requires kind { token.kind ≡ Annotation }
@@ -86,7 +88,7 @@ pub fn step_annotation(text: &str, token: Token, names: &Names) -> Step
         return Step::Skip;
     }
     match token.name_fault(text) {
-        Some(error) => step_refused(error, token),
+        Some(error) => step_of_invalid_name(error, token),
         None => {
             if names.has_name_of(text, token) {
                 Step::Take
@@ -97,9 +99,9 @@ pub fn step_annotation(text: &str, token: Token, names: &Names) -> Step
     }
 }
 
-/// Whether the group of an annotation is passed over. It takes no memory.
+/// Returns `true` if the group of an annotation is skipped. Does not allocate.
 #[inline(always)]
-pub fn is_passed_over(text: &str, token: Token, names: &Names) -> bool
+pub fn is_skipped_annotation(text: &str, token: Token, names: &Names) -> bool
     requires token { IsTokenOf text.now token }
     requires kind { token.kind ≡ Annotation }
     requires short { token.offset < 2 ^ 32 }

@@ -1,12 +1,25 @@
-//! The table of a buffer: the raw tokens of its text, and what a look has to know of annotations.
+//! The token table of a buffer: the raw tokens of its text, and data about annotations for peeks.
 ghost use Rattle.std.specs.Prelude.{◌≡◌, ◌<◌, ◌≤◌, ◌+◌, ◌-◌, ◌*◌, ◌^◌, ◌++◌, ◌∷◌, [], length, map};
 ghost use Rattle.std.specs.Prelude.{IfOk, IfSome, OnOk, None, false, slice_get, get_or};
 ghost use Rattle.wat_lex.specs.tokens.ReadableTokens.{IsTokenOf, word_of};
 ghost use Rattle.wat_lex.specs.tokens.Tiling.{MaximalTiling};
 ghost use Rattle.wat_lex.specs.declared.lexer.kinds.TokenKind.TheVariants.{Annotation};
-ghost use Rattle.wat_lexer_parser.specs.inside.Table.{annotation_at, is_annotation, is_head, is_quoted, Found};
-ghost use Rattle.wat_lexer_parser.specs.inside.Table.{Noted, NotedName};
-ghost use Rattle.wat_lexer_parser.specs.inside.Table.{closed_at, Counted, FirstFrom, OneMoreName, Opening, Paired};
+ghost use Rattle.wat_lexer_parser.specs.inside.Table.{
+  annotation_at,
+  is_annotation,
+  is_head,
+  is_quoted,
+  Found,
+};
+ghost use Rattle.wat_lexer_parser.specs.inside.Table.{HasAnnotations, NotedName};
+ghost use Rattle.wat_lexer_parser.specs.inside.Table.{
+  closed_at,
+  Counted,
+  FirstFrom,
+  OneMoreName,
+  Opening,
+  HasGroupEnds,
+};
 ghost use Rattle.wat_lexer_parser.specs.inside.Table.{Sorted, Started, StartedUpTo};
 ghost use Rattle.wat_lexer_parser.specs.inside.TableNames.{name_view};
 
@@ -14,42 +27,45 @@ use std::alloc::{AllocError, Global};
 use std::borrow::CowStr;
 use wat_lex::lexer::{LexError, LexFault, Lexer, Token, TokenKind};
 
-/// How many tokens have one entry among the starts.
+/// Number of tokens per entry of `starts`.
 const BLOCK: usize = 64;
 
-/// How many bytes a token is likely to have.
-const LIKELY: usize = 2;
+/// Estimated length of a token in bytes.
+const BYTES_PER_TOKEN: usize = 2;
 
-/// For how many tokens room is asked at first. More of it comes as tokens do, twice as much each
-/// time, so that a long text of few tokens takes little. It is a little less than a power of two, so
-/// that room of less than 32 MiB, whose pages glibc keeps for the next table, holds two million of
-/// them.
-const FIRST_ROOM: usize = 65_472;
+/// Maximum initial capacity, in tokens. The capacity doubles as tokens are added, so that a long
+/// text of few tokens uses little memory. The value is slightly below 2^16: after 5 doublings, the
+/// capacity of 2 million tokens occupies less than 32 MiB, and glibc keeps freed blocks below that
+/// size for the next table.
+const INITIAL_CAPACITY: usize = 65_472;
 
-/// The raw tokens of a text up to its end or its first fault, and the annotations among them that
-/// come directly after a parenthesis.
+/// The raw tokens of a text up to its end or its first lexical error, and data about the
+/// annotations that directly follow a `(`.
 #[derive(Drop)]
 pub struct Table {
+    /// The raw tokens.
     pub tokens: Vec<Token>,
+    /// The lexical error at which the tokens end, if there is one.
     pub fault: Option<LexFault>,
-    /// The places of these parentheses.
+    /// Position of each `(` that is directly before an annotation, in ascending order.
     pub opens: Vec<usize>,
-    /// The names of these annotations, or what is wrong with them, where they are no part of the
-    /// text.
+    /// For each entry of `opens`, the decoded name of the annotation, or its error; `None` if the
+    /// name is a slice of the text.
     pub names: Vec<Option<Box<Result<String, LexError>>>>,
-    /// For each block of tokens, how many of these parentheses come before it.
+    /// For each block of `BLOCK` tokens, the number of entries of `opens` before the block.
     pub starts: Vec<usize>,
-    /// Where the groups of these annotations are closed.
+    /// For each entry of `opens`, the position of the `)` that closes its group, if there is one.
     pub closes: Vec<Option<usize>>,
 }
 
+/// Returns `true` if the kind is `TokenKind::Annotation`.
 pub fn is_annotation(kind: TokenKind) -> bool
     ensures { result ≡ is_annotation kind }
 {
     matches!(kind, TokenKind::Annotation)
 }
 
-/// Whether a token is an annotation, and the last one before it a parenthesis that opens.
+/// Returns `true` if `token` is an annotation and the last token before it is `(`.
 fn is_head(before: &[Token], token: Token) -> bool
     ensures { result ≡ is_head (slice_get before.now (length before.now - 1)) token }
 {
@@ -59,7 +75,7 @@ fn is_head(before: &[Token], token: Token) -> bool
     }
 }
 
-/// Whether the byte after the token's first is a quote.
+/// Returns `true` if the byte after the token's first is `"`.
 pub fn is_quoted(text: &str, token: Token) -> bool
     requires { token.offset < 2 ^ 32 }
     ensures { result ≡ is_quoted text.now token }
@@ -70,8 +86,8 @@ pub fn is_quoted(text: &str, token: Token) -> bool
     }
 }
 
-/// The name of an annotation, or what is wrong with it, where it is no part of the text. One that is
-/// part of it takes no memory, now and when it is read again.
+/// Returns the entry of `names` for an annotation. A name that is a slice of the text is not
+/// stored, and reading it again does not allocate.
 fn noted_name(
     alloc: Global,
     text: &str,
@@ -83,7 +99,7 @@ fn noted_name(
     ensures { IfOk result (λ name. NotedName (word_of text.now token.now) (name_view name)) }
 {
     wat_lex::laws::tokens();
-    // A name without quotes is known by one byte; a string may have escapes.
+    // The byte after `@` tells whether the name is quoted. Only a quoted name may have escapes.
     if !is_quoted(text, *token) {
         return Ok(None);
     }
@@ -95,16 +111,16 @@ fn noted_name(
     Ok(Some(Box::new(alloc, name)?))
 }
 
-/// For how many tokens of a text room is asked at first.
-fn first_room(text: &str) -> usize
+/// Returns the initial capacity for a text, in tokens.
+fn initial_capacity(text: &str) -> usize
     ensures likely { 2 * result ≤ length text.now }
     ensures most { result ≤ 65472 }
 {
-    FIRST_ROOM.min(text.len() / LIKELY)
+    INITIAL_CAPACITY.min(text.len() / BYTES_PER_TOKEN)
 }
 
 impl Table {
-    /// The table of no tokens, with room for those of a text that are asked for at first.
+    /// Creates a table without tokens, with the initial capacity for a text.
     fn new(alloc: Global, text: &str) -> Result<Table, AllocError>
         ensures tokens { IfOk result (λ t. t.tokens.items ≡ []) }
         ensures fault { IfOk result (λ t. t.fault ≡ None) }
@@ -112,7 +128,7 @@ impl Table {
         ensures names { IfOk result (λ t. map name_view t.names.items ≡ []) }
     {
         Ok(Table {
-            tokens: Vec::with_capacity(alloc, first_room(text))?,
+            tokens: Vec::with_capacity(alloc, initial_capacity(text))?,
             fault: None,
             opens: Vec::new(alloc),
             names: Vec::new(alloc),
@@ -121,7 +137,7 @@ impl Table {
         })
     }
 
-    /// Notes that the last two tokens are a parenthesis and an annotation.
+    /// Records that the last 2 tokens are a `(` and an annotation.
     fn note(&mut self, alloc: Global, text: &str, token: &Token) -> Result<(), AllocError>
         requires token { IsTokenOf text.now token.now }
         requires kind { token.now.kind ≡ Annotation }
@@ -142,16 +158,16 @@ impl Table {
         Ok(())
     }
 
-    /// Adds a token, and notes it where it is an annotation directly after a parenthesis.
+    /// Adds a token, and records it if it is an annotation directly after `(`.
     fn add(&mut self, alloc: Global, text: &str, token: Token) -> Result<(), AllocError>
         requires token { IsTokenOf text.now token }
         requires short { token.offset + token.len < 2 ^ 32 }
-        requires noted { Noted text.now self.old.tokens.items self.old.opens.items
+        requires noted { HasAnnotations text.now self.old.tokens.items self.old.opens.items
             (map name_view self.old.names.items) }
         ensures tokens { OnOk result
             (self.new.tokens.items ≡ self.old.tokens.items ++ token ∷ []) }
         ensures noted { OnOk result (
-            Noted text.now self.new.tokens.items self.new.opens.items
+            HasAnnotations text.now self.new.tokens.items self.new.opens.items
             (map name_view self.new.names.items)) }
         ensures fault { self.new.fault ≡ self.old.fault }
     {
@@ -163,9 +179,9 @@ impl Table {
         Ok(())
     }
 
-    /// Adds an annotation, and notes it where it comes directly after a parenthesis.
-    // It stays a call, so that the loop over all tokens is small, and it is passed numbers, so that no
-    // token of that loop has to be in memory.
+    /// Adds an annotation, and records it if it directly follows a `(`.
+    // `inline(never)` keeps the loop over all tokens small. Offset and length are separate
+    // arguments, so that the loop need not store its token in memory.
     #[inline(never)]
     fn add_annotation(
         &mut self,
@@ -176,12 +192,12 @@ impl Table {
     ) -> Result<(), AllocError>
         requires token { IsTokenOf text.now (annotation_at offset len) }
         requires short { offset + len < 2 ^ 32 }
-        requires noted { Noted text.now self.old.tokens.items self.old.opens.items
+        requires noted { HasAnnotations text.now self.old.tokens.items self.old.opens.items
             (map name_view self.old.names.items) }
         ensures tokens { OnOk result
             (self.new.tokens.items ≡ self.old.tokens.items ++ annotation_at offset len ∷ []) }
         ensures noted { OnOk result (
-            Noted text.now self.new.tokens.items self.new.opens.items
+            HasAnnotations text.now self.new.tokens.items self.new.opens.items
             (map name_view self.new.names.items)) }
         ensures fault { self.new.fault ≡ self.old.fault }
     {
@@ -199,7 +215,7 @@ impl Table {
     }
 }
 
-/// Adds the starts up to that of the block of a place, before each of which so many places lie.
+/// Extends `starts` up to the block that contains `place`, with `before` for each new block.
 fn start_blocks(starts: &mut Vec<usize>, before: usize, place: usize) -> Result<(), AllocError>
     ensures { OnOk result (StartedUpTo starts.old.items starts.new.items before place) }
 {
@@ -209,7 +225,7 @@ fn start_blocks(starts: &mut Vec<usize>, before: usize, place: usize) -> Result<
     Ok(())
 }
 
-/// For each block of tokens up to that of the last place, how many of the places lie before it.
+/// Returns the number of entries of `opens` before each block, up to the block of the last entry.
 fn starts(alloc: Global, opens: &[usize]) -> Result<Vec<usize>, AllocError>
     ensures { IfOk result (λ starts. Started opens.now starts.items) }
 {
@@ -220,7 +236,7 @@ fn starts(alloc: Global, opens: &[usize]) -> Result<Vec<usize>, AllocError>
     Ok(starts)
 }
 
-/// How many of the places are before this one.
+/// Returns the number of entries of `opens` less than `place`.
 fn count_before(opens: &[usize], starts: &[usize], place: usize) -> usize
     requires sorted { Sorted opens.now }
     requires started { Started opens.now starts.now }
@@ -236,7 +252,7 @@ fn count_before(opens: &[usize], starts: &[usize], place: usize) -> usize
     i
 }
 
-/// The index of a place among the places of parentheses.
+/// Returns the index of `place` in `opens`, or `None` if it does not occur.
 pub fn find(opens: &[usize], starts: &[usize], place: usize) -> Option<usize>
     requires sorted { Sorted opens.now }
     requires started { Started opens.now starts.now }
@@ -249,8 +265,8 @@ pub fn find(opens: &[usize], starts: &[usize], place: usize) -> Option<usize>
     }
 }
 
-/// The index of a parenthesis among the places, where it is one of them. `passed` counts the places
-/// before it, and then those up to it.
+/// Returns the index of `paren` in `opens`, or `None` if it does not occur. `passed` must be the
+/// number of entries less than `paren`, and becomes the number of those up to `paren`.
 fn pass_open(opens: &[usize], passed: &mut usize, paren: usize) -> Option<usize>
     requires sorted { Sorted opens.now }
     requires passed { Counted opens.now passed.old paren }
@@ -267,7 +283,8 @@ fn pass_open(opens: &[usize], passed: &mut usize, paren: usize) -> Option<usize>
     }
 }
 
-/// The first place that was not passed, or the end where there is none.
+/// Returns the first entry of `opens` at or after `place`, or `end` if there is none. `passed` must
+/// be the number of entries less than `place`.
 fn next_open(opens: &[usize], passed: usize, place: usize, end: usize) -> usize
     requires sorted { Sorted opens.now }
     requires passed { Counted opens.now passed place }
@@ -282,8 +299,8 @@ fn next_open(opens: &[usize], passed: usize, place: usize, end: usize) -> usize
     }
 }
 
-/// Where the tokens go on to be read after a group that ends before a place: there, or at the first
-/// place that was not passed where that group stood in no other.
+/// Returns the position at which `closes` continues after a group that ends before `place`. After
+/// an outermost group this is the next entry of `opens`, or `end`. Otherwise it is `place`.
 fn after_close(
     opens: &[usize],
     passed: usize,
@@ -306,7 +323,8 @@ fn after_close(
     }
 }
 
-/// Notes that the group of a parenthesis, where it is one of the places, is closed at `close`.
+/// Records the closing position of a group, given its index in `opens`. Does nothing if it has
+/// none.
 fn note_close(closes: &mut Vec<Option<usize>>, group: Option<usize>, close: usize)
     requires { IfSome group (λ g. g < length closes.old.items) }
     ensures { closes.new.items ≡ closed_at closes.old.items group close }
@@ -317,8 +335,8 @@ fn note_close(closes: &mut Vec<Option<usize>>, group: Option<usize>, close: usiz
     }
 }
 
-/// Where the groups are closed that open at these places: one pass over the tokens in them, with a
-/// stack.
+/// Returns the closing position of each group that begins at an entry of `opens`. Scans the tokens
+/// of these groups once, with a stack of open parentheses.
 fn closes(
     alloc: Global,
     tokens: &[Token],
@@ -326,7 +344,7 @@ fn closes(
 ) -> Result<Vec<Option<usize>>, AllocError>
     requires opening { Opening tokens.now opens.now }
     requires sorted { Sorted opens.now }
-    ensures { IfOk result (λ closes. Paired tokens.now opens.now closes.items) }
+    ensures { IfOk result (λ closes. HasGroupEnds tokens.now opens.now closes.items) }
 {
     let mut closes: Vec<Option<usize>> = vec![in alloc; None; opens.len()]?;
     let mut opened: Vec<Option<usize>> = Vec::new(alloc);
@@ -351,10 +369,10 @@ fn closes(
     Ok(closes)
 }
 
-/// The raw tokens of a lexer's text, with its annotations noted.
+/// Lexes a text into a table. `starts` and `closes` remain empty.
 fn fill(alloc: Global, lexer: &Lexer<'_>) -> Result<Table, AllocError>
     ensures read { IfOk result (λ t. MaximalTiling lexer.now 0 t.tokens.items t.fault) }
-    ensures noted { IfOk result (λ t. Noted lexer.now.text t.tokens.items t.opens.items
+    ensures noted { IfOk result (λ t. HasAnnotations lexer.now.text t.tokens.items t.opens.items
         (map name_view t.names.items)) }
 {
     let text = lexer.input();
@@ -376,14 +394,14 @@ fn fill(alloc: Global, lexer: &Lexer<'_>) -> Result<Table, AllocError>
 }
 
 impl Table {
-    /// The table of a lexer's text. It is refused only when out of memory.
+    /// Builds the table of a lexer's text. Fails only if an allocation fails.
     pub fn of(alloc: Global, lexer: &Lexer<'_>) -> Result<Table, AllocError>
         ensures read { IfOk result (λ t. MaximalTiling lexer.now 0 t.tokens.items t.fault) }
-        ensures noted { IfOk result (λ t. Noted lexer.now.text t.tokens.items t.opens.items
+        ensures noted { IfOk result (λ t. HasAnnotations lexer.now.text t.tokens.items t.opens.items
             (map name_view t.names.items)) }
         ensures started { IfOk result (λ t. Started t.opens.items t.starts.items) }
         ensures paired { IfOk result (λ t.
-            Paired t.tokens.items t.opens.items t.closes.items) }
+            HasGroupEnds t.tokens.items t.opens.items t.closes.items) }
     {
         let mut table = fill(alloc, lexer)?;
         table.starts = starts(alloc, &table.opens)?;

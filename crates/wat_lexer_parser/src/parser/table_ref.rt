@@ -1,5 +1,19 @@
-//! A text and its table, as parsers read them.
-ghost use Rattle.std.specs.Prelude.{◌≡◌, ◌<◌, ◌≤◌, ◌^◌, ◌+◌, ◌-◌, false, length, drop, map, not, Some, Ok};
+//! Peeking into a source text with a token table.
+ghost use Rattle.std.specs.Prelude.{
+  ◌≡◌,
+  ◌<◌,
+  ◌≤◌,
+  ◌^◌,
+  ◌+◌,
+  ◌-◌,
+  false,
+  length,
+  drop,
+  map,
+  not,
+  Some,
+  Ok,
+};
 ghost use Rattle.std.specs.Prelude.{IsTrue};
 ghost use Rattle.std.specs.Prelude.{slice_get};
 ghost use Rattle.std.specs.List.{list_any};
@@ -21,14 +35,16 @@ ghost use Rattle.wat_lexer_parser.specs.parser.State.{message_at, report_of};
 ghost use Rattle.wat_lexer_parser.specs.places.Places.{offset_at};
 ghost use Rattle.wat_lexer_parser.specs.places.Places.{comment_at, past_space, is_meaningful};
 ghost use Rattle.wat_lexer_parser.specs.places.Source.{IsRead};
-ghost use Rattle.wat_lexer_parser.specs.shown.Shown.{ended, left_open};
+ghost use Rattle.wat_lexer_parser.specs.shown.Shown.{ended, unclosed_ending};
 ghost use Rattle.wat_lexer_parser.specs.shown.Showing.{placed, shown};
 ghost use Rattle.wat_lexer_parser.specs.inside.ShownIn.{name_at, step_kind};
 ghost use Rattle.wat_lexer_parser.specs.inside.ShownIn.{step_named, step_next, step_of};
 
 use crate::parser::fault::{Fault, FaultKind, Step};
 use crate::parser::names::Names;
-use crate::parser::steps::{is_comment, is_space, is_unregistered, lexical, step_by, step_refused};
+use crate::parser::steps::{
+    is_comment, is_space, is_unregistered, lexical, step_by, step_of_invalid_name,
+};
 use crate::parser::table::{Table, find, is_annotation};
 use std::alloc::Global;
 use std::marker::Model;
@@ -36,9 +52,9 @@ use wat_lex::error::Error;
 use wat_lex::lexer::{LexError, LexFault, Settings, Token, TokenKind};
 use wat_lex::token::Span;
 
-/// The text and the table of a buffer, lent to a parser.
+/// A buffer's text and token table, borrowed by a parser.
 ///
-/// It holds references at one lifetime, that of the loan, and no buffer: so a buffer that is a
+/// It holds references of a single lifetime to the parts, not to the buffer, so that a buffer in a
 /// local variable can be lent to its parsers.
 #[derive(Drop)]
 pub struct TableRef<'a> {
@@ -113,7 +129,7 @@ impl<'a> TableRef<'a> {
         }
     }
 
-    /// The tokens are those of the text, and so many at most. A lemma: the call does nothing.
+    /// Lemma (no effect): the view's tokens are the raw tokens of the text, fewer than 2^63.
     pub fn lemma_read(&self)
         ensures read { IsRead self.now }
         ensures small { length self.now.tokens < 2 ^ 63 }
@@ -121,6 +137,7 @@ impl<'a> TableRef<'a> {
         let _count = self.table.tokens.len();
     }
 
+    /// Returns the flag set by `track_instr_spans` of the buffer.
     pub fn tracks(&self) -> bool
         ensures { result ≡ self.now.track }
     {
@@ -140,26 +157,27 @@ impl<'a> TableRef<'a> {
     }
 }
 
-/// Whether a token is neither white space nor a comment.
-fn any_counts(tokens: &[Token]) -> bool
+/// Returns `true` if a token is significant: neither whitespace nor a comment.
+fn has_significant(tokens: &[Token]) -> bool
     ensures { result ≡ list_any (λ t. not (is_blank t.kind)) tokens.now }
 {
     tokens.iter().any(|token| !token.kind.is_blank())
 }
 
-/// What an annotation means whose name is noted.
-fn step_written(name: &Result<String, LexError>, token: Token, names: &Names) -> Step
+/// Returns the effect on a peek of a `(` before an annotation whose name, or its error, is in the
+/// table.
+fn step_of_stored_name(name: &Result<String, LexError>, token: Token, names: &Names) -> Step
     ensures { result ≡ step_named names.now token (Some (written_view name.now)) }
 {
     match name {
         Ok(name) => step_by(name.as_str(), token, names),
-        Err(error) => step_refused(*error, token),
+        Err(error) => step_of_invalid_name(*error, token),
     }
 }
 
-// A look, which takes no memory.
+// Peeks, which do not allocate.
 impl<'a> TableRef<'a> {
-    /// The raw token at a place.
+    /// Returns the raw token at a position.
     pub fn token_at(&self, place: usize) -> Option<Token>
         ensures value { result ≡ slice_get self.now.tokens place }
         ensures within { IfSome result (λ t. place < length self.now.tokens) }
@@ -168,7 +186,8 @@ impl<'a> TableRef<'a> {
         self.table.tokens.get(place).copied()
     }
 
-    /// The token at a place is one for the readers. A lemma: the call does nothing.
+    /// Lemma (no effect): the token at a position is a token of the text, so that its value can be
+    /// read.
     pub fn lemma_readable(&self, place: usize, token: Token)
         requires { slice_get self.now.tokens place ≡ Some token }
         ensures token { IsTokenOf self.now.setting.text token }
@@ -177,7 +196,8 @@ impl<'a> TableRef<'a> {
         let _count = self.table.tokens.len();
     }
 
-    /// What the name of an annotation means that is a part of the text.
+    /// Returns the effect on a peek of a `(` before an annotation whose name is a slice of the
+    /// text.
     fn step_in_text(&self, token: Token, names: &Names) -> Step
         requires token { IsTokenOf self.now.setting.text token }
         requires kind { token.kind ≡ Annotation }
@@ -186,13 +206,14 @@ impl<'a> TableRef<'a> {
     {
         match token.name(self.alloc, self.text()) {
             Ok(Ok(name)) => step_by(name.as_str(), token, names),
-            Ok(Err(error)) => step_refused(error, token),
+            Ok(Err(error)) => step_of_invalid_name(error, token),
             Err(_) => unreachable!(),
         }
     }
 
-    /// What the name of the annotation means whose parenthesis is at a place.
-    // It stays a call, so that a look at any other token is small.
+    /// Returns the effect on a peek of the `(` at a position, by the name of the annotation after
+    /// it.
+    // `inline(never)` keeps the common path of `look` small.
     #[inline(never)]
     fn step_named(&self, place: usize, names: &Names) -> Step
         requires within { place < 2 ^ 63 }
@@ -206,14 +227,15 @@ impl<'a> TableRef<'a> {
         self.lemma_readable(place + 1, token);
         match find(&self.table.opens, &self.table.starts, place) {
             Some(i) => match &self.table.names[i] {
-                Some(name) => step_written(name, token, names),
+                Some(name) => step_of_stored_name(name, token, names),
                 None => self.step_in_text(token, names),
             },
             None => Step::Take,
         }
     }
 
-    /// Where the group of the annotation is closed whose parenthesis is at a place.
+    /// Returns the position of the `)` that closes an annotation group, given the position of its
+    /// `(`.
     fn close_of(&self, place: usize) -> Option<usize>
         requires { (u : Token) × HeadsAnnotation self.now.tokens place u }
         ensures { Pair self.now.tokens place result }
@@ -224,7 +246,7 @@ impl<'a> TableRef<'a> {
         }
     }
 
-    /// What a parenthesis means by the token directly after it.
+    /// Returns the effect on a peek of the `(` at a position, by the token directly after it.
     fn step_open(&self, place: usize, token: Token, names: &Names) -> Step
         requires within { place < 2 ^ 63 }
         requires short { token.offset < 2 ^ 32 }
@@ -257,7 +279,7 @@ impl<'a> TableRef<'a> {
         }
     }
 
-    /// What the token at a place means for a look there.
+    /// Returns the effect on a peek of the token at a position.
     fn step(&self, place: usize, token: Token, names: &Names) -> Step
         requires within { place < 2 ^ 63 }
         requires short { token.offset < 2 ^ 32 }
@@ -272,6 +294,7 @@ impl<'a> TableRef<'a> {
         }
     }
 
+    /// Returns the result of a peek that reaches the end of the tokens.
     fn ending(&self) -> Result<Option<(Token, usize)>, Fault>
         ensures { result ≡ placed self.now.tokens (ended self.now.ending) }
     {
@@ -281,9 +304,11 @@ impl<'a> TableRef<'a> {
         }
     }
 
-    fn left_open(&self, token: Token) -> Result<Option<(Token, usize)>, Fault>
+    /// Returns the result of a peek that reaches the end of the tokens inside the group opened by
+    /// `token`.
+    fn unclosed_ending(&self, token: Token) -> Result<Option<(Token, usize)>, Fault>
         requires { token.offset < 2 ^ 32 }
-        ensures { result ≡ placed self.now.tokens (left_open self.now.ending token) }
+        ensures { result ≡ placed self.now.tokens (unclosed_ending self.now.ending token) }
     {
         match self.table.fault {
             None => Err(Fault {
@@ -294,7 +319,7 @@ impl<'a> TableRef<'a> {
         }
     }
 
-    /// What is shown at a place, with the place after it. It takes no memory.
+    /// Returns the token visible at a position, and the position after it. Does not allocate.
     pub fn look(&self, place: usize, names: &Names) -> Result<Option<(Token, usize)>, Fault>
         ensures value { result ≡ shown self.now place names.now }
         ensures on { IfOk result (λ found. IfSome found (λ v.
@@ -312,14 +337,14 @@ impl<'a> TableRef<'a> {
                 Step::Refuse(fault) => return Err(fault),
                 Step::Skip => match self.close_of(i) {
                     Some(close) => i = close + 1,
-                    None => return self.left_open(token),
+                    None => return self.unclosed_ending(token),
                 },
             }
         }
         self.ending()
     }
 
-    /// The first place from this one on at which neither white space nor a comment is.
+    /// Returns the first position at or after `place` without whitespace or a comment.
     fn past_blanks(&self, place: usize) -> usize
         ensures on { place ≤ result }
         ensures same { (names : NamesOf) →
@@ -332,8 +357,8 @@ impl<'a> TableRef<'a> {
         i
     }
 
-    /// Whether the token at a place is shown whatever names are registered, by its kind and the next
-    /// one's.
+    /// Returns `true` only if the token at a position is visible under every set of names, by its
+    /// kind and the next token's kind.
     fn is_plain(&self, place: usize, token: Token) -> bool
         requires within { place < 2 ^ 63 }
         requires token { slice_get self.now.tokens place ≡ Some token }
@@ -351,8 +376,8 @@ impl<'a> TableRef<'a> {
         }
     }
 
-    /// The token that is shown at a place, with the place after it, where it is the same whatever
-    /// names are registered.
+    /// Returns the token visible at a position, and the position after it, if it is visible under
+    /// every set of names.
     #[inline(always)]
     pub fn plain_at(&self, place: usize) -> Option<(Token, usize)>
         ensures { IfSome result (λ v. (names : NamesOf) → IsNext self.now place names v) }
@@ -367,7 +392,8 @@ impl<'a> TableRef<'a> {
         }
     }
 
-    /// The place after the whitespace token at a place, if one is there.
+    /// Returns the position after the whitespace token at a position, or the position itself if
+    /// there is none.
     #[tactic(auto, using(crate::proofs::places::Comments::spaces))]
     fn past_space(&self, place: usize) -> usize
         requires { place ≤ length self.now.tokens }
@@ -381,7 +407,8 @@ impl<'a> TableRef<'a> {
         }
     }
 
-    /// The comment at a place, with the place after it. It takes no memory.
+    /// Returns the comment at a position, after optional whitespace, and the position after it.
+    /// Returns `None` if another token or the end of the text comes first. Does not allocate.
     #[tactic(auto, using(crate::proofs::places::Comments::comments))]
     pub fn comment_at(&self, place: usize) -> Result<Option<(Token, usize)>, Fault>
         requires { place ≤ length self.now.tokens }
@@ -401,10 +428,10 @@ impl<'a> TableRef<'a> {
         }
     }
 
-    /// Whether the text has a token that counts, or a fault.
+    /// Returns `true` if the text has a significant token or a lexical error.
     pub fn is_meaningful(&self) -> bool
         ensures { result ≡ is_meaningful self.now }
     {
-        any_counts(&self.table.tokens) || self.table.fault.is_some()
+        has_significant(&self.table.tokens) || self.table.fault.is_some()
     }
 }

@@ -1,14 +1,47 @@
-//! A text without a table, as parsers read it.
-ghost use Rattle.std.specs.Prelude.{◌≡◌, ◌<◌, ◌≤◌, ◌^◌, ◌+◌, ℕ, length, drop, slice_index_or, None, Some, slice_get};
-ghost use Rattle.std.specs.Prelude.{IfOk, IfErr, IfSome, IfNone, IsTrue, Option, false, slice_index, ◌≢◌};
+//! Peeking into a source text that is lexed on demand, without a token table.
+ghost use Rattle.std.specs.Prelude.{
+  ◌≡◌,
+  ◌<◌,
+  ◌≤◌,
+  ◌^◌,
+  ◌+◌,
+  ℕ,
+  length,
+  drop,
+  slice_index_or,
+  None,
+  Some,
+  slice_get,
+};
+ghost use Rattle.std.specs.Prelude.{
+  IfOk,
+  IfErr,
+  IfSome,
+  IfNone,
+  IsTrue,
+  Option,
+  false,
+  slice_index,
+  ◌≢◌,
+};
 ghost use Rattle.std.specs.Str.{IsUtf8};
 ghost use Rattle.wat_lex.specs.grammar.Classes.{at_sign, close_paren};
 ghost use Rattle.wat_lex.specs.tokens.ReadableTokens.{IsTokenOf};
 ghost use Rattle.wat_lex.specs.declared.lexer.kinds.Token.{Token as Lexed};
 ghost use Rattle.wat_lexer_parser.specs.declared.parser.fault.FaultKind.TheVariants.{Unclosed};
 ghost use Rattle.wat_lexer_parser.specs.declared.parser.fault.Step.TheVariants.{Skip, Take};
-ghost use Rattle.wat_lexer_parser.specs.inside.Groups.{GroupEnds, IsCloseAt, IsPassedName, found_inside};
-ghost use Rattle.wat_lexer_parser.specs.inside.FirstTokens.{IsMarkedAt, IsSight, SightOf, not_passed};
+ghost use Rattle.wat_lexer_parser.specs.inside.Groups.{
+  GroupEnds,
+  IsCloseAt,
+  IsPassedName,
+  found_inside,
+};
+ghost use Rattle.wat_lexer_parser.specs.inside.FirstTokens.{
+  IsMarkedAt,
+  IsSight,
+  SightOf,
+  not_passed,
+};
 ghost use Rattle.wat_lexer_parser.specs.inside.Next.{IsAfter, IsNext, IsPlace};
 ghost use Rattle.wat_lexer_parser.specs.inside.Rows.{IsRow};
 ghost use Rattle.wat_lexer_parser.specs.declared.parser.text_ref.Row.{Row as FilledRow};
@@ -16,50 +49,51 @@ ghost use Rattle.wat_lexer_parser.specs.inside.ShownIn.{step_next, step_of};
 ghost use Rattle.wat_lexer_parser.specs.names.RegisteredNames.{Names as NamesOf};
 ghost use Rattle.wat_lexer_parser.specs.places.Places.{comment_at, is_meaningful, past_space};
 ghost use Rattle.wat_lexer_parser.specs.places.Source.{IsRead};
-ghost use Rattle.wat_lexer_parser.specs.shown.Shown.{left_open};
+ghost use Rattle.wat_lexer_parser.specs.shown.Shown.{unclosed_ending};
 ghost use Rattle.wat_lexer_parser.specs.shown.Showing.{shown};
 
 use crate::parser::fault::{Fault, FaultKind, Step};
 use crate::parser::names::Names;
-use crate::parser::steps::{is_comment, is_passed_over, is_space, lexical, step_annotation};
+use crate::parser::steps::{is_comment, is_skipped_annotation, is_space, lexical, step_annotation};
 use std::alloc::Global;
 use std::marker::Model;
 use wat_lex::lexer::{LexFault, Lexer, Settings, Token, TokenKind};
 
-/// A token that is shown whatever names are registered.
+/// A token that is visible under every set of registered annotation names.
 #[derive(Clone, Copy)]
 pub struct Row {
-    /// Where the token begins.
+    /// Byte offset of the token.
     pub offset: u32,
-    /// How many bytes the token has.
+    /// Length in bytes.
     pub len: u32,
-    /// The kind of the token.
+    /// Kind of the token.
     pub kind: TokenKind,
-    /// The byte of the places where it is shown: where the token before it ends.
+    /// End offset of the preceding visible token, or the offset at which the first row's peek
+    /// starts. A peek from any position between `from` and `offset` yields this token.
     pub from: u32,
 }
 
-/// What the first token at a place means for a look there.
+/// Classification of the first token at a position, for a peek.
 #[derive(Clone, Copy)]
 pub enum Sight {
-    /// It is shown, whatever names are registered, and whatever comes after it.
+    /// Visible under every set of names, regardless of the tokens after it.
     Plain,
-    /// It is a blank.
+    /// Whitespace or a comment: skipped.
     Blank,
-    /// It is a parenthesis that `@` comes directly after.
+    /// A `(` followed immediately by `@`: it may open the group of an annotation.
     Marked,
-    /// No token is known.
+    /// No classification; the peek needs `look`.
     Nothing,
 }
 
-/// What is beside the answer that no token is shown so.
+/// Placeholder in results without a token.
 pub const NO_TOKEN: Token = Token {
     offset: 0,
     len: 0,
     kind: TokenKind::Whitespace,
 };
 
-/// A text, lent to a parser that lexes it as it goes.
+/// A borrowed source text that a parser lexes on demand.
 #[derive(Drop)]
 pub struct TextRef<'a> {
     lexer: Lexer<'a>,
@@ -100,7 +134,7 @@ impl<'a> TextRef<'a> {
         }
     }
 
-    /// The tokens are those of the text, and so many at most. A lemma: the call does nothing.
+    /// Lemma (no effect): the view's tokens are the raw tokens of the text, fewer than 2^32.
     pub fn lemma_read(&self)
         ensures read { IsRead self.now }
         ensures utf8 { IsUtf8 self.now.setting.text }
@@ -110,6 +144,7 @@ impl<'a> TextRef<'a> {
         let _text = self.lexer.input();
     }
 
+    /// Returns the flag set by `track_instr_spans` of the buffer.
     pub fn tracks(&self) -> bool
         ensures { result ≡ self.now.track }
     {
@@ -128,7 +163,8 @@ impl<'a> TextRef<'a> {
         self.alloc
     }
 
-    /// The raw token at a place, None at the end of the text, or its fault.
+    /// Lexes the raw token at a position. Returns `None` at the end of the text, or an error if
+    /// there is a lexical error.
     #[inline(always)]
     fn token_at(&self, place: usize, byte: usize) -> Result<Option<Token>, LexFault>
         requires { IsPlace self.now place byte }
@@ -145,8 +181,9 @@ impl<'a> TextRef<'a> {
         self.lexer.scan(byte)
     }
 
-    /// What a parenthesis means that `@` comes directly after, by the token at the next place.
-    // It stays a call, so that a look at any other token is small.
+    /// Returns the effect on a peek of a `(` that is followed immediately by `@`, by the token
+    /// after it, at `place`.
+    // `inline(never)` keeps the common path of `look` small.
     #[inline(never)]
     fn step_marked(&self, place: usize, byte: usize, names: &Names) -> Step
         requires { IsPlace self.now place byte }
@@ -163,7 +200,7 @@ impl<'a> TextRef<'a> {
         }
     }
 
-    /// What the token at a place means for a look there.
+    /// Returns the effect of the token at a position on a peek.
     #[inline(always)]
     fn step(&self, place: usize, token: Token, names: &Names) -> Step
         requires next { IsPlace self.now (place + 1) (token.offset + token.len) }
@@ -185,8 +222,8 @@ impl<'a> TextRef<'a> {
         }
     }
 
-    /// What is shown at a place, with the place after it. It takes no memory. The group of an
-    /// annotation that is passed over is lexed each time.
+    /// Returns the token visible at a position, and the position after it. Does not allocate. The
+    /// group of an unregistered annotation is lexed again by every call.
     pub fn look(
         &self,
         place: usize,
@@ -224,7 +261,8 @@ impl<'a> TextRef<'a> {
         }
     }
 
-    /// The raw token at a place; None at the end of the text, and where a fault is.
+    /// Lexes the raw token at a position. Returns `None` at the end of the text or at a lexical
+    /// error.
     #[inline(always)]
     fn some_token_at(&self, place: usize, byte: usize) -> Option<Token>
         requires { IsPlace self.now place byte }
@@ -239,7 +277,7 @@ impl<'a> TextRef<'a> {
         self.lexer.token_at(byte)
     }
 
-    /// The place after the whitespace that is at a place, if any is, with its byte.
+    /// Skips whitespace at a position, if there is any.
     #[inline(always)]
     fn past_whitespace(&self, place: usize, byte: usize) -> (usize, usize)
         requires { IsPlace self.now place byte }
@@ -259,8 +297,8 @@ impl<'a> TextRef<'a> {
         (place + 1, end)
     }
 
-    /// The place after the word of idchars that is at a place in a group, if any is, with its byte. Its
-    /// kind is not looked for.
+    /// Skips a word of idchars inside a group without classifying it, if there is one at the
+    /// position.
     #[inline(always)]
     fn past_bare_word(&self, place: usize, byte: usize) -> (usize, usize)
         requires { IsPlace self.now place byte }
@@ -278,7 +316,7 @@ impl<'a> TextRef<'a> {
         (place + 1, end)
     }
 
-    /// Whether `)` is at a place.
+    /// Returns `true` if the byte at the position is `)`.
     #[inline(always)]
     fn is_close(&self, place: usize, byte: usize) -> bool
         requires { IsPlace self.now place byte }
@@ -289,7 +327,7 @@ impl<'a> TextRef<'a> {
         self.lexer.is_close(byte)
     }
 
-    /// What a token means for a look at it.
+    /// Classifies a token for a peek.
     #[inline(always)]
     fn sight(&self, token: Token) -> Sight
         requires { token.offset < 2 ^ 32 }
@@ -303,9 +341,9 @@ impl<'a> TextRef<'a> {
         }
     }
 
-    /// The token that is shown at a place, with the place after it, where it is the same whatever
-    /// names are registered, and whether it is.
-    // They are apart, as which case an option of a token is would be asked of its kind once more.
+    /// Returns the token visible at a position, the position after it, and `true`, if it is visible
+    /// under every set of names. Otherwise returns a placeholder and `false`.
+    // A separate flag: an `Option<Token>` would be tested by the token's kind once more.
     #[inline(always)]
     pub fn plain_at(&self, place: usize, byte: usize) -> (Token, usize, bool)
         requires { IsPlace self.now place byte }
@@ -331,7 +369,8 @@ impl<'a> TextRef<'a> {
         }
     }
 
-    /// The first token from a place on that is no white space, with its own place, and what it means.
+    /// Returns the first raw token at or after a position that is not whitespace, its position, and
+    /// its classification: `Sight::Nothing` at the end of the text or at a lexical error.
     #[inline(always)]
     pub fn first_at(&self, place: usize, byte: usize) -> (Token, usize, Sight)
         requires { IsPlace self.now place byte }
@@ -345,14 +384,14 @@ impl<'a> TextRef<'a> {
         }
     }
 
-    /// The place after the end of the group in which a place is, with its byte; None where the text
-    /// ends before, or has a fault before.
+    /// Skips to the position after the group that contains the given position. Returns `None` if
+    /// the text ends, or has a lexical error, first.
     #[inline(always)]
     fn past_close(&self, place: usize, byte: usize) -> Option<(usize, usize)>
         requires { IsPlace self.now place byte }
         ensures ends { IfSome result (λ v. GroupEnds self.now place (Ok (Some v))) }
         ensures none { IfNone result ((names : NamesOf) (paren : Lexed) →
-            found_inside self.now place 0 names paren ≡ left_open self.now.ending paren) }
+            found_inside self.now place 0 names paren ≡ unclosed_ending self.now.ending paren) }
         ensures on { IfSome result (λ v. place < v.0) }
     {
         let mut i = place;
@@ -388,8 +427,8 @@ impl<'a> TextRef<'a> {
         }
     }
 
-    /// Where the group ends in which a place is: the place after it, with its byte; None where the
-    /// text ends before, or the fault that comes before.
+    /// Skips to the position after the group that contains the given position. Returns `Ok(None)`
+    /// if the text ends first, or the lexical error that comes first.
     fn past_group(&self, place: usize, byte: usize) -> Result<Option<(usize, usize)>, LexFault>
         requires { IsPlace self.now place byte }
         ensures ends { GroupEnds self.now place result }
@@ -405,8 +444,8 @@ impl<'a> TextRef<'a> {
         }
     }
 
-    /// The place after the annotation at a place, with its byte, where its name is no string, and no
-    /// name is registered.
+    /// Skips an annotation token at a position if its name is unquoted and no names are registered;
+    /// the byte at the position must be `@`. Otherwise returns `None`.
     #[inline(always)]
     fn past_bare_name(&self, place: usize, byte: usize, names: &Names) -> Option<(usize, usize)>
         requires place { IsPlace self.now place byte }
@@ -426,8 +465,8 @@ impl<'a> TextRef<'a> {
         Some((place + 1, end))
     }
 
-    /// The place after the annotation at a place, with its byte, where its name is in quotes and has
-    /// no escape, and no name is registered.
+    /// Skips an annotation token at a position if its name is quoted without escapes and no names
+    /// are registered. Otherwise returns `None`.
     #[inline(always)]
     fn past_quoted_name(&self, place: usize, byte: usize, names: &Names) -> Option<(usize, usize)>
         requires { IsPlace self.now place byte }
@@ -444,8 +483,9 @@ impl<'a> TextRef<'a> {
         Some((place + 1, end))
     }
 
-    /// The place after the annotation at a place, with its byte, where its group is passed over.
-    // It stays a call, so that a move past most names is small.
+    /// Skips an annotation token at a position if its name is valid and not registered. Otherwise
+    /// returns `None`.
+    // `inline(never)` keeps the path for unquoted names small.
     #[inline(never)]
     fn past_read_name(&self, place: usize, byte: usize, names: &Names) -> Option<(usize, usize)>
         requires { IsPlace self.now place byte }
@@ -459,14 +499,15 @@ impl<'a> TextRef<'a> {
             return None;
         };
         match name.kind {
-            TokenKind::Annotation if is_passed_over(self.text(), name, names) => {
+            TokenKind::Annotation if is_skipped_annotation(self.text(), name, names) => {
                 Some((place + 1, name.offset + name.len as usize))
             }
             _ => None,
         }
     }
 
-    /// The same, by its first byte.
+    /// Skips an annotation token at a position if its name is valid and not registered; the byte at
+    /// the position must be `@`. Otherwise returns `None`.
     #[inline(always)]
     fn past_name(&self, place: usize, byte: usize, names: &Names) -> Option<(usize, usize)>
         requires place { IsPlace self.now place byte }
@@ -479,8 +520,8 @@ impl<'a> TextRef<'a> {
         }
     }
 
-    /// The place after the group that a parenthesis opens, with its byte, where it is the group of an
-    /// annotation that is passed over. The place is the one after the parenthesis.
+    /// Skips the rest of an unregistered annotation's group. `place` is the position after its `(`,
+    /// and the byte there must be `@`. Returns `None` if the name is registered, or at an error.
     #[inline(always)]
     fn past_annotation(&self, place: usize, byte: usize, names: &Names) -> Option<(usize, usize)>
         requires place { IsPlace self.now place byte }
@@ -496,8 +537,9 @@ impl<'a> TextRef<'a> {
         }
     }
 
-    /// The place after the group of an annotation that is passed over, with its byte, where one is at a
-    /// place; the place itself, where none is.
+    /// Skips the group of an unregistered annotation if `is_marked`, that is, if `(` and `@` are at
+    /// the position. Returns the position itself if not `is_marked`, or `None` if the group cannot
+    /// be skipped.
     #[inline(always)]
     fn past_mark(
         &self,
@@ -520,8 +562,10 @@ impl<'a> TextRef<'a> {
         self.past_annotation(place + 1, byte + 1, names)
     }
 
-    /// The token that is shown at a place, with the place after it, where blanks and groups that are
-    /// passed over are before it, or none. None: it is left to a look.
+    /// Returns the token visible at a position, and the position after it, skipping trivia and
+    /// groups of unregistered annotations. Returns `None` at a registered annotation, an error or
+    /// the end of the text, which are left to `look`. `is_marked` means that `(` and `@` are at the
+    /// position.
     pub fn next_past(
         &self,
         place: usize,
@@ -559,9 +603,9 @@ impl<'a> TextRef<'a> {
         }
     }
 
-    /// Writes a row for each of the tokens that are shown from a place on, whatever names are
-    /// registered, and answers how many: as many as there are rows, or those before what depends on
-    /// names, a fault, or the end.
+    /// Fills `rows` with the tokens from a position on that are visible under every set of names,
+    /// and returns their number. Stops before the first token whose visibility depends on names,
+    /// before an error, or at the end.
     #[inline(never)]
     pub fn fill(&self, place: usize, byte: usize, rows: &mut [Row]) -> usize
         requires { IsPlace self.now place byte }
@@ -594,7 +638,7 @@ impl<'a> TextRef<'a> {
         filled
     }
 
-    /// The place after the whitespace token at a place, if one is there, with its byte.
+    /// Skips the whitespace token at a position, if there is one.
     #[tactic(auto, using(crate::proofs::places::Comments::spaces))]
     fn past_space(&self, place: usize, byte: usize) -> (usize, usize)
         requires { IsPlace self.now place byte }
@@ -612,7 +656,8 @@ impl<'a> TextRef<'a> {
         }
     }
 
-    /// The comment at a place, with the place after it. It takes no memory.
+    /// Returns the comment at a position, after optional whitespace, and the position after it.
+    /// Returns `None` if another token or the end of the text comes first. Does not allocate.
     #[tactic(auto, using(crate::proofs::places::Comments::comments))]
     pub fn comment_at(&self, place: usize, byte: usize) -> Result<Option<(Token, usize)>, Fault>
         requires { IsPlace self.now place byte }
@@ -629,7 +674,8 @@ impl<'a> TextRef<'a> {
         }
     }
 
-    /// Whether the text has a token that counts, or a fault: it is lexed up to the first.
+    /// Returns `true` if the text has a significant token or a lexical error; lexes no further than
+    /// the first.
     pub fn is_meaningful(&self) -> bool
         ensures { result ≡ is_meaningful self.now }
     {
@@ -651,7 +697,8 @@ impl<'a> TextRef<'a> {
     }
 }
 
-/// The fault that is shown where the text ends in the group of this parenthesis.
+/// Returns the error for a group that is still open at the end of the text, at the byte after its
+/// `(`.
 fn unclosed(token: Token) -> Fault
     requires { token.offset < 2 ^ 32 }
     ensures { result ≡ record { offset = token.offset + 1; kind = Unclosed } }

@@ -1,4 +1,4 @@
-//! Calls of a parser that read a type.
+//! Parsing of types.
 ghost use Rattle.std.specs.Prelude.{◌≡◌, ◌≤◌, [], OnErr};
 ghost use Rattle.wat_lexer_parser.specs.readings.Readings.{group, pair, under};
 ghost use Rattle.wat_lexer_parser.specs.readings.Reads.{IsKept, Reads};
@@ -9,7 +9,7 @@ use std::marker::PhantomData;
 use wat_lex::error::Error;
 use wat_words::{StdAnnotation, Word};
 
-/// What is read where annotations of a name are shown.
+/// A value parsed while an annotation name is registered.
 #[derive(Drop)]
 struct Under<N: Word, T> {
     value: T,
@@ -33,7 +33,7 @@ impl<'a, N: Word, T: Parse<'a>> Parse<'a> for Under<N, T> {
     }
 }
 
-/// One type after another.
+/// A pair of values, one after the other.
 #[derive(Drop)]
 struct Pair<T, U> {
     first: T,
@@ -58,7 +58,7 @@ impl<'a, T: Parse<'a>, U: Parse<'a>> Parse<'a> for Pair<T, U> {
 }
 
 impl<'a> Parser<'a> {
-    /// Reads a type.
+    /// Parses a value of type `T`.
     pub fn parse<T: Parse<'a>>(&mut self) -> Result<T, Error>
         ensures kept { IsKept self.old self.new }
         ensures on { self.old.place ≤ self.new.place }
@@ -67,8 +67,12 @@ impl<'a> Parser<'a> {
         T::parse(self)
     }
 
-    /// Takes `(`, reads a type with the depth one more, and takes `)`. Where one of them refuses, the
-    /// parser is put back.
+    /// Consumes `(`, parses a value with the depth increased by 1, and consumes `)`.
+    ///
+    /// # Errors
+    ///
+    /// Returns the error of the type, or an error if a parenthesis is missing. The parser is then
+    /// unchanged.
     pub fn parens_of<T: Parse<'a>>(&mut self) -> Result<T, Error>
         ensures kept { IsKept self.old self.new }
         ensures on { self.old.place ≤ self.new.place }
@@ -96,8 +100,12 @@ impl<'a> Parser<'a> {
         }
     }
 
-    /// Reads a type where annotations of this name are shown. The name is taken back, also where the
-    /// type refuses.
+    /// Parses a value while an annotation name is registered. The registration is removed
+    /// afterwards, even if the type returns an error.
+    ///
+    /// # Errors
+    ///
+    /// Returns the error of the type, or an error if the name cannot be registered.
     pub fn with_annotation<T: Parse<'a>>(&mut self, name: &str) -> Result<T, Error>
         ensures kept { IsKept self.old self.new }
         ensures on { self.old.place ≤ self.new.place }
@@ -110,9 +118,13 @@ impl<'a> Parser<'a> {
         result
     }
 
-    /// Reads a type where the standard annotations are shown: `custom`, `producers`, `name`,
-    /// `dylink.0` and `metadata.code.branch_hint`. All names are taken back, also where the type
-    /// refuses or one of them can't be registered.
+    /// Parses a value while the standard annotation names are registered: `custom`, `producers`,
+    /// `name`, `dylink.0` and `metadata.code.branch_hint`. The registrations are removed
+    /// afterwards, even if there is an error.
+    ///
+    /// # Errors
+    ///
+    /// Returns the error of the type, or an error if a name cannot be registered.
     #[tactic(auto, unfolding(wat_words::specs::Words::annotation_word, wat_words::specs::Words::annotation_words))]
     pub fn with_standard_annotations_registered<T: Parse<'a>>(&mut self) -> Result<T, Error>
         ensures kept { IsKept self.old self.new }
@@ -132,7 +144,7 @@ impl<'a> Parser<'a> {
         Ok(value.value.value.value.value.value)
     }
 
-    /// Reads two types in a group, as [`parens_of`](Parser::parens_of) does.
+    /// Parses a pair of values in a group, like [`parens_of`](Parser::parens_of).
     pub(crate) fn parens_of_two<T: Parse<'a>, U: Parse<'a>>(&mut self) -> Result<(T, U), Error>
         ensures kept { IsKept self.old self.new }
         ensures on { self.old.place ≤ self.new.place }
@@ -143,7 +155,7 @@ impl<'a> Parser<'a> {
         Ok((both.first, both.second))
     }
 
-    /// A look at several types, one of which is expected at the place.
+    /// Creates a lookahead at the position, to choose one of several types.
     pub fn lookahead1(&self) -> Lookahead1<'_, 'a>
         ensures { result ≡ (self.now, []) }
     {

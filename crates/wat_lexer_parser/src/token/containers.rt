@@ -1,9 +1,9 @@
-//! Types that hold another type.
+//! Types that contain another type.
 
 use crate::parser::{Parse, Parser, Peek};
 use wat_lex::error::Error;
 
-/// The type where it is seen; else None, and nothing is taken.
+/// Parses a `T` if it comes next. Otherwise returns `None` and consumes nothing.
 impl<'a, T: Parse<'a> + Peek> Parse<'a> for Option<T> {
     ghost use Rattle.std.specs.Prelude.{Option, option_map};
     ghost use Rattle.wat_lexer_parser.specs.readings.Readings.{optional};
@@ -23,10 +23,10 @@ impl<'a, T: Parse<'a> + Peek> Parse<'a> for Option<T> {
     }
 }
 
-/// A type in parentheses.
+/// A value in parentheses.
 #[derive(Debug, Drop)]
 pub struct Parens<T> {
-    /// What is within them.
+    /// The value between the parentheses.
     pub inner: T,
 }
 
@@ -46,7 +46,7 @@ impl<'a, T: Parse<'a>> Parse<'a> for Parens<T> {
     }
 }
 
-/// The type, in memory of its own.
+/// Parses a `T` into its own allocation.
 impl<'a, T: Parse<'a>> Parse<'a> for Box<T> {
     ghost use Rattle.wat_lexer_parser.specs.readings.Readings.{allocated};
 

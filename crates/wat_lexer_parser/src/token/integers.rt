@@ -1,4 +1,5 @@
-//! Integers. Those with a sign take the words of all bits too, as `0xff` for -1 in eight bits.
+//! Integers of 8 to 64 bits. Signed types also accept unsigned literals of all their bits, like
+//! `0xff` for -1 as `i8`.
 ghost use Rattle.std.specs.Prelude.{◌≡◌, ◌≤◌, ◌<◌, ◌+◌, ◌^◌, ◌≤ℤ◌, ◌<ℤ◌, ℕ, ℤ};
 ghost use Rattle.std.specs.Prelude.{IfOk, IfSome, Some, Ok, codes, pos, neg_ℤ, true, false};
 ghost use Rattle.wat_lex.specs.grammar.Numbers.{sign_token};
@@ -7,7 +8,7 @@ ghost use Rattle.wat_lex.specs.values.NumberValues.{integer_value};
 ghost use Rattle.wat_lex.specs.declared.lexer.kinds.TokenKind.TheVariants as variant;
 ghost use Rattle.wat_lexer_parser.specs.inside.IntegerReadings.{an_integer_word, signed_integer};
 ghost use Rattle.wat_lexer_parser.specs.inside.IntegerReadings.{number_known, unsigned_integer};
-ghost use Rattle.wat_lexer_parser.specs.parser.State.{at_place, seen_at};
+ghost use Rattle.wat_lexer_parser.specs.parser.State.{at_place, peek_at};
 ghost use Rattle.wat_lexer_parser.specs.parser.Takers.{is_minus};
 ghost use Rattle.wat_lexer_parser.specs.readings.Reads.{CursorReads, IsKept, Reads};
 ghost use Rattle.wat_lexer_parser.specs.readings.Readings.{spanned};
@@ -19,14 +20,15 @@ use wat_lex::error::Error;
 use wat_lex::lexer::{IntegerKind, SignToken, Token, TokenKind};
 use wat_lex::token::Span;
 
-/// Whether an integer begins with `-`.
+/// Returns `true` if an integer begins with `-`.
 fn is_negative(kind: IntegerKind) -> bool
     ensures { result ≡ is_minus (sign_token kind.sign) }
 {
     kind.sign() == Some(SignToken::Minus)
 }
 
-/// The value of an integer token in a type without a sign, which a word with a minus never has.
+/// Returns the value of an integer token as an unsigned type with the maximum `most`, or `None` if
+/// it has a minus sign or is out of range.
 pub(crate) fn unsigned_value(text: &str, token: &Token, kind: IntegerKind, most: u64) -> Option<u64>
     requires token { IsTokenOf text.now token.now }
     requires kind { token.now.kind ≡ variant.Integer kind }
@@ -43,17 +45,18 @@ pub(crate) fn unsigned_value(text: &str, token: &Token, kind: IntegerKind, most:
     }
 }
 
-/// Takes the integer that is shown, with its kind. The message is for where none is.
+/// Consumes an integer, and returns its token and kind. Returns an error with the message
+/// `expected` if another token or the end of the text is next.
 #[inline(always)]
 #[tactic(auto, unfolding(crate::specs::inside::IntegerReadings::an_integer_word))]
-fn shown_integer<'p, 'a>(
+fn consume_integer<'p, 'a>(
     cursor: Cursor<'p, 'a>,
     expected: &str,
 ) -> Result<((Token, IntegerKind), Cursor<'p, 'a>), Error>
     ensures value { CursorReads (number_known cursor.entry.parser.now.source.setting.text)
         (an_integer_word expected.now)
         (at_place cursor.entry.parser.now cursor.entry.at) (λ next. next.at) result }
-    ensures seen { IfOk result (λ v. seen_at (at_place cursor.entry.parser.now cursor.entry.at)
+    ensures seen { IfOk result (λ v. peek_at (at_place cursor.entry.parser.now cursor.entry.at)
         ≡ Ok (Some (v.0.0, v.1.at))) }
     ensures token { IfOk result (λ v.
         IsTokenOf cursor.entry.parser.now.source.setting.text v.0.0) }
@@ -70,8 +73,8 @@ fn shown_integer<'p, 'a>(
     }
 }
 
-/// Takes an integer of a type without a sign, with the place where it is. The messages are for
-/// where none is shown, and where it is out of range.
+/// Consumes an unsigned integer of at most `most`, and returns its value and offset. Returns an
+/// error with the message `expected` if no integer is next, or `out_of_range` if it does not fit.
 #[tactic(auto, unfolding(crate::specs::inside::IntegerReadings::unsigned_integer))]
 fn unsigned<'p, 'a>(
     cursor: Cursor<'p, 'a>,
@@ -86,14 +89,15 @@ fn unsigned<'p, 'a>(
     ensures parser { IfOk result (λ v. v.1.parser ≡ cursor.entry.parser) }
     ensures on { IfOk result (λ v. cursor.entry.at < v.1.at) }
 {
-    let ((token, kind), next) = shown_integer(cursor, expected)?;
+    let ((token, kind), next) = consume_integer(cursor, expected)?;
     match unsigned_value(cursor.text(), &token, kind, most) {
         Some(value) => Ok(((value, cursor.span_of(token)), next)),
         None => Err(cursor.error(out_of_range)),
     }
 }
 
-/// Parses an integer of a type without a sign, with the place where it is.
+/// Parses an unsigned integer of at most `most`, with its offset. `expected` and `out_of_range` are
+/// the error messages.
 fn parse_unsigned(
     parser: &mut Parser<'_>,
     most: u64,
@@ -109,7 +113,8 @@ fn parse_unsigned(
     parser.step(|c| unsigned(c, most, expected, out_of_range))
 }
 
-/// The value of an integer token in a type with a sign, which goes from `-half` up to `half - 1`.
+/// Returns the value of an integer token as a signed type from `-half` to `half - 1`, or `None` if
+/// it is out of range.
 #[tactic(auto, unfolding(crate::specs::readings::Types::signed_number))]
 pub(crate) fn signed_value(text: &str, token: &Token, kind: IntegerKind, half: u64) -> Option<i64>
     requires token { IsTokenOf text.now token.now }
@@ -128,7 +133,8 @@ pub(crate) fn signed_value(text: &str, token: &Token, kind: IntegerKind, half: u
     plain(magnitude, half)
 }
 
-/// The number of this magnitude without a minus. From `half` on it stands for a negative one.
+/// Returns the signed value of a literal without a minus sign, or `None` if it is out of range. A
+/// magnitude from `half` to `2 * half - 1` represents a negative value in two's complement.
 fn plain(magnitude: u64, half: u64) -> Option<i64>
     requires least { 0 < half }
     requires most { half ≤ 2 ^ 63 }
@@ -146,7 +152,7 @@ fn plain(magnitude: u64, half: u64) -> Option<i64>
     None
 }
 
-/// The number of this magnitude with a minus.
+/// Returns the signed value of a literal with a minus sign, or `None` if it is out of range.
 fn negative(magnitude: u64, half: u64) -> Option<i64>
     requires least { 0 < half }
     requires most { half ≤ 2 ^ 63 }
@@ -164,7 +170,9 @@ fn negative(magnitude: u64, half: u64) -> Option<i64>
     None
 }
 
-/// Takes an integer of a type with a sign, as [`unsigned`] does.
+/// Consumes a signed integer from `-half` to `half - 1`, and returns its value and offset. Returns
+/// an error with the message `expected` if no integer is next, or `out_of_range` if it does not
+/// fit.
 #[tactic(auto, unfolding(crate::specs::inside::IntegerReadings::signed_integer))]
 fn signed<'p, 'a>(
     cursor: Cursor<'p, 'a>,
@@ -182,14 +190,15 @@ fn signed<'p, 'a>(
     ensures parser { IfOk result (λ v. v.1.parser ≡ cursor.entry.parser) }
     ensures on { IfOk result (λ v. cursor.entry.at < v.1.at) }
 {
-    let ((token, kind), next) = shown_integer(cursor, expected)?;
+    let ((token, kind), next) = consume_integer(cursor, expected)?;
     match signed_value(cursor.text(), &token, kind, half) {
         Some(value) => Ok(((value, cursor.span_of(token)), next)),
         None => Err(cursor.error(out_of_range)),
     }
 }
 
-/// Parses an integer of a type with a sign, with the place where it is.
+/// Parses a signed integer from `-half` to `half - 1`, with its offset. `expected` and
+/// `out_of_range` are the error messages.
 fn parse_signed(
     parser: &mut Parser<'_>,
     half: u64,

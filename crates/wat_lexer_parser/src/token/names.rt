@@ -1,4 +1,4 @@
-//! The annotation `@name "..."`, which names an item.
+//! The annotation `@name "..."`, which gives an item a name.
 
 use crate::annotation;
 use crate::parser::{Parse, Parser};
@@ -6,10 +6,10 @@ use std::alloc::{AllocError, Global};
 use std::borrow::CowStr;
 use wat_lex::error::Error;
 
-/// The annotation `@name` with the name that it gives.
+/// The annotation `@name`, with the name that it gives.
 #[derive(Debug, PartialEq, Eq, Drop)]
 pub struct NameAnnotation<'a> {
-    /// The name that is given.
+    /// The name.
     pub name: CowStr<'a>,
 }
 
@@ -21,8 +21,8 @@ impl<'a> NameAnnotation<'a> {
     ghost use Rattle.wat_lexer_parser.specs.readings.Reads.{IsKept, Reads};
     ghost use Rattle.wat_lexer_parser.specs.readings.Types.{optional_name};
 
-    /// Reads `(@name "..")` where `@name` is the second token that is shown, which takes the name's
-    /// being registered; else None, and nothing is taken.
+    /// Parses `(@name "..")` if `@name` is the second visible token, which requires that `name` is
+    /// registered. Otherwise returns `None` and consumes nothing.
     pub fn parse_option(parser: &mut Parser<'a>) -> Result<Option<NameAnnotation<'a>>, Error>
         ensures kept { IsKept parser.old parser.new }
         ensures on { parser.old.place ≤ parser.new.place }
@@ -36,7 +36,7 @@ impl<'a> NameAnnotation<'a> {
         }
     }
 
-    /// A copy. An owned name is copied too. Of a borrowed one the copy takes no memory.
+    /// Returns a copy. Allocates only if the name is owned.
     pub fn clone(&self, alloc: Global) -> Result<Self, AllocError>
         ensures copy { IfOk result (λ copy.
             cow_str_bytes copy.name ≡ cow_str_bytes self.now.name) }

@@ -1,4 +1,4 @@
-//! Parentheses, for those who peek at them.
+//! Parentheses, as types to peek at.
 use crate::parser::{Cursor, Peek};
 use wat_lex::error::Error;
 

@@ -1,11 +1,11 @@
-//! Identifiers and indices.
+//! Identifiers, indices and item references.
 ghost use Rattle.std.specs.Prelude.{◌≡◌, ◌<◌, codes, IfOk, IfSome};
 ghost use Rattle.std.specs.Cow.{cow_str_bytes};
 ghost use Rattle.std.specs.Option.{option_map};
 ghost use Rattle.wat_lex.specs.identifiers.Identifiers.{is_owned_str};
-ghost use Rattle.wat_lexer_parser.specs.parser.Sights.{Tells};
+ghost use Rattle.wat_lexer_parser.specs.parser.Sights.{PeekIs};
 ghost use Rattle.wat_lexer_parser.specs.parser.State.{Answers, at_place};
-ghost use Rattle.wat_lexer_parser.specs.parser.Takers.{may_take_at, taken_at};
+ghost use Rattle.wat_lexer_parser.specs.parser.Takers.{allocates_at, token_value_at};
 ghost use Rattle.wat_lexer_parser.specs.readings.Types.{as_owned_id};
 
 use crate::parser::{Cursor, Parse, Parser, Peek};
@@ -32,11 +32,13 @@ impl<'a> Parse<'a> for Id<'a> {
     }
 }
 
-/// Takes an identifier, of which callers see whether its name is owned.
+/// Consumes an identifier, and returns its name and the cursor after it. Returns `None` if another
+/// token is next. The contract also determines whether the name is owned.
 fn named<'p, 'a>(cursor: Cursor<'p, 'a>) -> Result<Option<(CowStr<'a>, Cursor<'p, 'a>)>, Error>
-    ensures value { Answers (may_take_at as_owned_id (at_place cursor.entry.parser.now cursor.entry.at))
+    ensures value { Answers
+        (allocates_at as_owned_id (at_place cursor.entry.parser.now cursor.entry.at))
         (option_map (λ v. ((cow_str_bytes v.0, is_owned_str v.0), v.1.at)))
-        (taken_at as_owned_id (at_place cursor.entry.parser.now cursor.entry.at)) result }
+        (token_value_at as_owned_id (at_place cursor.entry.parser.now cursor.entry.at)) result }
     ensures parser { IfOk result (λ found. IfSome found (λ v.
         v.1.parser ≡ cursor.entry.parser)) }
     ensures on { IfOk result (λ found. IfSome found (λ v. cursor.entry.at < v.1.at)) }
@@ -52,7 +54,7 @@ impl<'a> Peek for Id<'a> {
     ghost shows = { codes "an identifier" };
 
     fn peek(cursor: Cursor<'_, '_>) -> Result<bool, Error>
-        ensures { Tells (an_identifier (at_place cursor.entry.parser.now cursor.entry.at)) result }
+        ensures { PeekIs (an_identifier (at_place cursor.entry.parser.now cursor.entry.at)) result }
     {
         cursor.peek_id()
     }
@@ -93,7 +95,7 @@ impl<'a> Peek for Index<'a> {
     ghost shows = { codes "an index" };
 
     fn peek(cursor: Cursor<'_, '_>) -> Result<bool, Error>
-        ensures { Tells (sees_index (at_place cursor.entry.parser.now cursor.entry.at)) result }
+        ensures { PeekIs (sees_index (at_place cursor.entry.parser.now cursor.entry.at)) result }
     {
         match cursor.token()? {
             Some(token) => Ok(matches!(token.kind, TokenKind::Id | TokenKind::Integer(_))),
@@ -108,12 +110,12 @@ impl<'a> Peek for Index<'a> {
     }
 }
 
-/// A reference to an item of a kind, as `(func $f)`.
+/// A reference to an item of a given kind, like `(func $f)`.
 #[derive(Debug, Drop)]
 pub struct ItemRef<'a, K> {
-    /// The kind of the item.
+    /// Kind of the item.
     pub kind: K,
-    /// Which item it is.
+    /// Index of the item.
     pub idx: Index<'a>,
 }
 
@@ -121,7 +123,7 @@ impl<'a, K: Clone> ItemRef<'a, K> {
     ghost use Rattle.std.specs.Prelude.{false, IfOk, IsOk};
     ghost use Rattle.wat_lex.specs.identifiers.Indices.{owns_name};
 
-    /// A copy: of the kind by its own `clone`, of the index by [`Index::clone`].
+    /// Returns a copy, made with the `clone` of the kind and [`Index::clone`].
     pub fn clone(&self, alloc: Global) -> Result<Self, AllocError>
         ensures kind { IfOk result (λ copy. K.is_clone self.now.kind copy.kind) }
         ensures idx { IfOk result (λ copy. copy.idx ≡ self.now.idx) }
@@ -157,7 +159,7 @@ impl<'a, K: Peek> Peek for ItemRef<'a, K> {
     ghost shows = { codes "an item reference" };
 
     fn peek(cursor: Cursor<'_, '_>) -> Result<bool, Error>
-        ensures { Tells (after_open K.sight
+        ensures { PeekIs (after_open K.sight
             (at_place cursor.entry.parser.now cursor.entry.at)) result }
     {
         match cursor.lparen()? {

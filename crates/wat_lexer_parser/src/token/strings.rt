@@ -1,15 +1,15 @@
-//! Strings.
+//! Strings, as bytes or as UTF-8 text.
 ghost use Rattle.std.specs.Prelude.{◌≡◌, true, false, codes, MatchOption};
 ghost use Rattle.std.specs.Cow.{cow_slice_items, cow_str_bytes};
 ghost use Rattle.std.specs.Str.{is_utf8};
-ghost use Rattle.wat_lexer_parser.specs.parser.Sights.{Tells};
+ghost use Rattle.wat_lexer_parser.specs.parser.Sights.{PeekIs};
 ghost use Rattle.wat_lexer_parser.specs.parser.State.{at_place};
 
 use crate::parser::{Cursor, Parse, Parser, Peek};
 use std::borrow::{CowSlice, CowStr};
 use wat_lex::error::Error;
 
-/// The value of a string.
+/// Parses the bytes of a string.
 impl<'a> Parse<'a> for CowSlice<'a, u8> {
     ghost use Rattle.std.specs.Prelude.{List, ℕ};
     ghost use Rattle.std.specs.Cow.{cow_slice_items};
@@ -37,7 +37,7 @@ impl<'a> Peek for CowSlice<'a, u8> {
     ghost shows = { codes "string" };
 
     fn peek(cursor: Cursor<'_, '_>) -> Result<bool, Error>
-        ensures { Tells (a_string (at_place cursor.entry.parser.now cursor.entry.at)) result }
+        ensures { PeekIs (a_string (at_place cursor.entry.parser.now cursor.entry.at)) result }
     {
         cursor.peek_string()
     }
@@ -49,7 +49,7 @@ impl<'a> Peek for CowSlice<'a, u8> {
     }
 }
 
-/// The value of a string, which has to be UTF-8.
+/// Parses a string, which must be UTF-8.
 impl<'a> Parse<'a> for CowStr<'a> {
     ghost use Rattle.std.specs.Prelude.{List, ℕ};
     ghost use Rattle.std.specs.Cow.{cow_str_bytes};
@@ -78,7 +78,7 @@ impl<'a> Peek for CowStr<'a> {
     ghost shows = { codes "string" };
 
     fn peek(cursor: Cursor<'_, '_>) -> Result<bool, Error>
-        ensures { Tells (a_string (at_place cursor.entry.parser.now cursor.entry.at)) result }
+        ensures { PeekIs (a_string (at_place cursor.entry.parser.now cursor.entry.at)) result }
     {
         cursor.peek_string()
     }
@@ -90,7 +90,7 @@ impl<'a> Peek for CowStr<'a> {
     }
 }
 
-/// The value of a string, which has to be UTF-8, in memory of its own.
+/// Parses a string, which must be UTF-8, into its own allocation.
 impl<'a> Parse<'a> for String {
     ghost use Rattle.std.specs.Prelude.{List, ℕ, string_bytes};
     ghost use Rattle.wat_lexer_parser.specs.readings.Types.{owned_text};
@@ -108,7 +108,7 @@ impl<'a> Parse<'a> for String {
     }
 }
 
-/// The text of these bytes, None where they are not UTF-8.
+/// Returns the bytes as text, or `None` if they are not UTF-8.
 fn utf8<'a>(bytes: CowSlice<'a, u8>) -> Option<CowStr<'a>>
     ensures { MatchOption result (is_utf8 (cow_slice_items bytes.entry) ≡ false)
         (λ text. (is_utf8 (cow_slice_items bytes.entry) ≡ true)

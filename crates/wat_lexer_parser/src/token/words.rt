@@ -1,8 +1,8 @@
-//! Tokens that spell a word: keywords, reserved symbols and annotations.
+//! Keywords, reserved symbols and annotations with a fixed text.
 ghost use Rattle.std.specs.Prelude.{◌≡◌, ◌<◌, ℕ, IfOk, IfSome};
 ghost use Rattle.std.specs.Option.{option_map};
 ghost use Rattle.wat_lexer_parser.specs.parser.State.{Answers, at_place};
-ghost use Rattle.wat_lexer_parser.specs.parser.Takers.{as_annotation, may_take_at, taken_at};
+ghost use Rattle.wat_lexer_parser.specs.parser.Takers.{as_annotation, allocates_at, token_value_at};
 ghost use Rattle.wat_lexer_parser.specs.readings.Types.{spelling};
 ghost use Rattle.wat_words.specs.Words.{quoted};
 
@@ -12,16 +12,16 @@ use wat_lex::error::Error;
 use wat_lex::token::Span;
 use wat_words::Word;
 
-/// A keyword that spells a word.
+/// A keyword whose text is the word `N`.
 #[derive(Clone, Copy, Debug)]
 pub struct Keyword<N: Word> {
-    /// Where it is.
+    /// Offset of the keyword.
     pub span: Span,
     of: PhantomData<N>,
 }
 
 impl<N: Word> Keyword<N> {
-    /// The keyword at a place. No text is looked at.
+    /// Creates a keyword at an offset. The text is not read.
     pub fn new(span: Span) -> Self
         ensures { result.span ≡ span }
     {
@@ -70,16 +70,16 @@ impl<N: Word> Peek for Keyword<N> {
     }
 }
 
-/// A reserved token that spells a word.
+/// A reserved token whose text is the word `N`.
 #[derive(Clone, Copy, Debug)]
 pub struct ReservedSymbol<N: Word> {
-    /// Where it is.
+    /// Offset of the token.
     pub span: Span,
     of: PhantomData<N>,
 }
 
 impl<N: Word> ReservedSymbol<N> {
-    /// The symbol at a place. No text is looked at.
+    /// Creates a reserved symbol at an offset. The text is not read.
     pub fn new(span: Span) -> Self
         ensures { result.span ≡ span }
     {
@@ -130,16 +130,16 @@ impl<N: Word> Peek for ReservedSymbol<N> {
     }
 }
 
-/// An annotation whose name is a word.
+/// An annotation whose name is the word `N`.
 #[derive(Clone, Copy, Debug)]
 pub struct AnnotationWord<N: Word> {
-    /// Where it is.
+    /// Offset of the annotation.
     pub span: Span,
     of: PhantomData<N>,
 }
 
 impl<N: Word> AnnotationWord<N> {
-    /// The annotation at a place. No text is looked at.
+    /// Creates an annotation at an offset. The text is not read.
     pub fn new(span: Span) -> Self
         ensures { result.span ≡ span }
     {
@@ -187,12 +187,13 @@ impl<N: Word> Peek for AnnotationWord<N> {
     }
 }
 
-/// Takes an annotation of this name.
+/// Consumes an annotation with the given name, and returns the cursor after it. Returns `None` if
+/// another token is next.
 fn annotation<'p, 'a>(cursor: Cursor<'p, 'a>, name: &str) -> Result<Option<Cursor<'p, 'a>>, Error>
     ensures value { Answers
-        (may_take_at as_annotation (at_place cursor.entry.parser.now cursor.entry.at))
+        (allocates_at as_annotation (at_place cursor.entry.parser.now cursor.entry.at))
         (option_map (λ next. (tt, next.at)))
-        (taken_at (spelling as_annotation name.now)
+        (token_value_at (spelling as_annotation name.now)
         (at_place cursor.entry.parser.now cursor.entry.at))
         result }
     ensures parser { IfOk result (λ found. IfSome found (λ next.

@@ -1,23 +1,23 @@
 use Rattle.std.proofs.Common.{◌≡◌, ◌∙◌, subst}
-use Rattle.wat_fields.specs.Views.{fields_of}
-use Rattle.wat_fields_read.specs.Reading.{whole}
-use Rattle.wat_sections.specs.Binary.{module_bytes}
-use Rattle.wat_instructions.specs.declared.pieces.Refusal.TheVariants.{Text}
-use Rattle.wat_instructions.specs.Parts.{Faults}
-use Rattle.wat_instructions.specs.Pieces.{terminals_of}
+use Rattle.wat_module_ast.specs.Views.{fields_of}
+use Rattle.wat_module_parser.specs.Reading.{whole}
+use Rattle.wat_module_encoder.specs.Binary.{module_bytes}
+use Rattle.wat_module_ast.specs.declared.error.ParseFailure.TheVariants.{Text}
+use Rattle.wat_module_instructions.specs.Parts.{Faults}
+use Rattle.wat_module_tokens.specs.TokenCursor.{terminals_of}
 use Rattle.wat_modules.proofs.Answering.{of_bytes, of_fault}
 use Rattle.wat_modules.proofs.of_source.Goals as goal
 
 pub returns-in-Ok : goal.returns-in-Ok
 returns-in-Ok c = λ tokens h are.
-    let pieces = terminals_of c.pieces.result in
+    let cursor = terminals_of c.cursor.result in
     let bytes = c.in_ok-module_bytes-in-Ok.field-0.items in
     let is = subst (λ fields. bytes ≡ module_bytes (fields_of fields)) c.deref.ensures.value c.in_ok-module_bytes-in-Ok.ensures in
-    of_bytes c.reading_is_grammar.ensures c.args.text.now tokens pieces (fields_of c.in-Ok.fields.items) bytes c.fitting.result c.in-Ok.ensures.read is c.fitting.ensures (c.pieces.ensures ∙ are)
+    of_bytes c.reading_is_grammar.ensures c.args.text.now tokens cursor (fields_of c.in-Ok.fields.items) bytes c.bound_size.result c.in-Ok.ensures.read is c.bound_size.ensures (c.cursor.ensures ∙ are)
 
 pub returns : goal.returns
 returns c = λ tokens h are.
-    let pieces = terminals_of c.pieces.result in
+    let cursor = terminals_of c.cursor.result in
     let fault = c.in-Err-Text.fault in
-    let refused : Faults (whole pieces) (Text fault) = rw c.in-Err-Text.field-0-is at c.in-Err-Text.ensures.refused in
-    of_fault c.args.text.now tokens pieces fault.kind (terminals_of fault.left) c.len.result c.fault_at.result refused c.len.ensures (c.fault_at.ensures tokens h) (c.pieces.ensures ∙ are)
+    let refused : Faults (whole cursor) (Text fault) = rw c.in-Err-Text.field-0-is at c.in-Err-Text.ensures.refused in
+    of_fault c.args.text.now tokens cursor fault.kind (terminals_of fault.left) c.len.result c.fault_at.result refused c.len.ensures (c.fault_at.ensures tokens h) (c.cursor.ensures ∙ are)

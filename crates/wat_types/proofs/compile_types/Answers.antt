@@ -1,9 +1,9 @@
 use Rattle.std.proofs.Common.{◌≡◌, ◌∙◌, ◌≤◌, ◌^◌, ℕ, true, rules, refl, sym, ap, subst, length, None, Some, Ok, Err}
 use Rattle.std.specs.Prelude.{Vec}
 use Rattle.std.specs.declared.alloc.Global.{Global}
-use Rattle.wat_lexer_parser.specs.lemmas.AnswerLaws.{wants_memory, error_answers}
+use Rattle.wat_lexer_parser.specs.lemmas.AnswerLaws.{error_is_allocation_failure, error_answers}
 use Rattle.wat_lexer_parser.specs.parser.State.{Answers}
-use Rattle.wat_lexer_parser.specs.readings.Readings.{whole, whole_takes}
+use Rattle.wat_lexer_parser.specs.readings.Readings.{whole, whole_may_allocate}
 use Rattle.wat_types.specs.Binary.{Fits, content, module_bytes}
 use Rattle.wat_types.specs.Compiling.{compiled, compiled_by, too_long}
 use Rattle.wat_types.specs.Meanings.{module_types}
@@ -19,7 +19,7 @@ returns-in_err-module-clause-spelled c = λ fs h.
     let reads = spelled_is_read c.reading_is_spelling.ensures.same s c.args.text.now fs c.utf8.text c.new-buffer.ensures.read c.new-buffer.ensures.setting h in
     let answer = c.in_err-module.ensures.value s c.new-buffer.ensures.read refl refl in
     let result : c.from_residual.result ≡ Err e = search rules in
-    let none = wants_memory {T = Module} (whole_takes module_types s) (λ m. signatures m.types.items) (whole module_types s) fs e reads answer in
+    let none = error_is_allocation_failure {T = Module} (whole_may_allocate module_types s) (λ m. signatures m.types.items) (whole module_types s) fs e reads answer in
     let memory : c.from_residual.result ≡ Err None = result ∙ ap Err none in
     subst (λ r. Answers {T = Vec ℕ Global} true (λ bytes. bytes.items) (compiled fs) r) (sym memory) refl
 
@@ -29,7 +29,7 @@ returns-in_err-module-clause-refused c = λ s r p t.
     let answer = c.in_err-module.ensures.value s r (p ∙ sym c.new-buffer.ensures.setting) (t ∙ sym c.new-buffer.ensures.track) in
     let result : c.from_residual.result ≡ Err e = search rules in
     subst (λ r. Answers {T = Vec ℕ Global} true (λ bytes. bytes.items) (compiled_by (whole module_types s)) r) (sym result)
-    (error_answers {T = Module} {U = Vec ℕ Global} (whole_takes module_types s) (λ m. signatures m.types.items) (λ bytes. bytes.items) compiled_by (whole module_types s) e (λ r. refl) answer)
+    (error_answers {T = Module} {U = Vec ℕ Global} (whole_may_allocate module_types s) (λ m. signatures m.types.items) (λ bytes. bytes.items) compiled_by (whole module_types s) e (λ r. refl) answer)
 
 pub returns-in-Ok-clause-spelled : goal.returns-in-Ok-clause-spelled
 returns-in-Ok-clause-spelled c = λ fs h.

@@ -51,14 +51,14 @@ impl Stretch {
     fn push(&mut self, c: char) -> usize {
         let mut measured = 0;
         if ROOM - self.len < c.len_utf8() {
-            measured = self.make_room();
+            measured = self.ensure_capacity();
         }
         self.len += c.encode_utf8(&mut self.room[self.len..]).len();
         measured
     }
 
     /// Moves the buffer to the heap. If the allocation fails, measures the chunk instead and returns its width.
-    fn make_room(&mut self) -> usize {
+    fn ensure_capacity(&mut self) -> usize {
         let mut long = core::mem::replace(&mut self.long, String::new(Global));
         if long.push_str(self.in_room()).is_err() {
             self.long = long;

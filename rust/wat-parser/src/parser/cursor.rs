@@ -1,7 +1,9 @@
-use super::{Parser, Position, Result, Row, token_of, unless_refused};
+use super::buffer::{Position, token_of};
+use super::{Parser, Result, unless_refused};
 use crate::Error;
 use crate::lexer::{Float, Integer};
 use crate::proved::lexer::Token;
+use crate::proved::parser::text_ref::Row;
 use crate::token::Span;
 use core::fmt;
 use wat_lex::shim::alloc::Global;

@@ -113,7 +113,7 @@ impl Reader<'_> {
         Some(items)
     }
 
-    /// Parses a string after its opening quote. An escape stands for one UTF-16 code unit.
+    /// Parses a string after its opening quote. An escape is one UTF-16 code unit.
     fn string(&mut self) -> Option<String> {
         let mut units = Vec::new();
         loop {

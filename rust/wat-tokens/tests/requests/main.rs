@@ -9,7 +9,7 @@ mod free;
 // The test cases use only a part of the generated format.
 #[allow(dead_code, non_camel_case_types, unused_imports)]
 mod generated {
-    pub mod wat_imports;
+    pub mod example_imports;
 }
 mod identifiers;
 mod lexing;
@@ -29,7 +29,7 @@ mod sources;
 mod types;
 mod words;
 
-use generated::wat_imports as imports;
+use generated::example_imports as imports;
 use refusing::{Counts, Refused, refusing};
 use row::{Ending, Row};
 use sources::{SOURCES, Source};

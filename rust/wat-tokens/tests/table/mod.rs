@@ -1,21 +1,23 @@
 //! A parser of the table of runs, `tests/runs.txt` of the repository.
 
+use std::ffi::OsString;
 use std::fmt;
 use std::fs::read_to_string;
+use std::os::unix::ffi::OsStringExt;
 
 const TABLE: &str = concat!(env!("CARGO_MANIFEST_DIR"), "/../../tests/runs.txt");
 
-/// The table: the files that exist before the runs, and the runs.
+/// The table: the files that exist before the runs, and the runs. The name of a folder ends in `/`.
 #[derive(Default)]
 pub struct Table {
-    pub files: Vec<(String, Vec<u8>)>,
+    pub files: Vec<(OsString, Vec<u8>)>,
     records: Vec<Record>,
 }
 
 /// Command lines with the same standard input and the same expected result.
 #[derive(Default)]
 pub struct Record {
-    runs: Vec<Vec<String>>,
+    runs: Vec<Vec<OsString>>,
     pub input: Vec<u8>,
     pub answer: Answer,
 }
@@ -50,13 +52,13 @@ impl Table {
             table.records.push(record);
         }
         let (runs, files) = (table.runs().count(), table.files.len());
-        assert!(runs >= 262, "the table has {runs} runs");
-        assert!(files >= 16, "the table has {files} files");
+        assert!(runs >= 585, "the table has {runs} runs");
+        assert!(files >= 24, "the table has {files} files");
         table
     }
 
     /// Returns the arguments of each run, with its record.
-    pub fn runs(&self) -> impl Iterator<Item = (&[String], &Record)> {
+    pub fn runs(&self) -> impl Iterator<Item = (&[OsString], &Record)> {
         self.records
             .iter()
             .flat_map(|record| record.runs.iter().map(move |words| (&words[..], record)))
@@ -71,7 +73,7 @@ impl Table {
                 "#" => {}
                 "@" => {
                     let (name, text) = text.split_once(' ').unwrap_or((text, ""));
-                    self.files.push((name.to_owned(), bytes_of(text)));
+                    self.files.push((word_of(name), bytes_of(text)));
                 }
                 "$" => record
                     .runs
@@ -92,11 +94,11 @@ fn is_head(paragraph: &str) -> bool {
     paragraph.lines().all(|line| line.starts_with(['#', '@']))
 }
 
-fn word_of(text: &str) -> String {
+fn word_of(text: &str) -> OsString {
     if text == "\"\"" {
-        String::new()
+        OsString::new()
     } else {
-        text.to_owned()
+        OsString::from_vec(bytes_of(text))
     }
 }
 

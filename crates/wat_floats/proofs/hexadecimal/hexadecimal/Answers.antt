@@ -19,5 +19,5 @@ scaled-requires-clause-count c =
 pub returns : goal.returns
 returns c =
     let is = c.with_fraction-places.ensures.value _ (c.with_digits.ensures.value 0 c.none.ensures.value) in
-    let near = c.scaled.ensures _ _ _ is c.read.ensures.raised c.read.ensures.lowered (one_is_none (exponent true c.with_fraction-places.result.2.now)) in
+    let near = c.scaled.ensures _ _ _ is c.read.ensures.up_power c.read.ensures.down_power (one_is_none (exponent true c.with_fraction-places.result.2.now)) in
     nearest_is (format c.args.precision) c.args.text.now c.scaled.result (rw (c.with_fraction-places.ensures.places, c.with_fraction-places.ensures.rest, c.with_digits.ensures.rest) at near)

@@ -1,4 +1,4 @@
-//! Names that are compared and tested a part at a time, so that they take no memory.
+//! Names that are compared and validated one part at a time, without an allocation.
 ghost use Rattle.std.specs.Prelude.{◌≡◌, ◌≢◌, ◌++◌, [], ℕ, List, MatchOption, IsTrue};
 ghost use Rattle.std.specs.Bool.{Decides};
 ghost use Rattle.std.specs.Str.{chars, IsUtf8};
@@ -17,16 +17,16 @@ use std::str::from_utf8;
 /// A part of a string's value.
 #[derive(Clone, Copy)]
 pub enum Part<'a> {
-    /// Characters that stand for themselves.
+    /// Characters without an escape, at least one.
     Text(&'a str),
-    /// An escape of one byte.
+    /// The byte of an escape of two hexadecimal digits, or of a letter.
     Byte(u8),
-    /// An escape of a character's number.
+    /// The character of an escape `\u{..}`.
     Scalar(char),
 }
 
 impl<'a> Part<'a> {
-    /// What an escape stands for.
+    /// Returns the part for an escape's value.
     fn escaped(read: EscapeValue) -> Part<'a>
         ensures bytes { part_bytes result ≡ escape_bytes read }
         ensures whole { IsWhole result }
@@ -37,7 +37,7 @@ impl<'a> Part<'a> {
         }
     }
 
-    /// What comes after the part in a value that begins with it.
+    /// Returns the bytes of `value` after the part, or `None` if `value` does not begin with it.
     fn stripped_from<'v>(self, value: &'v [u8]) -> Option<&'v [u8]>
         ensures { MatchOption result
             ((rest : List ℕ) → value.now ≢ part_bytes self.entry ++ rest)
@@ -54,8 +54,9 @@ impl<'a> Part<'a> {
     }
 }
 
-/// The first part of elements of which so many bytes stand for themselves, up to an escape or the
-/// closing quote.
+/// Returns the first `len` bytes as a part, and the elements after it, or `None` if `len` is 0.
+/// These bytes must be those up to the first escape or the closing quote. `elements` is the rest of
+/// a string, with its closing quote.
 fn text_part<'a>(elements: &'a str, len: usize) -> Option<(Part<'a>, &'a str)>
     requires { PlainBytes elements.now len }
     ensures { IsFirstPart elements.now result }
@@ -66,7 +67,8 @@ fn text_part<'a>(elements: &'a str, len: usize) -> Option<(Part<'a>, &'a str)>
     Some((Part::Text(&elements[..len]), &elements[len..]))
 }
 
-/// The first part of the elements that a closing quote ends, and the elements after it.
+/// Returns the first part of a string's value, and the elements after it, or `None` if the value is
+/// empty. `elements` is the rest of a string, with its closing quote.
 fn first_part<'a>(elements: &'a str) -> Option<(Part<'a>, &'a str)>
     requires { IsQuoted (chars elements.now) }
     ensures { IsFirstPart elements.now result }
@@ -84,7 +86,8 @@ fn first_part<'a>(elements: &'a str) -> Option<(Part<'a>, &'a str)>
     }
 }
 
-/// Whether this is the value of the elements that a closing quote ends.
+/// Returns `true` if a string has this value. `elements` is the rest of a string, with its closing
+/// quote.
 fn is_value(elements: &str, value: &[u8]) -> bool
     requires { IsQuoted (chars elements.now) }
     ensures { Decides result (value_of elements.now ≡ value.now) }
@@ -101,8 +104,9 @@ fn is_value(elements: &str, value: &[u8]) -> bool
     left.is_empty()
 }
 
-/// The byte that is escaped at the start of the elements that a closing quote ends, and the elements
-/// after it; None where a character begins there, or nothing is left.
+/// Returns the byte of the escape at the start, and the elements after it. Returns `None` if
+/// another part is at the start, or the closing quote. `elements` is the rest of a string, with its
+/// closing quote.
 fn escaped_byte<'a>(elements: &'a str) -> Option<(u8, &'a str)>
     requires { IsQuoted (chars elements.now) }
     ensures { IsEscapedByte elements.now result }
@@ -114,8 +118,9 @@ fn escaped_byte<'a>(elements: &'a str) -> Option<(u8, &'a str)>
     Some((byte, after))
 }
 
-/// The elements after the first character of what a byte and their value are; None where these are
-/// not UTF-8.
+/// Returns the elements after the first character, which begins with the byte `first` and goes on
+/// with the value of `elements`. Returns `None` if these bytes are not UTF-8. `elements` is the
+/// rest of a string, with its closing quote.
 fn past_character<'a>(first: u8, elements: &'a str) -> Option<&'a str>
     requires { IsQuoted (chars elements.now) }
     ensures { IsPastCharacter first elements.now result }
@@ -135,8 +140,8 @@ fn past_character<'a>(first: u8, elements: &'a str) -> Option<&'a str>
     Some(rest)
 }
 
-/// Whether the value of the elements that a closing quote ends is UTF-8. Only an escape of one byte
-/// can begin what is not.
+/// Returns `true` if the value of a string is UTF-8. Only the escape of a byte can begin a sequence
+/// that is not. `elements` is the rest of a string, with its closing quote.
 fn is_utf8_value(elements: &str) -> bool
     requires { IsQuoted (chars elements.now) }
     ensures { Decides result (IsUtf8 (value_of elements.now)) }
@@ -155,7 +160,7 @@ fn is_utf8_value(elements: &str) -> bool
     true
 }
 
-/// Whether a text that is a name has these bytes.
+/// Returns `true` if the name that a text after `$` or `@` stands for has these bytes.
 pub fn is_named(text: &str, bytes: &[u8]) -> bool
     requires { IsNamed (chars text.now) }
     ensures { Decides result (named_bytes (chars text.now) ≡ bytes.now) }
@@ -166,7 +171,7 @@ pub fn is_named(text: &str, bytes: &[u8]) -> bool
     }
 }
 
-/// Whether the bytes of a text that is a name are UTF-8.
+/// Returns `true` if the name that a text after `$` or `@` stands for is UTF-8.
 pub fn is_utf8_name(text: &str) -> bool
     requires { IsNamed (chars text.now) }
     ensures { Decides result (IsUtf8 (named_bytes (chars text.now))) }
@@ -177,8 +182,8 @@ pub fn is_utf8_name(text: &str) -> bool
     }
 }
 
-/// Whether a text that is a name has bytes, which are UTF-8 since no escape is in it. False says
-/// nothing.
+/// Returns `true` if the name that a text after `$` or `@` stands for is nonempty and has no
+/// escape, so that it is UTF-8. A name with an escape can be valid too.
 pub fn is_plain_name(text: &str) -> bool
     requires { IsNamed (chars text.now) }
     ensures some { IsTrue result → named_bytes (chars text.now) ≢ [] }

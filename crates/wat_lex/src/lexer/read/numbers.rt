@@ -1,4 +1,4 @@
-//! What the words of numbers read as.
+//! The parts and values of numbers, from their lexemes.
 ghost use Rattle.std.specs.Prelude.{◌≡◌, ◌≤◌, ◌+◌, ◌*◌, ◌^◌, ◌++◌, ◌||◌, Bool, true, false, []};
 ghost use Rattle.std.specs.Prelude.{length, IfOk, OnOk, IsOk, IfSome, MatchOption, string_bytes};
 ghost use Rattle.std.specs.Char.{digit_value};
@@ -23,23 +23,27 @@ use crate::lexer::scan::numbers::{after_digits, is_negative, unsigned};
 use std::alloc::{AllocError, Global};
 use std::borrow::CowStr;
 
-/// An integer of a text, with its sign, its digits and their base.
+/// An integer token's sign, digits and base.
 #[derive(Debug, Drop, PartialEq)]
 pub struct Integer<'a> {
+    /// The sign before the digits, if any.
     sign: Option<SignToken>,
+    /// The digits without `+`, underscores and `0x`, after a `-` if the integer is negative.
     digits: CowStr<'a>,
+    /// `true` if the base is 16, and `false` if it is 10.
     hex: bool,
 }
 
 impl<'a> Integer<'a> {
-    /// The sign that comes before the digits.
+    /// Returns the sign before the digits, if any.
     pub fn sign(&self) -> Option<SignToken>
         ensures { result ≡ integer_sign self.now }
     {
         self.sign
     }
 
-    /// The digits, after a `-` where the integer is negative, and their base.
+    /// Returns the digits and their base. The digits are without underscores and `0x`, and follow a
+    /// `-` if the integer is negative.
     pub fn val(&self) -> (&str, u32)
         ensures digits { result.0.now ≡ integer_digits self.now }
         ensures base { result.1 ≡ integer_base self.now }
@@ -48,6 +52,7 @@ impl<'a> Integer<'a> {
         (self.digits.as_str(), base)
     }
 
+    /// Returns the sign and the digits of an integer's lexeme.
     #[inline]
     pub(crate) fn from_word(
         alloc: Global,
@@ -68,7 +73,7 @@ impl<'a> Integer<'a> {
     }
 }
 
-/// What a digit stands for.
+/// Returns the value of a digit in base 36, or 36 for any other byte.
 fn digit(byte: u8) -> u64
     ensures { result ≡ digit_value byte }
 {
@@ -80,7 +85,7 @@ fn digit(byte: u8) -> u64
     }
 }
 
-/// The number with a digit after it.
+/// Returns the integer with one digit appended, or `None` if it is 2^64 or more.
 fn with_digit(value: u64, base: u64, byte: u8) -> Option<u64>
     ensures { MatchOption result (2 ^ 64 ≤ value * base + digit_value byte)
         (λ n. n ≡ value * base + digit_value byte) }
@@ -88,8 +93,8 @@ fn with_digit(value: u64, base: u64, byte: u8) -> Option<u64>
     value.checked_mul(base)?.checked_add(digit(byte))
 }
 
-/// The number that the digits of an integer write, as they are in a text after its sign and its
-/// `0x`: underscores among them do not count. None where it is 2^64 at least.
+/// Returns the value of the digits of an integer, which are without sign and `0x`, or `None` if it
+/// is 2^64 or more. Ignores underscores.
 pub fn magnitude(digits: &[u8], hex: bool) -> Option<u64>
     ensures { MatchOption result (2 ^ 64 ≤ digits_value (base hex) (joined digits.now))
         (λ n. n ≡ digits_value (base hex) (joined digits.now)) }
@@ -104,7 +109,7 @@ pub fn magnitude(digits: &[u8], hex: bool) -> Option<u64>
     Some(value)
 }
 
-/// The number that an integer's word writes, its sign left out; None where it is 2^64 at least.
+/// Returns the absolute value of an integer's lexeme, or `None` if it is 2^64 or more.
 pub(crate) fn magnitude_of(word: &str, kind: IntegerKind) -> Option<u64>
     requires { Number word.now (token_kind.Integer kind) }
     ensures { MatchOption result (2 ^ 64 ≤ integer_value kind.hex word.now)
@@ -114,35 +119,37 @@ pub(crate) fn magnitude_of(word: &str, kind: IntegerKind) -> Option<u64>
     magnitude(digits, kind.hex)
 }
 
-/// A floating-point number of a text, cut into its parts.
+/// A floating-point token, split into its parts.
 #[derive(Debug, Drop, PartialEq, Eq)]
 pub enum Float<'a> {
-    /// `nan`, with the digits of its payload.
+    /// `nan`, with the digits of its payload, if any.
     Nan {
         /// The payload's hexadecimal digits after `nan:0x`, without underscores.
         val: Option<CowStr<'a>>,
-        /// Whether it begins with `-`.
+        /// `true` if the number begins with `-`.
         negative: bool,
     },
-    /// `inf`
+    /// `inf`, with or without a sign.
     Inf {
-        /// Whether it begins with `-`.
+        /// `true` if the number begins with `-`.
         negative: bool,
     },
-    /// Digits before the dot, after it, and of the exponent, each without `+` and underscores.
+    /// A number with a dot or an exponent. Its parts are without `+` and underscores.
     Val {
-        /// Whether the digits are hexadecimal. Those of the exponent never are.
+        /// `true` if the digits are hexadecimal. Those of the exponent are always decimal.
         hex: bool,
-        /// The digits before the dot, without `0x`; a `-` is kept.
+        /// The digits before the dot, without `0x`, after a `-` if the number is negative.
         integral: CowStr<'a>,
-        /// The digits after the dot, None where there are none.
+        /// The digits after the dot, or `None` if there are none.
         fractional: Option<CowStr<'a>>,
-        /// The digits of the exponent, None where there is none; a `-` is kept.
+        /// The digits of the exponent, after a `-` if it is negative, or `None` if there is no
+        /// exponent.
         exponent: Option<CowStr<'a>>,
     },
 }
 
 impl<'a> Float<'a> {
+    /// Returns the parts of a floating-point number's lexeme.
     #[inline]
     pub(crate) fn from_word(
         alloc: Global,
@@ -178,6 +185,7 @@ impl<'a> Float<'a> {
     }
 }
 
+/// Returns the lexeme without a `+` at its start.
 #[inline]
 fn without_plus(word: &str) -> &str
     ensures { result.now ≡ without_plus word.now }
@@ -189,7 +197,7 @@ fn without_plus(word: &str) -> &str
     &word[1..]
 }
 
-/// What comes after `0x`, where a number is hexadecimal.
+/// Returns the digits after `0x` of a hexadecimal number, and a decimal number unchanged.
 fn after_prefix(number: &[u8], hex: bool) -> &[u8]
     requires long { hex ≡ true → 2 ≤ length number.now }
     ensures { result.now ≡ after_prefix hex number.now }
@@ -197,7 +205,7 @@ fn after_prefix(number: &[u8], hex: bool) -> &[u8]
     if hex { &number[2..] } else { number }
 }
 
-/// Writes the digits after a text, without underscores.
+/// Appends digits to a text, without underscores.
 fn push_joined(text: &mut String, digits: &[u8]) -> Result<(), AllocError>
     requires ascii { IsAscii digits.now }
     ensures { OnOk result (string_bytes text.new ≡ string_bytes text.old ++ joined digits.now) }
@@ -210,7 +218,7 @@ fn push_joined(text: &mut String, digits: &[u8]) -> Result<(), AllocError>
     Ok(())
 }
 
-/// Writes a number's digits after a text, without sign, underscores and `0x`.
+/// Appends a number's digits to a text, without sign, underscores and `0x`.
 fn push_digits(
     text: &mut String,
     word: &str,
@@ -230,8 +238,9 @@ fn push_digits(
     text.push_str(&word[word.len() - digits.len()..])
 }
 
-/// A number's digits without `+`, underscores and `0x`, a `-` kept, in memory of their own.
-// It stays a call, so that digits that are as they are written are read at once.
+/// Copies a number's digits, without `+`, underscores and `0x`, after a `-` if the number is
+/// negative.
+// It stays a call, so that digits that are borrowed are returned without one.
 #[inline(never)]
 fn joined_text<'a>(
     alloc: Global,
@@ -252,7 +261,8 @@ fn joined_text<'a>(
     Ok(CowStr::Owned(text))
 }
 
-/// A number's digits without `+`, underscores and `0x`, a `-` kept.
+/// Returns a number's digits, without `+`, underscores and `0x`, after a `-` if the number is
+/// negative. They are borrowed if they are decimal and have no underscores.
 #[inline(always)]
 fn number_text<'a>(
     alloc: Global,
@@ -272,7 +282,7 @@ fn number_text<'a>(
     joined_text(alloc, word, hex, underscores)
 }
 
-/// The digits after `nan:0x`, without underscores.
+/// Returns the digits of a payload after `nan:0x`, without underscores.
 fn payload<'a>(alloc: Global, word: &'a str, underscores: bool) -> Result<CowStr<'a>, AllocError>
     requires ascii { IsAscii word.now }
     requires payload { Payload (unsigned word.now) }
@@ -285,7 +295,7 @@ fn payload<'a>(alloc: Global, word: &'a str, underscores: bool) -> Result<CowStr
     number_text(alloc, &word[start..], false, underscores)
 }
 
-/// Cuts a float's word after its first digits.
+/// Splits a floating-point number's lexeme after the digits before its dot or exponent.
 fn split_integral(word: &str, hex: bool) -> (&str, &str)
     requires ascii { IsAscii word.now }
     requires decimals { Decimals hex (unsigned word.now) }
@@ -300,7 +310,7 @@ fn split_integral(word: &str, hex: bool) -> (&str, &str)
     }
 }
 
-/// The digits after a dot, and what follows them.
+/// Returns the digits after a dot, if any, and the exponent after them.
 #[inline]
 fn split_fraction(tail: &str, hex: bool) -> (Option<&str>, &str)
     requires ascii { IsAscii tail.now }
@@ -321,7 +331,7 @@ fn split_fraction(tail: &str, hex: bool) -> (Option<&str>, &str)
     }
 }
 
-/// What comes after an exponent's letter.
+/// Returns an exponent without its letter, or `None` if the text is empty.
 #[inline]
 fn after_letter(rest: &str) -> Option<&str>
     requires ascii { IsAscii rest.now }
@@ -335,7 +345,7 @@ fn after_letter(rest: &str) -> Option<&str>
     }
 }
 
-/// A decimal part of a number, where there is one.
+/// Returns a decimal part of a number without `+` and underscores, if there is such a part.
 #[inline]
 fn optional_text<'a>(
     alloc: Global,
@@ -357,7 +367,7 @@ fn optional_text<'a>(
     }
 }
 
-/// The parts of a float's word.
+/// Splits a floating-point number's lexeme into its parts.
 fn decimals<'a>(
     alloc: Global,
     word: &'a str,

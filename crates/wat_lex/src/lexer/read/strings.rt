@@ -17,13 +17,14 @@ use memchr::memchr;
 use std::alloc::{AllocError, Global};
 use std::borrow::CowStr;
 
-/// The flags with which each string that any flags take is a string.
+/// The most permissive settings: they accept every string that any settings accept.
 const LENIENT: Settings = Settings {
     allow: true,
     strict: false,
 };
 
-/// The value of the elements that a closing quote ends, if no escape is among them.
+/// Returns the value of a string if it has no escape. `elements` is the rest of a string, with its
+/// closing quote.
 pub fn plain(elements: &str) -> Option<&str>
     requires { IsQuoted (chars elements.now) }
     ensures value { IfSome result (λ value. Quoted lenient (chars elements.now) value.now []) }
@@ -37,7 +38,7 @@ pub fn plain(elements: &str) -> Option<&str>
     }
 }
 
-/// Appends what an escape stands for.
+/// Appends the value of an escape.
 fn append(value: &mut Vec<u8>, read: EscapeValue) -> Result<(), AllocError>
     ensures { OnOk result (value.new.items ≡ value.old.items ++ escape_bytes read) }
 {
@@ -51,8 +52,9 @@ fn append(value: &mut Vec<u8>, read: EscapeValue) -> Result<(), AllocError>
     Ok(())
 }
 
-/// What a hexadecimal digit stands for.
-// Its lower half is the digit, and 9 less for a letter: without a branch, as digits may be any.
+/// Returns the value of a hexadecimal digit.
+// The lower four bits are the digit, or 9 less than it for a letter. A branch is avoided, since
+// digits are not predictable.
 #[inline(always)]
 fn digit(byte: u8) -> u8
     requires { is_hex byte ≡ true }
@@ -62,7 +64,7 @@ fn digit(byte: u8) -> u8
     (byte & 15) + 9 * (byte >> 6)
 }
 
-/// The byte of an escape of two hexadecimal digits at the start, and what comes after it.
+/// Returns the byte of an escape of two hexadecimal digits at the start, and the text after it.
 #[inline]
 pub fn byte_escape(text: &str) -> Option<(u8, &str)>
     ensures element { IfSome result (λ found.
@@ -77,12 +79,13 @@ pub fn byte_escape(text: &str) -> Option<(u8, &str)>
     Some((16 * digit(bytes[1]) + digit(bytes[2]), &text[3..]))
 }
 
-/// What the escape at the start of elements stands for that a closing quote ends, and what comes
-/// after it.
+/// Returns the value of the escape at the start, and the elements after it. `elements` is the rest
+/// of a string, with its closing quote.
 pub fn first_escape(elements: &str) -> (EscapeValue, &str)
     requires quoted { IsQuoted (chars elements.now) }
     requires first { IsFirstByte (is_byte 92) elements.now (Some 0) }
-    ensures element { Element lenient (chars elements.now) (escape_bytes result.0) (chars result.1.now) }
+    ensures element { Element lenient
+        (chars elements.now) (escape_bytes result.0) (chars result.1.now) }
     ensures utf8 { IsUtf8 result.1.now }
     ensures shorter { length result.1.now < length elements.now }
 {
@@ -93,7 +96,8 @@ pub fn first_escape(elements: &str) -> (EscapeValue, &str)
     }
 }
 
-/// The value of the elements that a closing quote ends.
+/// Returns the value of a string with its escapes decoded. `elements` is the rest of a string, with
+/// its closing quote.
 pub fn unescaped(alloc: Global, elements: &str) -> Result<Vec<u8>, AllocError>
     requires { IsQuoted (chars elements.now) }
     ensures { IfOk result (λ value. Quoted lenient (chars elements.now) value.items []) }
@@ -127,7 +131,8 @@ pub fn unescaped(alloc: Global, elements: &str) -> Result<Vec<u8>, AllocError>
     }
 }
 
-/// The name that a text is, None where its bytes are not UTF-8.
+/// Returns the name that a text after `$` or `@` stands for, or `None` if its bytes are not UTF-8.
+/// It is borrowed, without an allocation, if it has no escape.
 pub fn name<'a>(alloc: Global, text: &'a str) -> Result<Option<CowStr<'a>>, AllocError>
     requires { IsNamed (chars text.now) }
     ensures some { IfOk result (λ found. IfSome found (λ name.

@@ -1,4 +1,4 @@
-//! Tests of 16 bytes at once.
+//! Classification of 16 bytes at once.
 ghost use Rattle.std.specs.Prelude.{◌≡◌, ◌≤◌, ◌+◌, ◌==◌, length, map};
 ghost use Rattle.std.specs.Char.{is_ascii_digit};
 ghost use Rattle.std.specs.Simd.Lanes.{chunk, mask_l};
@@ -10,29 +10,33 @@ use std::simd::prelude::*;
 
 mod compared;
 
-/// Whether bytes are looked up in tables, which takes a shuffle; comparisons answer the same.
+/// `true` to classify bytes by tables, which needs a shuffle instruction, and `false` to classify
+/// them by comparisons. The results are equal.
 const BY_SHUFFLE: bool = true;
 
-/// By a byte's low four bits. An idchar has a bit in common with `IDCHARS_BY_HIGH`.
+/// Table by a byte's low four bits. A byte is an idchar if and only if its entry has a bit in
+/// common with its entry of `IDCHARS_BY_HIGH`.
 const IDCHARS_BY_LOW: [u8; 16] = [30, 31, 30, 31, 31, 31, 31, 31, 30, 30, 31, 5, 30, 7, 31, 15];
 
-/// By a byte's high four bits.
+/// Table by a byte's high four bits, for idchars.
 const IDCHARS_BY_HIGH: [u8; 16] = [0, 0, 1, 2, 4, 8, 4, 16, 0, 0, 0, 0, 0, 0, 0, 0];
 
-/// By a byte's low four bits. A hexadecimal digit has a bit in common with `HEX_DIGITS_BY_HIGH`.
+/// Table by a byte's low four bits. A byte is a hexadecimal digit if and only if its entry has a
+/// bit in common with its entry of `HEX_DIGITS_BY_HIGH`.
 const HEX_DIGITS_BY_LOW: [u8; 16] = [1, 3, 3, 3, 3, 3, 3, 1, 1, 1, 0, 0, 0, 0, 0, 0];
 
-/// By a byte's high four bits.
+/// Table by a byte's high four bits, for hexadecimal digits.
 const HEX_DIGITS_BY_HIGH: [u8; 16] = [0, 0, 0, 1, 2, 0, 2, 0, 0, 0, 0, 0, 0, 0, 0, 0];
 
-/// By a byte's low four bits: the one byte of whitespace that ends so, or a byte that does not.
+/// Table by a byte's low four bits: the whitespace with these bits, or a byte with others if there
+/// is none.
 const WHITESPACE_BY_LOW: [u8; 16] = [32, 0, 0, 0, 0, 0, 0, 0, 0, 9, 10, 0, 0, 13, 0, 0];
 
-/// By a byte's low four bits: the one byte that is not plain in a line and ends so, or a byte that
-/// does not.
+/// Table by a byte's low four bits: the line end or 0xE2 with these bits, or a byte with others if
+/// there is none.
 const NOT_PLAIN_IN_LINE_BY_LOW: [u8; 16] = [1, 0, 226, 0, 0, 0, 0, 0, 0, 0, 10, 0, 0, 13, 0, 0];
 
-/// The 16 bytes at a place.
+/// Returns the 16 bytes from index `i` on.
 #[inline(always)]
 pub fn block_at(text: &[u8], i: usize) -> u8x16
     requires { i + 16 ≤ length text.now }
@@ -41,7 +45,7 @@ pub fn block_at(text: &[u8], i: usize) -> u8x16
     u8x16::from_slice(&text[i..])
 }
 
-/// A bit for each byte that is no idchar, the lowest for the first.
+/// Returns a bit mask of the bytes that are not idchars. The lowest bit is the first byte's.
 #[inline(always)]
 pub fn other_than_idchars(block: u8x16) -> u64
     ensures { result ≡ failures is_idchar block }
@@ -54,7 +58,7 @@ pub fn other_than_idchars(block: u8x16) -> u64
     (low & high).simd_eq(u8x16::splat(0)).to_bitmask()
 }
 
-/// A bit for each byte that is no decimal digit, the lowest for the first.
+/// Returns a bit mask of the bytes that are not decimal digits. The lowest bit is the first byte's.
 #[inline(always)]
 pub fn other_than_digits(block: u8x16) -> u64
     ensures { result ≡ failures is_ascii_digit block }
@@ -62,7 +66,8 @@ pub fn other_than_digits(block: u8x16) -> u64
     (block.simd_lt(u8x16::splat(b'0')) | u8x16::splat(b'9').simd_lt(block)).to_bitmask()
 }
 
-/// A bit for each byte that is no hexadecimal digit, the lowest for the first.
+/// Returns a bit mask of the bytes that are not hexadecimal digits. The lowest bit is the first
+/// byte's.
 #[inline(always)]
 pub fn other_than_hex_digits(block: u8x16) -> u64
     ensures { result ≡ failures is_hex block }
@@ -75,7 +80,7 @@ pub fn other_than_hex_digits(block: u8x16) -> u64
     (low & high).simd_eq(u8x16::splat(0)).to_bitmask()
 }
 
-/// A bit for each byte that is no whitespace, the lowest for the first.
+/// Returns a bit mask of the bytes that are not whitespace. The lowest bit is the first byte's.
 #[inline(always)]
 pub fn other_than_whitespace(block: u8x16) -> u64
     ensures { result ≡ failures is_whitespace block }
@@ -87,7 +92,7 @@ pub fn other_than_whitespace(block: u8x16) -> u64
     wanted.simd_ne(block).to_bitmask()
 }
 
-/// A bit for each `;`, the lowest for the first.
+/// Returns a bit mask of the bytes that are `;`. The lowest bit is the first byte's.
 #[inline(always)]
 pub fn semicolons(block: u8x16) -> u64
     ensures { result ≡ failures other_than_semicolon block }
@@ -95,7 +100,7 @@ pub fn semicolons(block: u8x16) -> u64
     block.simd_eq(u8x16::splat(b';')).to_bitmask()
 }
 
-/// A bit for each byte that is this one, the lowest for the first.
+/// Returns a bit mask of the bytes that equal `byte`. The lowest bit is the first byte's.
 #[inline(always)]
 pub fn equal_to(block: u8x16, byte: u8) -> u64
     ensures { result ≡ mask_l (map (λ b. b == byte) block) }
@@ -103,8 +108,8 @@ pub fn equal_to(block: u8x16, byte: u8) -> u64
     block.simd_eq(u8x16::splat(byte)).to_bitmask()
 }
 
-/// A bit for each byte that ends a line or may begin a confusing character, the lowest for the
-/// first.
+/// Returns a bit mask of the bytes that end a line or are 0xE2, with which every confusing
+/// character begins. The lowest bit is the first byte's.
 #[inline(always)]
 pub fn other_than_plain_in_line(block: u8x16) -> u64
     ensures { result ≡ failures is_plain_in_line block }
@@ -116,8 +121,8 @@ pub fn other_than_plain_in_line(block: u8x16) -> u64
     stop.simd_eq(block).to_bitmask()
 }
 
-/// A bit for each byte that is no ASCII or is below 14, as line ends and tabs do, the lowest for
-/// the first.
+/// Returns a bit mask of the bytes that are below 14, as line ends and TABs are, or not ASCII. The
+/// lowest bit is the first byte's.
 #[inline(always)]
 pub fn other_than_surely_plain(block: u8x16) -> u64
     ensures { result ≡ failures is_surely_plain block }

@@ -1,4 +1,4 @@
-//! Classes of bytes and characters.
+//! Classes of bytes and characters, and the lengths of their sequences.
 ghost use Rattle.std.specs.Prelude.{◌≡◌};
 ghost use Rattle.std.specs.Char.{is_ascii_digit};
 ghost use Rattle.std.specs.List.{prefix_len};
@@ -10,15 +10,19 @@ use crate::lexer::scan::blocks::{
     block_at, other_than_digits, other_than_hex_digits, other_than_idchars, other_than_whitespace,
 };
 
+/// The bit of idchars and quotes in `CLASSES`: the bytes with which a run begins.
 const RUN_CHAR: u8 = 1;
 
+/// The bit of idchars in `CLASSES`.
 const IDCHAR: u8 = 2;
 
+/// The bit of hexadecimal digits in `CLASSES`.
 const HEX_DIGIT: u8 = 4;
 
+/// The bit of whitespace in `CLASSES`.
 const WHITESPACE: u8 = 8;
 
-/// The classes of each byte, a bit each, in rows of 32 bytes.
+/// The classes of each byte, with a bit for each class, in rows of 32 bytes.
 const CLASSES: [u8; 256] = [
     0, 0, 0, 0, 0, 0, 0, 0, 0, 8, 8, 0, 0, 8, 0, 0, 0, 0, 0, 0, 0, 0, 0, 0, 0, 0, 0, 0, 0, 0, 0, 0,
     8, 3, 1, 3, 3, 3, 3, 3, 0, 0, 3, 3, 0, 3, 3, 3, 7, 7, 7, 7, 7, 7, 7, 7, 7, 7, 3, 0, 3, 3, 3, 3,
@@ -30,36 +34,42 @@ const CLASSES: [u8; 256] = [
     0, 0, 0, 0, 0, 0, 0, 0, 0, 0, 0, 0, 0, 0, 0, 0, 0, 0, 0, 0, 0, 0, 0, 0, 0, 0, 0, 0, 0, 0, 0, 0,
 ];
 
+/// Returns `true` for space, LF, CR and TAB.
 pub fn is_whitespace(b: u8) -> bool
     ensures { result ≡ is_whitespace b }
 {
     CLASSES[b as usize] & WHITESPACE != 0
 }
 
+/// Returns `true` for an idchar.
 pub fn is_idchar(b: u8) -> bool
     ensures { result ≡ is_idchar b }
 {
     CLASSES[b as usize] & IDCHAR != 0
 }
 
+/// Returns `true` for an idchar or a quote, with which a run begins.
 pub fn is_run_char(b: u8) -> bool
     ensures { result ≡ is_run_char b }
 {
     CLASSES[b as usize] & RUN_CHAR != 0
 }
 
+/// Returns `true` for a byte that is a hexadecimal digit.
 pub fn is_hex_digit(b: u8) -> bool
     ensures { result ≡ is_hex b }
 {
     CLASSES[b as usize] & HEX_DIGIT != 0
 }
 
+/// Returns `true` for a character that is a hexadecimal digit.
 pub fn is_hex(c: char) -> bool
     ensures { result ≡ is_hex c }
 {
     matches!(c, '0'..='9' | 'A'..='F' | 'a'..='f')
 }
 
+/// Returns `true` for one of the 9 confusing characters, which can change how a text is displayed.
 pub fn is_confusing(c: char) -> bool
     ensures { result ≡ is_confusing c }
 {
@@ -77,6 +87,7 @@ pub fn is_confusing(c: char) -> bool
     )
 }
 
+/// Returns the number of leading whitespace bytes, a byte at a time.
 #[inline(never)]
 fn whitespace_len_by_byte(text: &[u8]) -> usize
     ensures { result ≡ prefix_len is_whitespace text.now }
@@ -88,6 +99,7 @@ fn whitespace_len_by_byte(text: &[u8]) -> usize
     i
 }
 
+/// Returns the number of leading whitespace bytes, a block at a time.
 #[inline]
 fn whitespace_len_by_block(text: &[u8]) -> usize
     ensures { result ≡ prefix_len is_whitespace text.now }
@@ -103,8 +115,8 @@ fn whitespace_len_by_block(text: &[u8]) -> usize
     i + whitespace_len_by_byte(&text[i..])
 }
 
-/// How many bytes of whitespace are at the start of what follows a first one. Mostly there are
-/// none.
+/// Returns the number of leading whitespace bytes of the text after a first one. Usually there are
+/// none, which is tested first.
 #[inline(always)]
 pub fn whitespace_len(text: &[u8], stride: Stride) -> usize
     ensures { result ≡ prefix_len is_whitespace text.now }
@@ -118,8 +130,8 @@ pub fn whitespace_len(text: &[u8], stride: Stride) -> usize
     }
 }
 
-/// How many bytes of whitespace are at the start. Mostly there is none, or one: a processor that
-/// guesses so goes on at once.
+/// Returns the number of leading whitespace bytes. The usual counts 0 and 1 are found by branches
+/// that a processor predicts well.
 #[inline(always)]
 pub fn blank_len(text: &[u8]) -> usize
     ensures { result ≡ prefix_len is_whitespace text.now }
@@ -130,7 +142,8 @@ pub fn blank_len(text: &[u8]) -> usize
     1 + whitespace_len(&text[1..], Stride::Block)
 }
 
-// Where there are blocks, only the last word of a text is looked at so.
+/// Returns the number of leading idchars, a byte at a time. With blocks, it is used only for the
+/// last bytes of a text.
 #[inline(never)]
 fn idchar_len_by_byte(text: &[u8]) -> usize
     ensures { result ≡ prefix_len is_idchar text.now }
@@ -142,7 +155,7 @@ fn idchar_len_by_byte(text: &[u8]) -> usize
     i
 }
 
-/// How many idchars are at the start, found a block at a time.
+/// Returns the number of leading idchars, a block at a time.
 #[inline]
 pub fn idchar_len_by_block(text: &[u8]) -> usize
     ensures { result ≡ prefix_len is_idchar text.now }
@@ -158,7 +171,7 @@ pub fn idchar_len_by_block(text: &[u8]) -> usize
     i + idchar_len_by_byte(&text[i..])
 }
 
-/// How many idchars are at the start. Mostly there are some.
+/// Returns the number of leading idchars, of which there usually are some.
 #[inline(always)]
 pub fn word_len(text: &[u8], stride: Stride) -> usize
     ensures { result ≡ prefix_len is_idchar text.now }
@@ -169,7 +182,8 @@ pub fn word_len(text: &[u8], stride: Stride) -> usize
     }
 }
 
-/// How many idchars are at the start. Mostly a block has all of them, so that no call is made.
+/// Returns the number of leading idchars. Usually they end within the first block, and then no
+/// function is called.
 #[inline(always)]
 pub fn keyword_len(text: &[u8], stride: Stride) -> usize
     ensures { result ≡ prefix_len is_idchar text.now }
@@ -183,7 +197,8 @@ pub fn keyword_len(text: &[u8], stride: Stride) -> usize
     word_len(text, stride)
 }
 
-/// How many idchars are at the start. Around a string it is mostly none.
+/// Returns the number of leading idchars. Next to a string there usually are none, which is tested
+/// first.
 #[inline]
 pub fn idchar_len(text: &[u8]) -> usize
     ensures { result ≡ prefix_len is_idchar text.now }
@@ -194,6 +209,7 @@ pub fn idchar_len(text: &[u8]) -> usize
     }
 }
 
+/// Returns the number of leading decimal digits, a byte at a time.
 fn digit_len_by_byte(text: &[u8]) -> usize
     ensures { result ≡ prefix_len is_ascii_digit text.now }
 {
@@ -204,6 +220,7 @@ fn digit_len_by_byte(text: &[u8]) -> usize
     i
 }
 
+/// Returns the number of leading decimal digits, a block at a time.
 #[inline]
 fn digit_len_by_block(text: &[u8]) -> usize
     ensures { result ≡ prefix_len is_ascii_digit text.now }
@@ -219,7 +236,7 @@ fn digit_len_by_block(text: &[u8]) -> usize
     i + digit_len_by_byte(&text[i..])
 }
 
-/// How many decimal digits are at the start.
+/// Returns the number of leading decimal digits.
 #[inline(always)]
 pub fn digit_len(text: &[u8], stride: Stride) -> usize
     ensures { result ≡ prefix_len is_ascii_digit text.now }
@@ -230,6 +247,7 @@ pub fn digit_len(text: &[u8], stride: Stride) -> usize
     }
 }
 
+/// Returns the number of leading hexadecimal digits, a byte at a time.
 fn hex_digit_len_by_byte(text: &[u8]) -> usize
     ensures { result ≡ prefix_len is_hex text.now }
 {
@@ -240,6 +258,7 @@ fn hex_digit_len_by_byte(text: &[u8]) -> usize
     i
 }
 
+/// Returns the number of leading hexadecimal digits, a block at a time.
 #[inline]
 fn hex_digit_len_by_block(text: &[u8]) -> usize
     ensures { result ≡ prefix_len is_hex text.now }
@@ -255,7 +274,7 @@ fn hex_digit_len_by_block(text: &[u8]) -> usize
     i + hex_digit_len_by_byte(&text[i..])
 }
 
-/// How many hexadecimal digits are at the start.
+/// Returns the number of leading hexadecimal digits.
 #[inline(always)]
 pub fn hex_digit_len(text: &[u8], stride: Stride) -> usize
     ensures { result ≡ prefix_len is_hex text.now }

@@ -1,5 +1,17 @@
-//! Comments.
-ghost use Rattle.std.specs.Prelude.{◌≡◌, ◌<◌, ◌≤◌, ◌+◌, ℕ, List, not, length, drop, slice_index, IfSome};
+//! Scanning of comments.
+ghost use Rattle.std.specs.Prelude.{
+  ◌≡◌,
+  ◌<◌,
+  ◌≤◌,
+  ◌+◌,
+  ℕ,
+  List,
+  not,
+  length,
+  drop,
+  slice_index,
+  IfSome,
+};
 ghost use Rattle.std.specs.Prelude.{IfNone, MatchOption, IfOk, IfErr, IsTrue};
 ghost use Rattle.std.specs.List.{prefix_len};
 ghost use Rattle.std.specs.Str.{chars, NonePass};
@@ -11,7 +23,7 @@ ghost use Rattle.wat_lex.specs.declared.lexer.kinds.TokenKind.TheVariants.{LineC
 ghost use Rattle.wat_lex.specs.declared.lexer.kinds.TokenKind.TheVariants.{BlockComment};
 ghost use Rattle.wat_lex.specs.inside.Blocks.{GoesOn, is_plain_in_line, other_than_semicolon};
 ghost use Rattle.wat_lex.specs.inside.Nesting.{Reaches, opens_at, closes_at, passing};
-ghost use Rattle.wat_lex.specs.inside.Outlines.{IsRefused};
+ghost use Rattle.wat_lex.specs.inside.Outlines.{BeginsWithFault};
 ghost use Rattle.wat_lex.specs.tokens.Setting.{allowing};
 
 use crate::lexer::faults::{LexError, LexFault};
@@ -23,15 +35,15 @@ use crate::lexer::scan::classes::is_confusing;
 use crate::lexer::settings::Settings;
 use memchr::{memchr, memchr2, memchr3};
 
-/// How many bytes come before the end of the line.
+/// Returns the number of bytes before the line end.
 fn line_len(text: &[u8]) -> usize
     ensures { result ≡ prefix_len (λ c. not (is_line_end c)) text.now }
 {
     memchr2(b'\n', b'\r', text).unwrap_or(text.len())
 }
 
-/// The first confusing character, and where it is. Each of them has 0xE2 as its first byte, and
-/// no character has that byte at another place.
+/// Returns the first confusing character and its offset. Searches for the byte 0xE2, with which
+/// each of them begins, and which is not a later byte of any character.
 pub fn first_confusing(text: &str) -> Option<(usize, char)>
     ensures { MatchOption result (NonePass is_confusing (chars text.now))
         (λ f. FirstConfusing text.now f.0 f.1) }
@@ -52,13 +64,14 @@ pub fn first_confusing(text: &str) -> Option<(usize, char)>
     None
 }
 
+/// Returns the number of bytes before the first line end or byte 0xE2, by a search.
 fn plain_by_search(text: &[u8]) -> usize
     ensures { result ≡ prefix_len is_plain_in_line text.now }
 {
     memchr3(b'\n', b'\r', 0xe2, text).unwrap_or(text.len())
 }
 
-/// How many bytes come before a line's end, or a byte that may begin a confusing character.
+/// Returns the number of bytes before the first line end or byte 0xE2, a block at a time.
 fn plain_by_block(text: &[u8]) -> usize
     ensures { result ≡ prefix_len is_plain_in_line text.now }
 {
@@ -73,7 +86,7 @@ fn plain_by_block(text: &[u8]) -> usize
     i + plain_by_search(&text[i..])
 }
 
-/// Whether no byte of the four blocks at a place ends the line or may begin a confusing character.
+/// Returns `true` if the 64 bytes from index `i` on contain neither a line end nor a byte 0xE2.
 #[inline(always)]
 fn four_are_plain(text: &[u8], i: usize) -> bool
     requires { i + 64 ≤ length text.now }
@@ -86,7 +99,9 @@ fn four_are_plain(text: &[u8], i: usize) -> bool
     first | second | third | fourth == 0
 }
 
-/// The same by a test that costs half as much, and fails at a tab and beyond ASCII too.
+/// Returns `true` if the 64 bytes from index `i` on are ASCII and not below 14, so that they
+/// contain neither a line end nor a byte 0xE2. It costs half as much as [`four_are_plain`], but
+/// also fails at TABs and beyond ASCII.
 #[inline(always)]
 fn four_are_surely_plain(text: &[u8], i: usize) -> bool
     requires { i + 64 ≤ length text.now }
@@ -99,6 +114,7 @@ fn four_are_surely_plain(text: &[u8], i: usize) -> bool
     first | second | third | fourth == 0
 }
 
+/// Returns the number of bytes before the first line end or byte 0xE2, four blocks at a time.
 fn plain_by_four_blocks(text: &[u8]) -> usize
     ensures { result ≡ prefix_len is_plain_in_line text.now }
 {
@@ -109,8 +125,8 @@ fn plain_by_four_blocks(text: &[u8]) -> usize
     i + plain_by_block(&text[i..])
 }
 
-/// How many bytes come before a line's end, or a byte that may begin a confusing character. Most
-/// comments end in the first blocks.
+/// Returns the number of bytes before the first line end or byte 0xE2, with which every confusing
+/// character begins. Most comments end in the first 64 bytes, which are examined by single blocks.
 fn plain_len_in_line(text: &[u8]) -> usize
     ensures { result ≡ prefix_len is_plain_in_line text.now }
 {
@@ -122,14 +138,15 @@ fn plain_len_in_line(text: &[u8]) -> usize
     near + plain_by_four_blocks(&text[near..])
 }
 
+/// Returns the number of bytes before the first `;`, by a search.
 fn semicolon_by_search(text: &[u8]) -> usize
     ensures { result ≡ prefix_len other_than_semicolon text.now }
 {
     memchr(b';', text).unwrap_or(text.len())
 }
 
-/// How many bytes come before the first `;`. Its code stays out of the loop that calls it, which
-/// makes nested comments faster.
+/// Returns the number of bytes before the first `;`, a block at a time. It is not inlined into the
+/// loop that calls it, which makes nested comments faster.
 #[inline(never)]
 fn semicolon_by_block(text: &[u8]) -> usize
     ensures { result ≡ prefix_len other_than_semicolon text.now }
@@ -145,8 +162,8 @@ fn semicolon_by_block(text: &[u8]) -> usize
     i + semicolon_by_search(&text[i..])
 }
 
-/// A bit for each of 16 places where `(;` is, and for each where `;)` is, the lowest for the
-/// first.
+/// Returns two bit masks of the 16 bytes from index `i` on: those at which `(;` begins, and those
+/// at which `;)` begins. The lowest bit is the first byte's.
 #[inline(always)]
 fn delimiters(text: &[u8], i: usize) -> (u64, u64)
     requires { i + 17 ≤ length text.now }
@@ -160,9 +177,10 @@ fn delimiters(text: &[u8], i: usize) -> (u64, u64)
     (opens, closes)
 }
 
-/// How many comments are open further on, and where, with so many open at a place. It counts by
-/// blocks while more are open than a block can close, up to a `(;)`, of whose two delimiters only the
-/// first is one.
+/// Skips blocks inside nested comments, of which `opened` must be open at index `place`. Returns
+/// the number of comments that are open at a later index, and that index. Stops if at most 16 are
+/// open, which a block might close, at a block with `(;)`, of whose two delimiters only the first
+/// counts, or within 16 bytes of the end of the text.
 #[inline(never)]
 fn past_blocks(text: &[u8], place: usize, opened: usize) -> (usize, usize)
     requires some { 0 < opened }
@@ -189,7 +207,8 @@ fn past_blocks(text: &[u8], place: usize, opened: usize) -> (usize, usize)
     (level, i)
 }
 
-/// How many bytes the items of a block comment and its `;)` take, after its `(;`.
+/// Returns the length in bytes of a block comment after its `(;`, including its `;)`, or `None` if
+/// it is unterminated.
 fn closing_len(text: &[u8]) -> Option<usize>
     ensures range { IfSome result (λ n. n ≤ length text.now) }
     ensures found { IfSome result (λ n. Closes text.now (drop n text.now)) }
@@ -219,7 +238,8 @@ fn closing_len(text: &[u8]) -> Option<usize>
     None
 }
 
-/// The length of a comment that is at the start, unless it has a confusing character.
+/// Returns the length in bytes of the comment at the start, or an error if it has a confusing
+/// character that is not allowed.
 fn checked(text: &str, comment: Lexeme, flags: Settings) -> Result<usize, LexFault>
     requires comment { IsComment comment.kind }
     requires found { LexemeFound (allowing flags) text.now comment }
@@ -239,7 +259,8 @@ fn checked(text: &str, comment: Lexeme, flags: Settings) -> Result<usize, LexFau
     }
 }
 
-/// The length of the block comment at the start of a text that begins with `(;`.
+/// Returns the length in bytes of the block comment at the start, or the lexical error. The text
+/// must begin with `(;`.
 pub fn block_comment(text: &str, flags: Settings) -> Result<usize, LexFault>
     requires opened { (slice_index text.now 0 ≡ 40) × (slice_index text.now 1 ≡ 59) }
     ensures ok { IfOk result (λ len.
@@ -261,7 +282,8 @@ pub fn block_comment(text: &str, flags: Settings) -> Result<usize, LexFault>
     }
 }
 
-/// The length of the line comment at the start of a text that begins with `;;`.
+/// Returns the length in bytes of the line comment at the start, or the lexical error. The text
+/// must begin with `;;`.
 pub fn line_comment(text: &str, flags: Settings) -> Result<usize, LexFault>
     requires begun { (slice_index text.now 0 ≡ 59) × (slice_index text.now 1 ≡ 59) }
     ensures ok { IfOk result (λ len.
@@ -281,13 +303,14 @@ pub fn line_comment(text: &str, flags: Settings) -> Result<usize, LexFault>
     checked(text, comment, flags)
 }
 
-/// How many bytes the block comment has with which the text begins, and None at a fault in it.
+/// Returns the length in bytes of the block comment at the start, or `None` at a lexical error. The
+/// text must begin with `(;`.
 #[inline(never)]
 pub fn block_comment_len(text: &str, flags: Settings) -> Option<usize>
     requires opened { (slice_index text.now 0 ≡ 40) × (slice_index text.now 1 ≡ 59) }
     ensures some { IfSome result (λ len.
         LexemeFound flags text.now (record { kind = BlockComment; len = len })) }
-    ensures none { IfNone result (IsRefused flags text.now) }
+    ensures none { IfNone result (BeginsWithFault flags text.now) }
 {
     match block_comment(text, flags) {
         Ok(len) => Some(len),
@@ -295,13 +318,14 @@ pub fn block_comment_len(text: &str, flags: Settings) -> Option<usize>
     }
 }
 
-/// How many bytes the line comment has with which the text begins, and None at a fault in it.
+/// Returns the length in bytes of the line comment at the start, or `None` at a lexical error. The
+/// text must begin with `;;`.
 #[inline(never)]
 pub fn line_comment_len(text: &str, flags: Settings) -> Option<usize>
     requires begun { (slice_index text.now 0 ≡ 59) × (slice_index text.now 1 ≡ 59) }
     ensures some { IfSome result (λ len.
         LexemeFound flags text.now (record { kind = LineComment; len = len })) }
-    ensures none { IfNone result (IsRefused flags text.now) }
+    ensures none { IfNone result (BeginsWithFault flags text.now) }
 {
     match line_comment(text, flags) {
         Ok(len) => Some(len),

@@ -1,5 +1,17 @@
-//! The words of numbers.
-ghost use Rattle.std.specs.Prelude.{◌≡◌, ◌≢◌, ◌↔◌, ◌≤◌, ◌++◌, ℕ, List, [], MatchOption, IfSome, IfNone};
+//! Classification of lexemes that may be numbers.
+ghost use Rattle.std.specs.Prelude.{
+  ◌≡◌,
+  ◌≢◌,
+  ◌↔◌,
+  ◌≤◌,
+  ◌++◌,
+  ℕ,
+  List,
+  [],
+  MatchOption,
+  IfSome,
+  IfNone,
+};
 ghost use Rattle.std.specs.Prelude.{IsTrue, codes, length, take};
 ghost use Rattle.std.specs.List.{prefix_len};
 ghost use Rattle.wat_lex.specs.declared.lexer.kinds.TokenKind.{TokenKind};
@@ -14,6 +26,7 @@ ghost use Rattle.wat_lex.specs.inside.ScannedNumbers.{PlainTail};
 use crate::lexer::kinds::{FloatKind, IntegerKind, Sign, Stride, TokenKind};
 use crate::lexer::scan::classes::{digit_len, hex_digit_len, is_hex_digit};
 
+/// Returns `true` for a hexadecimal digit if `hex`, and otherwise for a decimal digit.
 fn is_digit(b: u8, hex: bool) -> bool
     ensures { result ≡ is_digit hex b }
 {
@@ -24,14 +37,16 @@ fn is_digit(b: u8, hex: bool) -> bool
     }
 }
 
+/// Returns `true` for the letter of an exponent: `p` or `P` if `hex`, and otherwise `e` or `E`.
 pub fn is_exponent_letter(b: u8, hex: bool) -> bool
     ensures { result ≡ is_exponent_letter hex b }
 {
-    // With this bit a letter is a small one.
+    // This bit makes a letter lowercase.
     let small = b | 0x20;
     if hex { small == b'p' } else { small == b'e' }
 }
 
+/// Returns the sign at the start of a lexeme.
 pub fn sign_of(word: &[u8]) -> Sign
     ensures { result ≡ sign_of word.now }
 {
@@ -42,13 +57,14 @@ pub fn sign_of(word: &[u8]) -> Sign
     }
 }
 
+/// Returns `true` if a lexeme begins with `-`.
 pub fn is_negative(word: &[u8]) -> bool
     ensures { result ≡ is_negative word.now }
 {
     matches!(word, [b'-', ..])
 }
 
-/// The word without its sign.
+/// Returns a lexeme without its sign.
 pub fn unsigned(word: &[u8]) -> &[u8]
     ensures { result.now ≡ unsigned word.now }
 {
@@ -58,13 +74,14 @@ pub fn unsigned(word: &[u8]) -> &[u8]
     }
 }
 
+/// Returns `true` if a lexeme has an underscore.
 fn has_underscores(word: &[u8]) -> bool
     ensures { result ≡ has_underscores word.now }
 {
     word.contains(&b'_')
 }
 
-/// What follows a prefix of the text.
+/// Returns the text after a prefix, or `None` if it does not begin with the prefix.
 pub fn past_prefix<'a>(text: &'a [u8], prefix: &[u8]) -> Option<&'a [u8]>
     ensures { MatchOption result ((rest : List ℕ) → text.now ≢ prefix.now ++ rest)
         (λ rest. text.now ≡ prefix.now ++ rest.now) }
@@ -72,8 +89,8 @@ pub fn past_prefix<'a>(text: &'a [u8], prefix: &[u8]) -> Option<&'a [u8]>
     text.strip_prefix(prefix)
 }
 
-/// What follows the digits at the start, and None where there are none or an underscore is
-/// alone.
+/// Returns the text after the digits at the start, which single underscores may separate. Returns
+/// `None` if there are none, or if an underscore after them is not followed by a digit.
 pub fn after_digits(text: &[u8], hex: bool) -> Option<&[u8]>
     ensures { MatchOption result (NoDigits hex text.now)
         (λ rest. LongestDigits hex text.now rest.now) }
@@ -97,6 +114,7 @@ pub fn after_digits(text: &[u8], hex: bool) -> Option<&[u8]>
     Some(&text[last + 1..])
 }
 
+/// Returns `true` if a text is digits, which single underscores may separate.
 fn is_digits(text: &[u8], hex: bool) -> bool
     ensures { IsTrue result ↔ Digits hex text.now [] }
 {
@@ -106,6 +124,7 @@ fn is_digits(text: &[u8], hex: bool) -> bool
     }
 }
 
+/// Returns `true` if a text is an exponent: a letter, an optional sign, and decimal digits.
 fn is_exponent(text: &[u8], hex: bool) -> bool
     ensures { IsTrue result ↔ Exponent hex text.now }
 {
@@ -115,7 +134,8 @@ fn is_exponent(text: &[u8], hex: bool) -> bool
     }
 }
 
-/// Whether a float's first digits can be followed so.
+/// Returns `true` if a text is a fraction, an exponent or both, which make a float of the digits
+/// before it.
 fn is_tail(text: &[u8], hex: bool) -> bool
     ensures { IsTrue result ↔ Tail hex text.now }
 {
@@ -131,7 +151,8 @@ fn is_tail(text: &[u8], hex: bool) -> bool
     }
 }
 
-/// Whether a number's first digits are hexadecimal, and what follows them.
+/// Returns the text after the digits at the start of an unsigned number, and `true` if they are
+/// hexadecimal. Returns `None` if the number does not begin with such digits.
 fn after_integral(text: &[u8]) -> Option<(bool, &[u8])>
     ensures { MatchOption result (NoIntegralPart text.now)
         (λ f. OnlyIntegralPart f.0 text.now f.1.now) }
@@ -142,8 +163,8 @@ fn after_integral(text: &[u8]) -> Option<(bool, &[u8])>
     Some((false, after_digits(text, false)?))
 }
 
-/// The kind of a number's word by what follows its first digits. Inlined, the kind would be cleared
-/// at each of these digits.
+/// Returns the kind of a number by the text after its first digits, or `None` if the lexeme is not
+/// a number. It is not inlined, since the kind would then be cleared at each of these digits.
 #[inline(never)]
 fn kind_by_rest(word: &[u8], hex: bool, rest: &[u8]) -> Option<TokenKind>
     requires infinity { unsigned word.now ≢ codes "inf" }
@@ -170,7 +191,8 @@ fn kind_by_rest(word: &[u8], hex: bool, rest: &[u8]) -> Option<TokenKind>
     }))
 }
 
-/// The kind of a number's word that is neither an infinity nor a NaN.
+/// Returns the kind of a number that is neither an infinity nor a NaN, or `None` if the lexeme is
+/// not a number.
 fn digits_kind(word: &[u8]) -> Option<TokenKind>
     requires infinity { unsigned word.now ≢ codes "inf" }
     requires nan { unsigned word.now ≢ codes "nan" }
@@ -182,7 +204,7 @@ fn digits_kind(word: &[u8]) -> Option<TokenKind>
     kind_by_rest(word, hex, rest)
 }
 
-/// How many digits are at the start.
+/// Returns the number of leading digits, hexadecimal if `hex` and otherwise decimal.
 #[inline(always)]
 fn digits_len(text: &[u8], hex: bool, stride: Stride) -> usize
     ensures { result ≡ prefix_len (is_digit hex) text.now }
@@ -194,7 +216,7 @@ fn digits_len(text: &[u8], hex: bool, stride: Stride) -> usize
     }
 }
 
-/// Whether the first so many bytes are an exponent without underscores.
+/// Returns `true` if the first `len` bytes are an exponent without underscores.
 #[inline(always)]
 fn is_plain_exponent(text: &[u8], len: usize, hex: bool, stride: Stride) -> bool
     requires { len ≤ length text.now }
@@ -210,7 +232,8 @@ fn is_plain_exponent(text: &[u8], len: usize, hex: bool, stride: Stride) -> bool
     digits != 0 && digit_len(&text[len - digits..], stride) >= digits
 }
 
-/// Whether the first so many bytes can follow a float's first digits and have no underscores.
+/// Returns `true` if the first `len` bytes are a fraction, an exponent or both, without
+/// underscores.
 #[inline(always)]
 fn is_plain_tail(text: &[u8], len: usize, hex: bool, stride: Stride) -> bool
     requires { len ≤ length text.now }
@@ -226,7 +249,7 @@ fn is_plain_tail(text: &[u8], len: usize, hex: bool, stride: Stride) -> bool
     is_plain_exponent(&text[1 + digits..], len - 1 - digits, hex, stride)
 }
 
-/// Whether the first so many bytes are a float's first digits and what follows them, without
+/// Returns `true` if the first `len` bytes are digits and a fraction, an exponent or both, without
 /// underscores.
 #[inline(always)]
 fn is_plain_decimals(text: &[u8], len: usize, hex: bool, stride: Stride) -> bool
@@ -240,7 +263,8 @@ fn is_plain_decimals(text: &[u8], len: usize, hex: bool, stride: Stride) -> bool
     is_plain_tail(&text[digits..], len - digits, hex, stride)
 }
 
-/// The kind of a float of these first digits and what follows them, if it has no underscores.
+/// Returns the kind of a float if the first `len` bytes are its digits and a fraction, an exponent
+/// or both, without underscores.
 #[inline(always)]
 fn plain_decimals(text: &[u8], len: usize, hex: bool, stride: Stride) -> Option<TokenKind>
     requires { len ≤ length text.now }
@@ -255,8 +279,8 @@ fn plain_decimals(text: &[u8], len: usize, hex: bool, stride: Stride) -> Option<
     }))
 }
 
-/// The kind of the word of so many bytes at the start, where that is `nan:0x` and digits without
-/// underscores, with a sign or none.
+/// Returns the kind of the lexeme in the first `len` bytes if it is `nan:0x` and digits without
+/// underscores, after an optional sign.
 #[inline(always)]
 fn plain_payload(text: &[u8], len: usize, stride: Stride) -> Option<TokenKind>
     requires { len ≤ length text.now }
@@ -276,7 +300,8 @@ fn plain_payload(text: &[u8], len: usize, stride: Stride) -> Option<TokenKind>
     }))
 }
 
-/// The kind of the word of so many bytes at the start, where that is a float without underscores.
+/// Returns the kind of the lexeme in the first `len` bytes if it is a float without underscores,
+/// other than an infinity and a NaN without a payload.
 #[inline(always)]
 pub fn plain_float(text: &[u8], len: usize, stride: Stride) -> Option<TokenKind>
     requires { len ≤ length text.now }
@@ -295,8 +320,8 @@ pub fn plain_float(text: &[u8], len: usize, stride: Stride) -> Option<TokenKind>
     }
 }
 
-/// The kind of the word of so many bytes at the start, where that is of hexadecimal digits alone
-/// after `0x`, with a sign or none.
+/// Returns the kind of the lexeme in the first `len` bytes if it is `0x` and digits without
+/// underscores, after an optional sign.
 #[inline(always)]
 pub fn plain_hexadecimal(text: &[u8], len: usize, stride: Stride) -> Option<TokenKind>
     requires { len ≤ length text.now }
@@ -317,8 +342,8 @@ pub fn plain_hexadecimal(text: &[u8], len: usize, stride: Stride) -> Option<Toke
     }))
 }
 
-/// The kind of the word of so many bytes at the start, where that is of decimal digits alone, with a
-/// sign or none.
+/// Returns the kind of the lexeme in the first `len` bytes if it is decimal digits without
+/// underscores, after an optional sign.
 #[inline(always)]
 pub fn plain_decimal(text: &[u8], len: usize, stride: Stride) -> Option<TokenKind>
     requires { len ≤ length text.now }
@@ -340,7 +365,7 @@ pub fn plain_decimal(text: &[u8], len: usize, stride: Stride) -> Option<TokenKin
     }))
 }
 
-/// The kind of a number's word.
+/// Returns the kind of a number, or `None` if the lexeme is not a number.
 #[inline(never)]
 pub fn classify(word: &[u8]) -> Option<TokenKind>
     ensures some { IfSome result (λ kind. Number word.now kind) }

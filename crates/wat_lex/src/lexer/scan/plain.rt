@@ -1,4 +1,4 @@
-//! Bytes of strings that stand for themselves.
+//! Plain bytes of strings: those that need no examination of their own.
 ghost use Rattle.std.specs.Prelude.{◌≡◌, ◌≤◌, length};
 ghost use Rattle.std.specs.List.{prefix_len};
 ghost use Rattle.wat_lex.specs.inside.Blocks.{failures};
@@ -10,15 +10,15 @@ use crate::lexer::scan::byte_at;
 use crate::lexer::scan::classes::is_run_char;
 use std::simd::prelude::*;
 
-/// Whether a byte ends no string, begins no escape, can begin no confusing character, whose first
-/// byte is 0xE2, and is no control character.
+/// Returns `true` if a byte is plain in a string: not a quote, a backslash, a control character, or
+/// 0xE2, with which every confusing character begins.
 pub fn is_plain(b: u8) -> bool
     ensures { result ≡ is_plain b }
 {
     b >= 0x20 && !matches!(b, b'"' | b'\\' | 0x7f | 0xe2)
 }
 
-/// A bit for each byte that is not plain, the lowest for the first.
+/// Returns a bit mask of the bytes that are not plain. The lowest bit is the first byte's.
 #[inline(always)]
 fn other_than_plain(block: u8x16) -> u64
     ensures { result ≡ failures is_plain block }
@@ -30,6 +30,7 @@ fn other_than_plain(block: u8x16) -> u64
         | block.simd_eq(u8x16::splat(0xe2))).to_bitmask()
 }
 
+/// Returns the number of leading plain bytes, a byte at a time.
 fn plain_len_by_byte(text: &[u8]) -> usize
     ensures { result ≡ prefix_len is_plain text.now }
 {
@@ -40,7 +41,7 @@ fn plain_len_by_byte(text: &[u8]) -> usize
     i
 }
 
-/// How many plain bytes are at the start.
+/// Returns the number of leading plain bytes, a block at a time.
 pub fn plain_len(text: &[u8]) -> usize
     ensures { result ≡ prefix_len is_plain text.now }
 {
@@ -55,8 +56,8 @@ pub fn plain_len(text: &[u8]) -> usize
     i + plain_len_by_byte(&text[i..])
 }
 
-/// Whether so many bytes, one at least, are between the quotes of an annotation at the start, to which
-/// nothing is joined.
+/// Returns `true` if the text begins with `@`, a quote, `len` bytes, at least 1, and a quote, which
+/// neither an idchar nor a quote follows.
 #[inline(always)]
 fn is_quoted_name(text: &[u8], len: usize) -> bool
     requires { len ≤ length text.now }
@@ -69,8 +70,8 @@ fn is_quoted_name(text: &[u8], len: usize) -> bool
         && !is_run_char(byte_at(text, len + 3))
 }
 
-/// How many bytes the annotation at the start has whose name is plain bytes between quotes: none
-/// where there is no such annotation.
+/// Returns the length in bytes of the annotation at the start if its name is plain bytes in quotes,
+/// and otherwise 0.
 #[inline(always)]
 pub fn quoted_name_len(text: &[u8]) -> usize
     ensures { result ≡ quoted_name_len text.now }

@@ -1,4 +1,4 @@
-//! Runs of idchars and strings.
+//! Scanning of runs, which consist of idchars and strings, and the kinds of lexemes.
 ghost use Rattle.std.specs.Prelude.{◌≡◌, ◌<◌, ◌≤◌, ◌+◌, ◌^◌, true, length, take, slice_index};
 ghost use Rattle.std.specs.Prelude.{IfOk, IfErr, IsTrue};
 ghost use Rattle.wat_lex.specs.inside.ScannedLexemes.{Refused};
@@ -17,15 +17,18 @@ use crate::lexer::scan::short::{short_decimal, short_hexadecimal, short_payload}
 use crate::lexer::scan::strings::string_len;
 use crate::lexer::settings::Settings;
 
-/// How many bytes a run has, and how many idchars and strings.
+/// The size of a run.
 #[derive(Clone, Copy)]
 pub struct Pieces {
+    /// Length in bytes.
     pub len: usize,
+    /// Number of idchars.
     pub idchars: usize,
+    /// Number of strings.
     pub strings: usize,
 }
 
-/// The fault, reported so many bytes further on.
+/// Returns a lexical error with its offset increased by `by`.
 fn fault_moved(fault: LexFault, by: usize) -> LexFault
     requires { by + fault.offset < 2 ^ 64 }
     ensures { result ≡ record { offset = by + fault.offset; error = fault.error } }
@@ -36,7 +39,7 @@ fn fault_moved(fault: LexFault, by: usize) -> LexFault
     }
 }
 
-/// The longest run at the start.
+/// Returns the size of the longest run at the start, or the lexical error in one of its strings.
 pub fn run(text: &str, flags: Settings) -> Result<Pieces, LexFault>
     ensures ok { IfOk result (RunFound flags text.now) }
     ensures err { IfErr result (Refused flags text.now) }
@@ -63,7 +66,7 @@ pub fn run(text: &str, flags: Settings) -> Result<Pieces, LexFault>
     })
 }
 
-/// The shape of a run of so many idchars and strings.
+/// Returns the shape of a run, by its first byte and its numbers of idchars and strings.
 fn run_shape(word: &[u8], idchars: usize, strings: usize) -> Shape
     ensures { IsShapeOfRun word.now idchars strings result }
 {
@@ -83,7 +86,7 @@ fn run_shape(word: &[u8], idchars: usize, strings: usize) -> Shape
     }
 }
 
-/// The outline of a run.
+/// Returns the shape and the length of the run at the start.
 #[inline(never)]
 pub fn run_outline(text: &str, flags: Settings) -> Outline
     requires some { 0 < length text.now }
@@ -105,7 +108,8 @@ pub fn run_outline(text: &str, flags: Settings) -> Outline
     }
 }
 
-/// What a first `$` or `@` names.
+/// Returns the kind of a lexeme by its first byte: an identifier after `$`, an annotation after
+/// `@`, and otherwise reserved.
 fn named_kind(word: &[u8]) -> TokenKind
     ensures { result ≡ named_kind word.now }
 {
@@ -116,6 +120,7 @@ fn named_kind(word: &[u8]) -> TokenKind
     }
 }
 
+/// Returns the kind of a lexeme that is not a number, by its first byte.
 fn kind_by_first(word: &[u8]) -> TokenKind
     ensures { result ≡ kind_by_first word.now }
 {
@@ -125,10 +130,11 @@ fn kind_by_first(word: &[u8]) -> TokenKind
     }
 }
 
-/// The kind of the word of so many idchars at the start, which is no integer of decimal digits alone.
-/// It is no part of its caller, where the facts of a float would be carried with each token.
+/// Returns the kind of the lexeme of idchars in the first `len` bytes. Decimal integers are tried
+/// before it. It is not inlined, since its caller would then carry the facts of a float for each
+/// token.
 #[inline(never)]
-pub fn other_kind(text: &[u8], len: usize, stride: Stride) -> TokenKind
+pub fn classify_word(text: &[u8], len: usize, stride: Stride) -> TokenKind
     requires { len ≤ length text.now }
     ensures { WordKind (take len text.now) result }
 {
@@ -145,7 +151,7 @@ pub fn other_kind(text: &[u8], len: usize, stride: Stride) -> TokenKind
     }
 }
 
-/// The kind of a word that may be a number after `0x`.
+/// Returns the kind of the lexeme in the first `len` bytes. Tries a short number after `0x` first.
 #[inline(always)]
 fn hexadecimal_kind(text: &[u8], len: usize) -> TokenKind
     requires { len ≤ length text.now }
@@ -153,26 +159,26 @@ fn hexadecimal_kind(text: &[u8], len: usize) -> TokenKind
 {
     match short_hexadecimal(text, len).kind() {
         Some(kind) => kind,
-        None => other_kind(text, len, Stride::Block),
+        None => classify_word(text, len, Stride::Block),
     }
 }
 
-/// The kind of a word that may be a NaN with a payload.
+/// Returns the kind of the lexeme in the first `len` bytes. Tries a short NaN with a payload first.
 #[inline(always)]
 fn payload_kind(text: &[u8], len: usize, stride: Stride) -> TokenKind
     requires { len ≤ length text.now }
     ensures { WordKind (take len text.now) result }
 {
     if stride == Stride::Byte {
-        return other_kind(text, len, stride);
+        return classify_word(text, len, stride);
     }
     match short_payload(text, len).kind() {
         Some(kind) => kind,
-        None => other_kind(text, len, stride),
+        None => classify_word(text, len, stride),
     }
 }
 
-/// The kind of a word that may be a number of decimal digits.
+/// Returns the kind of the lexeme in the first `len` bytes. Tries a decimal integer first.
 #[inline(always)]
 pub fn decimal_kind(text: &[u8], len: usize, stride: Stride) -> TokenKind
     requires { len ≤ length text.now }
@@ -180,11 +186,11 @@ pub fn decimal_kind(text: &[u8], len: usize, stride: Stride) -> TokenKind
 {
     match plain_decimal(text, len, stride) {
         Some(kind) => kind,
-        None => other_kind(text, len, stride),
+        None => classify_word(text, len, stride),
     }
 }
 
-/// The kind of a word that may be a number, and is longer than a block.
+/// Returns the kind of a lexeme that may be a number and fills at least one block.
 #[inline(always)]
 pub fn long_number_kind(text: &[u8], len: usize) -> TokenKind
     requires { len ≤ length text.now }
@@ -196,7 +202,7 @@ pub fn long_number_kind(text: &[u8], len: usize) -> TokenKind
     }
 }
 
-/// The kind of a word that may be a number of this sign, where one block holds the word.
+/// Returns the kind of a lexeme that may be a number with the given sign and fits into one block.
 #[inline(always)]
 pub fn short_number_kind(text: &[u8], len: usize, sign: Sign) -> TokenKind
     requires sign { sign ≡ sign_of (take len text.now) }
@@ -211,8 +217,8 @@ pub fn short_number_kind(text: &[u8], len: usize, sign: Sign) -> TokenKind
     }
 }
 
-/// The kind of a word that begins with a small letter. After the first letter of `inf` and `nan`
-/// is `n` or `a`, and no other number begins with a letter.
+/// Returns the kind of a lexeme that begins with a lowercase letter. The only numbers among these
+/// begin with `inf` or `nan`, whose second letter is `n` or `a`.
 #[inline(always)]
 pub fn letters_kind(text: &[u8], len: usize, stride: Stride) -> TokenKind
     requires some { 0 < len }

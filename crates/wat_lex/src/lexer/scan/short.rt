@@ -1,5 +1,17 @@
-//! Numbers without underscores that one block holds.
-ghost use Rattle.std.specs.Prelude.{◌≡◌, ◌≤◌, ◌<◌, ℕ, Bool, List, IsTrue, IfSome, length, take, drop};
+//! Classification of numbers without underscores that fit into one block.
+ghost use Rattle.std.specs.Prelude.{
+  ◌≡◌,
+  ◌≤◌,
+  ◌<◌,
+  ℕ,
+  Bool,
+  List,
+  IsTrue,
+  IfSome,
+  length,
+  take,
+  drop,
+};
 ghost use Rattle.std.specs.Char.{is_ascii_digit};
 ghost use Rattle.std.specs.List.{prefix_len};
 ghost use Rattle.wat_lex.specs.grammar.Numbers.{is_digit, sign_of, unsigned, Number};
@@ -10,7 +22,7 @@ use crate::lexer::kinds::{FloatKind, IntegerKind, Sign, TokenKind};
 use crate::lexer::scan::blocks::{block_at, other_than_digits, other_than_hex_digits};
 use crate::lexer::scan::numbers::{is_exponent_letter, past_prefix, unsigned};
 
-/// How many of the first 16 bytes are from a place on before the next one that has a bit.
+/// Returns the number of clear bits from bit `i` on, up to the next set bit or bit 16.
 #[inline(always)]
 fn clear_from(bits: u64, i: usize) -> usize
     requires { i ≤ 16 }
@@ -18,11 +30,12 @@ fn clear_from(bits: u64, i: usize) -> usize
         result ≤ prefix_len p (drop i text) }
     ensures few { result ≤ 64 }
 {
-    // After the 16 is a bit for each place, so that some bit is found.
+    // All bits from bit 16 on are set, so that a set bit is found.
     ((bits | 0xffff_ffff_ffff_0000) >> i).trailing_zeros() as usize
 }
 
-/// Whether an exponent without underscores is in the word of so many bytes from a place on.
+/// Returns `true` if the first `len` bytes are an exponent without underscores from index `i` on.
+/// `digits` must be the mask of the bytes that are not decimal digits.
 #[inline(always)]
 fn is_short_exponent(text: &[u8], len: usize, i: usize, hex: bool, digits: u64) -> bool
     requires within { len ≤ length text.now }
@@ -41,8 +54,9 @@ fn is_short_exponent(text: &[u8], len: usize, i: usize, hex: bool, digits: u64) 
     number != 0 && clear_from(digits, len - number) >= number
 }
 
-/// Whether what is in the word of so many bytes from a place on can follow a float's first
-/// digits, and has no underscores.
+/// Returns `true` if the first `len` bytes are a fraction, an exponent or both without underscores,
+/// from index `i` on. `others` and `digits` must be the masks of the bytes that are not digits in
+/// the base of the number, and in base 10.
 #[inline(always)]
 fn is_short_tail(text: &[u8], len: usize, i: usize, hex: bool, others: u64, digits: u64) -> bool
     requires within { len ≤ length text.now }
@@ -62,7 +76,7 @@ fn is_short_tail(text: &[u8], len: usize, i: usize, hex: bool, others: u64, digi
     is_short_exponent(text, len, end, hex, digits)
 }
 
-/// How many bytes a word's sign takes.
+/// Returns the length of a sign in bytes.
 #[inline(always)]
 fn sign_len(sign: Sign) -> usize
     ensures unsigned { (word : List ℕ) → sign ≡ sign_of word → unsigned word ≡ drop result word }
@@ -74,8 +88,8 @@ fn sign_len(sign: Sign) -> usize
     }
 }
 
-/// The kind of the word of so many bytes at the start, where that is a decimal integer or a decimal
-/// float without underscores, after this sign.
+/// Returns the kind of the lexeme in the first `len` bytes if it is a decimal integer or a decimal
+/// float without underscores. `sign` must be the sign of the lexeme.
 #[inline(always)]
 pub fn short_decimal(text: &[u8], len: usize, sign: Sign) -> Option<TokenKind>
     requires sign { sign ≡ sign_of (take len text.now) }
@@ -106,20 +120,21 @@ pub fn short_decimal(text: &[u8], len: usize, sign: Sign) -> Option<TokenKind>
     }))
 }
 
-/// What a word is that begins with `0x` or `nan:0x`.
+/// Class of a lexeme that may begin with `0x` or `nan:0x`.
 #[derive(Clone, Copy)]
 pub enum Prefixed {
-    /// An integer without sign and underscores.
+    /// A hexadecimal integer without a sign and without underscores.
     Integer,
-    /// A float without sign and underscores.
+    /// A hexadecimal float without a sign and without underscores.
     Float,
-    /// A NaN with a payload, without sign and underscores.
+    /// A NaN with a payload, without a sign and without underscores.
     Payload,
-    /// What is not known from one block.
+    /// A lexeme that one block does not classify.
     Other,
 }
 
 impl Prefixed {
+    /// Returns the kind of the lexeme, or `None` if it is not classified.
     #[inline(always)]
     pub fn kind(self) -> Option<TokenKind>
         ensures { result ≡ prefixed_kind self }
@@ -143,8 +158,8 @@ impl Prefixed {
     }
 }
 
-/// What the word of so many bytes at the start is, where that is `0x` and after it an integer or a
-/// float of at most 16 bytes. It is a call that answers one byte, so that its caller stays small.
+/// Classifies the lexeme in the first `len` bytes if it is `0x` and an integer or a float of at
+/// most 16 bytes after it. It is a call that returns one byte, so that its caller stays small.
 #[inline(never)]
 pub fn short_hexadecimal(text: &[u8], len: usize) -> Prefixed
     requires { len ≤ length text.now }
@@ -173,7 +188,7 @@ pub fn short_hexadecimal(text: &[u8], len: usize) -> Prefixed
     Prefixed::Float
 }
 
-/// What the word of so many bytes at the start is, where that is `nan:0x` and at most 16 digits.
+/// Classifies the lexeme in the first `len` bytes if it is `nan:0x` and at most 16 digits.
 #[inline(never)]
 pub fn short_payload(text: &[u8], len: usize) -> Prefixed
     requires { len ≤ length text.now }

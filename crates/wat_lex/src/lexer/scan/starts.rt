@@ -1,34 +1,43 @@
-//! What a text begins with, by its first byte.
+//! Classification of a token's first byte.
 ghost use Rattle.wat_lex.specs.inside.Outlines.{Begun};
 
 use crate::lexer::kinds::Sign;
 use crate::lexer::scan::classes::is_idchar;
 
-/// What a text begins with.
+/// Class of the first byte of a token.
 #[derive(Clone, Copy)]
 pub enum Start {
+    /// Space, LF, CR or TAB.
     Whitespace,
+    /// `(`
     OpenParen,
+    /// `)`
     CloseParen,
+    /// `;`
     Semicolon,
+    /// `,`, `[`, `]`, `{` or `}`.
     Punctuation,
+    /// `"`
     Quote,
-    /// A digit or a sign. Most words that begin so are numbers, of this sign.
+    /// A digit or the given sign. Most lexemes that begin with it are numbers.
     Number(Sign),
-    /// The first letter of `inf` or of `nan`, with which keywords begin too.
+    /// The first letter of `inf` or `nan`, with which keywords begin too.
     Letter,
-    /// Any other idchar. The kind of the word is known from it.
+    /// Any other lowercase letter. A lexeme that begins with it is a keyword.
     Keyword,
+    /// `$`
     Id,
+    /// `@`
     Annotation,
+    /// Any other idchar. A lexeme that begins with it is reserved.
     Reserved,
-    /// No token.
+    /// A byte with which no token begins.
     Other,
 }
 
-/// What a text begins with, by its first byte.
-// Bytes that are neighbours are in patterns of their own: as one they would be a range, and ranges
-// are compared one after the other where one jump would do.
+/// Returns the class of the first byte of a token.
+// Neighboring bytes are in separate patterns. In one pattern they would form a range, and ranges
+// are compared one after the other instead of by one jump.
 #[inline(always)]
 pub fn start_of(first: u8) -> Start
     ensures { Begun first result }

@@ -1,4 +1,4 @@
-//! Strings.
+//! Scanning of strings and their escapes.
 ghost use Rattle.std.specs.Prelude.{◌≡◌, ◌≢◌, ◌≤◌, ◌<◌, ◌+◌, ◌*◌, ◌^◌, ◌∷◌, [], true, slice_index};
 ghost use Rattle.std.specs.Prelude.{IfErr, IfOk};
 ghost use Rattle.std.specs.Bool.{MatchBool};
@@ -10,7 +10,7 @@ ghost use Rattle.wat_lex.specs.grammar.Classes.{is_hex};
 ghost use Rattle.wat_lex.specs.grammar.Strings.{letter_value, is_control};
 ghost use Rattle.wat_lex.specs.inside.ScannedStrings.{Escaped, escape_bytes, Breaks, IsRowValue};
 ghost use Rattle.wat_lex.specs.inside.ScannedStrings.{Ends, BeginsByteEscape, ElementTaken};
-ghost use Rattle.wat_lex.specs.inside.ScannedStrings.{StringTaken, StringRefused};
+ghost use Rattle.wat_lex.specs.inside.ScannedStrings.{StringTaken, StringFaultFound};
 
 use crate::lexer::faults::{LexError, LexFault};
 use crate::lexer::scan::classes::{is_confusing, is_hex, is_hex_digit};
@@ -18,27 +18,32 @@ use crate::lexer::scan::plain::{is_plain, plain_len};
 use crate::lexer::settings::Settings;
 use std::str::Chars;
 
-/// What is wrong with a string, and how many bytes are left from the place where it is reported.
+/// A lexical error in a string.
 #[derive(Clone, Copy)]
 pub struct Broken {
+    /// Number of bytes from the offset at which the error is reported to the end of the text.
     pub left: usize,
     pub error: LexError,
 }
 
-/// What an escape stands for.
+/// The value of an escape.
 #[derive(Clone, Copy)]
 pub enum EscapeValue {
+    /// The byte of two hexadecimal digits, or of a letter.
     Byte(u8),
+    /// The character of a number in `\u{..}`.
     Scalar(char),
 }
 
+/// Returns `true` for a control character: below U+0020, or U+007F.
 fn is_control(c: char) -> bool
     ensures { result ≡ is_control c }
 {
     (c as u32) < 0x20 || c as u32 == 0x7f
 }
 
-/// What a letter stands for after a backslash.
+/// Returns the byte that a character after a backslash stands for, if it is one of `"`, `'`, `\`,
+/// `t`, `n` and `r`.
 fn letter(c: char) -> Option<u8>
     ensures { result ≡ letter_value c }
 {
@@ -53,6 +58,7 @@ fn letter(c: char) -> Option<u8>
     }
 }
 
+/// Returns the value of a hexadecimal digit.
 pub fn hex_digit(c: char) -> u32
     requires { is_hex c ≡ true }
     ensures value { result ≡ digit_value c }
@@ -65,14 +71,14 @@ pub fn hex_digit(c: char) -> u32
     }
 }
 
-/// A refusal.
-fn refuse<T>(left: usize, error: LexError) -> Result<T, Broken>
+/// Returns a lexical error that is reported `left` bytes before the end of the text.
+fn string_error_at<T>(left: usize, error: LexError) -> Result<T, Broken>
     ensures { result ≡ Err (record { left = left; error = error }) }
 {
     Err(Broken { left, error })
 }
 
-/// The second hexadecimal digit of an escape.
+/// Parses the second hexadecimal digit of an escape whose first one is `first`.
 fn second(it: &mut Chars<'_>, first: char, flags: Settings) -> Result<EscapeValue, Broken>
     requires utf8 { IsUtf8 (chars_rest it.old) }
     requires hex { is_hex first ≡ true }
@@ -83,30 +89,32 @@ fn second(it: &mut Chars<'_>, first: char, flags: Settings) -> Result<EscapeValu
 {
     let left = it.as_str().len();
     let Some(c) = it.next() else {
-        return refuse(0, LexError::UnexpectedEof);
+        return string_error_at(0, LexError::UnexpectedEof);
     };
     if !is_hex(c) {
-        return refuse(left, LexError::InvalidHexDigit(c));
+        return string_error_at(left, LexError::InvalidHexDigit(c));
     }
     let value = 16 * hex_digit(first) + hex_digit(c);
     Ok(EscapeValue::Byte(value as u8))
 }
 
-/// The character of a number, from its digits and underscores by themselves,
-/// unless they end in an underscore.
+/// Returns the character of the number in `\u{..}`, or an error if its digits end in an underscore
+/// or if it is not a Unicode scalar value. The error is reported `last` bytes before the end of the
+/// text.
 fn row_value(n: u32, underscore: bool, last: usize) -> Result<char, Broken>
     ensures { IsRowValue n underscore last result }
 {
     if underscore {
-        return refuse(last, LexError::LoneUnderscore);
+        return string_error_at(last, LexError::LoneUnderscore);
     }
     match char::from_u32(n) {
         Some(c) => Ok(c),
-        None => refuse(last, LexError::InvalidUnicodeValue(n)),
+        None => string_error_at(last, LexError::InvalidUnicodeValue(n)),
     }
 }
 
-/// The escape of a number's character, unless another character than a brace follows the digits.
+/// Returns the escape of a character, or an error if the digits are followed by a character other
+/// than `}`.
 fn closing_brace(c: char, left: usize, value: char) -> Result<EscapeValue, Broken>
     ensures { Ends c left value result }
 {
@@ -115,12 +123,12 @@ fn closing_brace(c: char, left: usize, value: char) -> Result<EscapeValue, Broke
             wanted: '}',
             found: c,
         };
-        return refuse(left, error);
+        return string_error_at(left, error);
     }
     Ok(EscapeValue::Scalar(value))
 }
 
-/// A number with one hexadecimal digit more, unless it takes more than 32 bits.
+/// Returns a number with a hexadecimal digit appended, or an error if it is 2^32 or more.
 fn with_digit(n: u32, digit: char, left: usize) -> Result<u32, Broken>
     requires { is_hex digit ≡ true }
     ensures ok { IfOk result (λ m. m ≡ n * 16 + digit_value digit) }
@@ -130,12 +138,12 @@ fn with_digit(n: u32, digit: char, left: usize) -> Result<u32, Broken>
 {
     let wide = n as u64 * 16 + hex_digit(digit) as u64;
     if wide >= 0x1_0000_0000 {
-        return refuse(left, LexError::NumberTooBig);
+        return string_error_at(left, LexError::NumberTooBig);
     }
     Ok(wide as u32)
 }
 
-/// What follows the first digit of a number after `\u{`.
+/// Parses an escape `\u{..}` after its first digit.
 fn number(it: &mut Chars<'_>, first: char, flags: Settings) -> Result<EscapeValue, Broken>
     requires utf8 { IsUtf8 (chars_rest it.old) }
     requires hex { is_hex first ≡ true }
@@ -151,10 +159,10 @@ fn number(it: &mut Chars<'_>, first: char, flags: Settings) -> Result<EscapeValu
         let left = it.as_str().len();
         let Some(c) = it.next() else {
             row_value(n, underscore, last)?;
-            return refuse(0, LexError::UnexpectedEof);
+            return string_error_at(0, LexError::UnexpectedEof);
         };
         if c == '_' && underscore && flags.strict {
-            return refuse(left, LexError::LoneUnderscore);
+            return string_error_at(left, LexError::LoneUnderscore);
         }
         if is_hex(c) {
             n = with_digit(n, c, left)?;
@@ -166,7 +174,7 @@ fn number(it: &mut Chars<'_>, first: char, flags: Settings) -> Result<EscapeValu
     }
 }
 
-/// What follows `\u{`.
+/// Parses an escape `\u{..}` after its `\u{`.
 fn braced_number(it: &mut Chars<'_>, flags: Settings) -> Result<EscapeValue, Broken>
     requires utf8 { IsUtf8 (chars_rest it.old) }
     ensures ok { IfOk result (λ e.
@@ -176,15 +184,15 @@ fn braced_number(it: &mut Chars<'_>, flags: Settings) -> Result<EscapeValue, Bro
 {
     let left = it.as_str().len();
     let Some(c) = it.next() else {
-        return refuse(0, LexError::UnexpectedEof);
+        return string_error_at(0, LexError::UnexpectedEof);
     };
     if !is_hex(c) {
-        return refuse(left, LexError::InvalidHexDigit(c));
+        return string_error_at(left, LexError::InvalidHexDigit(c));
     }
     number(it, c, flags)
 }
 
-/// What follows `\u`.
+/// Parses an escape `\u{..}` after its `\u`.
 fn braced(it: &mut Chars<'_>, flags: Settings) -> Result<EscapeValue, Broken>
     requires utf8 { IsUtf8 (chars_rest it.old) }
     ensures ok { IfOk result (λ e.
@@ -194,19 +202,19 @@ fn braced(it: &mut Chars<'_>, flags: Settings) -> Result<EscapeValue, Broken>
 {
     let left = it.as_str().len();
     let Some(c) = it.next() else {
-        return refuse(0, LexError::UnexpectedEof);
+        return string_error_at(0, LexError::UnexpectedEof);
     };
     if c != '{' {
         let error = LexError::Expected {
             wanted: '{',
             found: c,
         };
-        return refuse(left, error);
+        return string_error_at(left, error);
     }
     braced_number(it, flags)
 }
 
-/// What follows a backslash.
+/// Parses an escape after its backslash.
 pub fn escape(it: &mut Chars<'_>, flags: Settings) -> Result<EscapeValue, Broken>
     requires utf8 { IsUtf8 (chars_rest it.old) }
     ensures ok { IfOk result (λ e.
@@ -216,7 +224,7 @@ pub fn escape(it: &mut Chars<'_>, flags: Settings) -> Result<EscapeValue, Broken
 {
     let left = it.as_str().len();
     let Some(c) = it.next() else {
-        return refuse(0, LexError::UnexpectedEof);
+        return string_error_at(0, LexError::UnexpectedEof);
     };
     if let Some(byte) = letter(c) {
         return Ok(EscapeValue::Byte(byte));
@@ -225,34 +233,35 @@ pub fn escape(it: &mut Chars<'_>, flags: Settings) -> Result<EscapeValue, Broken
         return second(it, c, flags);
     }
     if c != 'u' {
-        return refuse(left, LexError::InvalidStringEscape(c));
+        return string_error_at(left, LexError::InvalidStringEscape(c));
     }
     braced(it, flags)
 }
 
-/// Whether an escape of two hexadecimal digits is at the start.
+/// Returns `true` if an escape of two hexadecimal digits is at the start.
 pub fn is_byte_escape(text: &[u8]) -> bool
     ensures { MatchBool result (BeginsByteEscape text.now) (BeginsByteEscape text.now → ⊥) }
 {
     match text {
-        // `&`, since a branch between digits that may be any is often guessed wrong
+        // `&` avoids a branch between the digits, which is often mispredicted
         [b'\\', first, second, ..] => is_hex_digit(*first) & is_hex_digit(*second),
         _ => false,
     }
 }
 
-/// A fault so many bytes from the start of what is read.
+/// Returns a lexical error at an offset from the start of the scanned text.
 fn fault_at(offset: usize, error: LexError) -> Result<usize, LexFault>
     ensures { result ≡ Err (record { offset = offset; error = error }) }
 {
     Err(LexFault { offset, error })
 }
 
-/// How many bytes the element of a string takes that is at the start.
+/// Returns the length in bytes of the element at the start: a character or an escape. It must not
+/// be the closing quote.
 fn element_len(text: &str, flags: Settings) -> Result<usize, LexFault>
     requires open { slice_index text.now 0 ≢ 34 }
     ensures ok { IfOk result (ElementTaken flags text.now) }
-    ensures err { IfErr result (StringRefused flags text.now) }
+    ensures err { IfErr result (StringFaultFound flags text.now) }
 {
     let mut it = text.chars();
     let Some(c) = it.next() else {
@@ -270,10 +279,10 @@ fn element_len(text: &str, flags: Settings) -> Result<usize, LexFault>
     Ok(text.len() - it.as_str().len())
 }
 
-/// How many bytes the elements of a string and its closing quote take, after its opening quote.
+/// Returns the length in bytes of a string after its opening quote, including its closing quote.
 pub fn string_len(text: &str, flags: Settings) -> Result<usize, LexFault>
     ensures ok { IfOk result (StringTaken flags text.now) }
-    ensures err { IfErr result (StringRefused flags text.now) }
+    ensures err { IfErr result (StringFaultFound flags text.now) }
 {
     let bytes = text.as_bytes();
     let mut at = 0;

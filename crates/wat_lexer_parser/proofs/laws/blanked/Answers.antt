@@ -13,7 +13,7 @@ overwritten-requires-clause-first c = (comment_bounds c.tokens.ensures.boundary 
 pub overwritten-requires-clause-last : goal.overwritten-requires-clause-last
 overwritten-requires-clause-last c = (comment_bounds c.tokens.ensures.boundary c.blanks.ensures.tokens (record { text = c.args.text.now; flags = lenient }) c.args.token.now c.utf8.text c.requires).1
 
--- what holds of these bytes holds of the answer that has them
+-- A property of the bytes is one of the result with these bytes.
 holds_of : {A E : Type 0} (bytes : A → List ℕ) (r : Result A E) (b : List ℕ) (P : List ℕ → Type 0) → IfOk r (λ x. bytes x ≡ b) → P b → IfOk r (λ x. P (bytes x))
 holds_of bytes (Ok x) b P h k = subst P (sym h) k
 holds_of bytes (Err x) b P h k = tt

@@ -23,11 +23,11 @@ use scan::classes::blank_len;
 pub(crate) use scan::classes::is_confusing;
 pub(crate) use scan::comments::first_confusing;
 use scan::plain::quoted_name_len;
-use scan::{bare_len, byte_at, fault_at_start, first_found};
+use scan::{bare_len, byte_at, fault_at_start, scan_at};
 pub use settings::Settings;
 
-/// A lexer over a text: it cuts the text into tokens, whitespace and comments, and accounts for
-/// every byte of it.
+/// A lexer over a source text. It splits the text into tokens, whitespace and comments, which cover
+/// every byte up to the first lexical error.
 #[derive(Clone)]
 pub struct Lexer<'a> {
     input: &'a str,
@@ -35,7 +35,8 @@ pub struct Lexer<'a> {
 }
 
 impl<'a> Lexer<'a> {
-    /// A lexer over a text of at most `u32::MAX` bytes, with both settings off.
+    /// Creates a lexer over a text with both settings off. The text must have at most `u32::MAX`
+    /// bytes.
     ///
     /// # Proved
     ///
@@ -55,7 +56,8 @@ impl<'a> Lexer<'a> {
         Lexer::with_settings(input, settings)
     }
 
-    /// A lexer over a text of at most `u32::MAX` bytes, with these settings.
+    /// Creates a lexer over a text with the given settings. The text must have at most `u32::MAX`
+    /// bytes.
     ///
     /// # Proved
     ///
@@ -68,7 +70,7 @@ impl<'a> Lexer<'a> {
         Lexer { input, settings }
     }
 
-    /// The text.
+    /// Returns the source text.
     ///
     /// # Proved
     ///
@@ -81,7 +83,7 @@ impl<'a> Lexer<'a> {
         self.input
     }
 
-    /// The two settings.
+    /// Returns the settings.
     ///
     /// # Proved
     ///
@@ -92,8 +94,8 @@ impl<'a> Lexer<'a> {
         self.settings
     }
 
-    /// Sets whether the nine characters that can make a text look other than it is
-    /// may be in comments and strings.
+    /// Sets whether comments and strings may contain the 9 confusing characters, which can change
+    /// how a text is displayed: U+202A, U+202B, U+202D, U+202E, U+2066 to U+2069, and U+206C.
     ///
     /// # Proved
     ///
@@ -108,7 +110,7 @@ impl<'a> Lexer<'a> {
         self
     }
 
-    /// Sets whether an underscore directly after another is a fault inside `\u{..}`.
+    /// Sets whether an underscore directly after another is a lexical error inside `\u{..}`.
     ///
     /// # Proved
     ///
@@ -123,8 +125,13 @@ impl<'a> Lexer<'a> {
         self
     }
 
-    /// The token at a byte of the text, None at its end, or the fault there.
-    // What it answers is large, and need not be built in memory where it is looked at at once.
+    /// Returns the token at byte offset `pos`, or `None` at the end of the text. Does not allocate.
+    ///
+    /// # Errors
+    ///
+    /// Returns the lexical error if no token begins at `pos`.
+    // The result is large. Once inlined, it is not built in memory if the caller inspects it at
+    // once.
     /// # Proved
     ///
     /// ```text
@@ -132,10 +139,10 @@ impl<'a> Lexer<'a> {
     /// ensures token { IfOk result (λ found. IfSome found (TokenAt self.now pos)) }
     /// ensures end { IfOk result (λ found. IfNone found (pos ≡ length self.now.text)) }
     /// ensures fault { IfErr result (FaultAt self.now pos) }
-    /// ensures one { (r : Result (Option Token) LexFault) → AnswerAt self.now pos r → r ≡ result }
+    /// ensures one { (r : Result (Option Token) LexFault) → ResultAt self.now pos r → r ≡ result }
     ///
-    /// // The token may be read. What follows it is nearer the text's end,
-    /// // and may be scanned in turn.
+    /// // Readers accept the token. Its end is nearer to the end of the text, and is a character
+    /// // boundary, so that it can be scanned in turn.
     /// ensures reader { IfOk result (λ found. IfSome found (IsTokenOf self.now.text)) }
     /// ensures some { IfOk result (λ found. IfSome found (λ t. 0 < t.len)) }
     /// ensures boundary { IfOk result (λ found. IfSome found (λ t.
@@ -151,13 +158,18 @@ impl<'a> Lexer<'a> {
         }
     }
 
-    /// What [`Lexer::scan`] answers, found a byte at a time: for a target that has no vectors.
+    /// Returns the token at byte offset `pos`, or `None` at the end of the text, like
+    /// [`Lexer::scan`]. Examines one byte at a time, for targets without vector instructions.
+    ///
+    /// # Errors
+    ///
+    /// Returns the lexical error if no token begins at `pos`.
     ///
     /// # Proved
     ///
     /// ```text
     /// requires { IsCharBoundary self.now.text pos }
-    /// ensures answer { AnswerAt self.now pos result }
+    /// ensures answer { ResultAt self.now pos result }
     /// ensures some { IfOk result (λ found. IfSome found (λ t. 0 < t.len)) }
     /// ensures boundary { IfOk result (λ found. IfSome found (λ t.
     ///     IsCharBoundary self.now.text (pos + t.len))) }
@@ -172,9 +184,15 @@ impl<'a> Lexer<'a> {
         }
     }
 
-    /// The token at `pos`, which moves to the token's end, or None at the text's end,
-    /// or the error of the fault there.
-    // A program with two loops would else call it, at 2.5 times the instructions for short tokens.
+    /// Returns the token at byte offset `pos`, and advances `pos` to the end of the token. Returns
+    /// `None` at the end of the text.
+    ///
+    /// # Errors
+    ///
+    /// Returns the lexical error with its source line if no token begins at `pos`, or the
+    /// out-of-memory error if that line cannot be copied. `pos` is then unchanged.
+    // Without inlining, a program with two loops calls it, at 2.5 times the instructions for short
+    // tokens.
     /// # Proved
     ///
     /// ```text
@@ -203,7 +221,8 @@ impl<'a> Lexer<'a> {
         }
     }
 
-    /// The token at a byte of the text, None at its end and where a fault is.
+    /// Returns the token at byte offset `pos`, or `None` at the end of the text or at a lexical
+    /// error.
     ///
     /// # Proved
     ///
@@ -226,7 +245,8 @@ impl<'a> Lexer<'a> {
         }
     }
 
-    /// Where the whitespace ends that is at a byte of the text: at that byte, where none is.
+    /// Skips the whitespace at byte offset `pos`. Returns the offset after it, or `pos` if there is
+    /// none.
     ///
     /// # Proved
     ///
@@ -243,7 +263,7 @@ impl<'a> Lexer<'a> {
         pos + blank_len(&text.as_bytes()[pos..])
     }
 
-    /// Whether `)` is at a byte of the text.
+    /// Returns `true` if the byte at offset `pos` is `)`.
     ///
     /// # Proved
     ///
@@ -263,8 +283,8 @@ impl<'a> Lexer<'a> {
         byte_at(text.as_bytes(), pos) == b')'
     }
 
-    /// Where the word of idchars ends that is at a byte of the text: at that byte, where none is, or a
-    /// string is joined to it.
+    /// Skips the idchars at byte offset `pos`, without classifying them. Returns the offset after
+    /// them, or `pos` if there are none or if a string follows them directly.
     ///
     /// # Proved
     ///
@@ -280,8 +300,9 @@ impl<'a> Lexer<'a> {
         pos + bare_len(&text.as_bytes()[pos..])
     }
 
-    /// Where the annotation ends that is at a byte of the text, whose name is in quotes and has no
-    /// escape: at that byte, where no such annotation is.
+    /// Skips an annotation with a quoted name at byte offset `pos`. Returns the offset after it, or
+    /// `pos` if there is none. The name must be nonempty and have neither an escape nor a byte
+    /// 0xE2, with which confusing characters begin.
     ///
     /// # Proved
     ///
@@ -297,7 +318,7 @@ impl<'a> Lexer<'a> {
         pos + quoted_name_len(&text.as_bytes()[pos..])
     }
 
-    /// The first fault from a byte of the text on, or None where there is none.
+    /// Returns the first lexical error from byte offset `pos` on, or `None` if there is none.
     ///
     /// # Proved
     ///
@@ -318,21 +339,22 @@ impl<'a> Lexer<'a> {
         }
     }
 
-    /// Where tokens are read again after the fault at a byte of the text: after what the fault covers.
+    /// Returns the byte offset at which lexing resumes after the lexical error at `pos`: the end of
+    /// what the error covers.
     ///
-    /// | fault | covers |
+    /// | error | covers |
     /// |---|---|
     /// | a character with which no token begins | that character |
-    /// | a block comment that nothing closes | its `(;` alone |
+    /// | an unterminated block comment | its `(;` alone |
     /// | a confusing character in a comment | the comment |
-    /// | in a string | the run that the string is in, up to the string's end |
+    /// | an error in a string | the run that contains the string, up to the end of the string |
     ///
-    /// The string's end is after the next quote in the line that no backslash escapes, else it is the
-    /// end of the line, which is not covered. A backslash escapes a quote or a backslash directly after
-    /// it. The rule is of this crate; neither the standard nor `wast` has one.
+    /// The string ends after the next unescaped quote in its line. If there is none, it ends before
+    /// the line end. A backslash escapes a quote or a backslash directly after it. This rule is
+    /// specific to this crate: neither the standard nor `wast` has one.
     ///
-    /// The tokens before the fault are those that [`Lexer::scan`] answered. From what is answered on
-    /// the text is read as from any place.
+    /// The tokens before the error are those that [`Lexer::scan`] returned. From the returned
+    /// offset on, the text is lexed as from any other offset.
     ///
     /// # Proved
     ///
@@ -350,7 +372,7 @@ impl<'a> Lexer<'a> {
         pos + covered_len(&self.input()[pos..], fault.error, self.settings())
     }
 
-    /// What is at a byte of the text.
+    /// Returns what is at byte offset `pos`: a token, the end of the text, or a lexical error.
     ///
     /// # Proved
     ///
@@ -360,10 +382,10 @@ impl<'a> Lexer<'a> {
     /// ```
     #[inline(always)]
     fn found(&self, pos: usize, stride: Stride) -> Found {
-        first_found(self.input, pos, &self.settings, stride)
+        scan_at(self.input, pos, &self.settings, stride)
     }
 
-    /// The token that was found at a byte of the text.
+    /// Creates the token of a lexeme that was found at byte offset `pos`.
     ///
     /// # Proved
     ///
@@ -379,7 +401,7 @@ impl<'a> Lexer<'a> {
     /// ```
     #[inline(always)]
     fn token(&self, pos: usize, lexeme: Lexeme) -> Token {
-        // The proof takes from here that the text is UTF-8.
+        // Needed only by the proof: the contract of `input` states that the text is UTF-8.
         let _ = self.input();
         Token {
             kind: lexeme.kind,
@@ -388,13 +410,13 @@ impl<'a> Lexer<'a> {
         }
     }
 
-    /// The fault at a byte of the text.
+    /// Returns the lexical error at byte offset `pos`.
     ///
     /// # Proved
     ///
     /// ```text
     /// requires start { IsCharBoundary self.now.text pos }
-    /// requires refused { IsRefused self.now.flags (drop pos self.now.text) }
+    /// requires refused { BeginsWithFault self.now.flags (drop pos self.now.text) }
     /// ensures { FaultAt self.now pos result }
     /// ```
     #[cold]
@@ -407,8 +429,13 @@ impl<'a> Lexer<'a> {
         }
     }
 
-    /// The annotation's token at any position, or the error of the fault there, where the byte
-    /// there is `@`; None where it is not, and where a token of another kind is there.
+    /// Returns the annotation at byte offset `pos`, which may be any offset. Returns `None` if the
+    /// byte there is not `@`, or if the token there is not an annotation.
+    ///
+    /// # Errors
+    ///
+    /// Returns the lexical error with its source line if the byte is `@` and no token begins there,
+    /// or the out-of-memory error if that line cannot be copied.
     ///
     /// # Proved
     ///
@@ -425,13 +452,14 @@ impl<'a> Lexer<'a> {
         Ok(token.filter(|token| token.kind == TokenKind::Annotation))
     }
 
-    /// The error of the fault at a byte of the text.
+    /// Returns the lexical error at byte offset `pos` with its source line, or the out-of-memory
+    /// error if that line cannot be copied.
     ///
     /// # Proved
     ///
     /// ```text
     /// requires start { IsCharBoundary self.now.text pos }
-    /// requires refused { IsRefused self.now.flags (drop pos self.now.text) }
+    /// requires refused { BeginsWithFault self.now.flags (drop pos self.now.text) }
     /// ensures { ErrorAt self.now pos result }
     /// ```
     #[cold]
@@ -442,7 +470,8 @@ impl<'a> Lexer<'a> {
         Error::lex(alloc, span, self.input(), fault.error)
     }
 
-    /// The tokens from a byte of the text on, up to its end or its first fault.
+    /// Returns an iterator over the raw tokens from byte offset `pos` on, up to the end of the text
+    /// or the first lexical error.
     ///
     /// # Proved
     ///
@@ -461,7 +490,8 @@ impl<'a> Lexer<'a> {
     /// ensures moves { Moves self.now pos }
     /// ```
     pub fn iter<'l>(&'l self, alloc: Global, pos: usize) -> Tokens<'l, 'a> {
-        // The proof of the laws takes from here that the text is UTF-8.
+        // Needed only by the proof of the theorems: the contract of `input` states that the text is
+        // UTF-8.
         let _ = self.input();
         Tokens {
             lexer: self,
@@ -472,7 +502,8 @@ impl<'a> Lexer<'a> {
     }
 }
 
-/// The tokens from a place on. It ends for good after the first fault, or at the text's end.
+/// An iterator over the raw tokens of a text. It ends for good after the first lexical error, or at
+/// the end of the text.
 pub struct Tokens<'l, 'a> {
     lexer: &'l Lexer<'a>,
     alloc: Global,
@@ -483,7 +514,8 @@ pub struct Tokens<'l, 'a> {
 impl<'l, 'a> Iterator for Tokens<'l, 'a> {
     type Item = Result<Token, Error>;
 
-    // A program with two loops would else call it, at 2.5 times the instructions for short tokens.
+    // Without inlining, a program with two loops calls it, at 2.5 times the instructions for short
+    // tokens.
     #[inline(always)]
     fn next(&mut self) -> Option<Result<Token, Error>> {
         if self.done {

@@ -7,7 +7,7 @@ use Rattle.wat_lex.proofs.errors.Digits.{low_glyph, high_glyph, written_more, wr
 use Rattle.wat_lex.proofs.error.pieces.digits.Goals as goal
 use Rattle.wat_lex.proofs.error.pieces.digits.Goals.{Else-rest-eq0, then-digit-lt10, else-digit-lt10}
 
--- what comes after a place, in a row of twenty
+-- The last 20 - at bytes of a buffer of 20 bytes are those from the index at on.
 after : (room : List ℕ) (at : ℕ) → length room ≡ 20 → take (20 - at) (drop at room) ≡ drop at room
 after room at e = ap (λ n. take (n - at) (drop at room)) (sym e) ∙ take_rest room at
 

@@ -1,6 +1,6 @@
 use Rattle.std.proofs.Common.{sym, ap, ◌∙◌, subst, ◌≡◌, ℕ, List, get_or, inl, inr, refl}
 use Rattle.std.specs.Prelude.{IfSome, IfNone}
-use Rattle.wat_lex.specs.inside.Outlines.{IsRefused}
+use Rattle.wat_lex.specs.inside.Outlines.{BeginsWithFault}
 use Rattle.wat_lex.specs.inside.ScannedLexemes.{LexemeFound}
 use Rattle.wat_lex.specs.tokens.Setting.{allowing}
 use Rattle.wat_lex.specs.declared.lexer.kinds.TokenKind.TheVariants.{LineComment, BlockComment}
@@ -25,8 +25,8 @@ line_comment_len-len-requires c =
 pub unreachable-requires : goal.unreachable-requires
 unreachable-requires c =
     elim c.if-byte_at-eq40.branch [
-      | then-byte_at-eq40 w ↦ comment_there c.args.flags c.args.text.now c.requires (subst (λ x. IfNone x (IsRefused (allowing c.args.flags) c.args.text.now)) (sym w.len-is ∙ c.in-None.is) w.block_comment_len-len.ensures.none)
-      | else-byte_at-eq40 w ↦ comment_there c.args.flags c.args.text.now c.requires (subst (λ x. IfNone x (IsRefused (allowing c.args.flags) c.args.text.now)) (sym w.len-is ∙ c.in-None.is) w.line_comment_len-len.ensures.none)
+      | then-byte_at-eq40 w ↦ comment_there c.args.flags c.args.text.now c.requires (subst (λ x. IfNone x (BeginsWithFault (allowing c.args.flags) c.args.text.now)) (sym w.len-is ∙ c.in-None.is) w.block_comment_len-len.ensures.none)
+      | else-byte_at-eq40 w ↦ comment_there c.args.flags c.args.text.now c.requires (subst (λ x. IfNone x (BeginsWithFault (allowing c.args.flags) c.args.text.now)) (sym w.len-is ∙ c.in-None.is) w.line_comment_len-len.ensures.none)
     ]
 
 pub returns : goal.returns

@@ -5,7 +5,7 @@ use Rattle.std.specs.List.{prefix_len}
 use Rattle.std.specs.Str.{IsCharBoundary}
 use Rattle.wat_lex.specs.grammar.Classes.{is_idchar}
 use Rattle.wat_lex.specs.inside.Recovered.{PassedTo}
-use Rattle.wat_lex.specs.inside.ScannedStrings.{StringTaken, StringRefused}
+use Rattle.wat_lex.specs.inside.ScannedStrings.{StringTaken, StringFaultFound}
 use Rattle.wat_lex.specs.declared.lexer.settings.Settings.{Settings}
 use Rattle.wat_lex.proofs.inside.Recoveries.{run_covered, run_goes_wrong}
 use Rattle.wat_lex.proofs.inside.RunSteps.{Joined, joined_start, joined_string, after_quote}
@@ -39,7 +39,7 @@ returns-in-Err c =
     let q = quote (goal.at.returns-in-Err c).Then-bytes-len-eq34 in
     let j = c.loop-len.invariant in
     run_covered c.args.flags c.args.text.now c.loop-len.len j.0 j.1 c.in-Err.field-0 c.rest_of_string.result j.2 q.inside q.byte
-    (subst (λ x. StringRefused c.args.flags x c.in-Err.field-0) c.range_from.ensures.value c.in-Err.ensures.err)
+    (subst (λ x. StringFaultFound c.args.flags x c.in-Err.field-0) c.range_from.ensures.value c.in-Err.ensures.err)
     (subst (λ x. PassedTo x c.rest_of_string.result) c.range_from-in-Err.ensures.value c.rest_of_string.ensures)
 
 rest_is : (text bs : List ℕ) (n : ℕ) → bs ≡ text → take (length bs - n) (drop n bs) ≡ drop n text

@@ -10,7 +10,7 @@ use Rattle.wat_lex.proofs.token.lines.fill_line_feeds.Goals.{In-Some}
 found : (c : In-Some) → IsFirstByte (is_byte 10) (drop c.loop-ahead.at c.args.text.now) (Some c.in-Some.ahead)
 found c = subst (λ s. IsFirstByte (is_byte 10) s (Some c.in-Some.ahead)) (take_rest c.args.text.now c.loop-ahead.at) c.in-Some.ensures
 
--- there is room for one more
+-- The buffer has capacity for one more offset.
 room : (c : In-Some) → c.loop-ahead.done + 1 ≤ c.line_feeds-count.result
 room c =
     let i = c.loop-ahead.invariant in

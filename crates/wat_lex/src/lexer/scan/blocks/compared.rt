@@ -1,12 +1,13 @@
-//! Tests of 16 bytes at once by comparisons, for processors without a shuffle.
+//! Classification of 16 bytes at once by comparisons, for processors without a shuffle instruction.
 ghost use Rattle.std.specs.Prelude.{◌≡◌};
 ghost use Rattle.wat_lex.specs.grammar.Classes.{is_hex, is_idchar, is_whitespace};
 ghost use Rattle.wat_lex.specs.inside.Blocks.{failures, is_plain_in_line};
 
 use std::simd::prelude::*;
 
-/// A bit for each byte that is no idchar, the lowest for the first.
-// Of the signs `;`, `[` and `{` differ in the bits of 0x60, `]` and `}` in that of 0x20, and `(` and `)` in the last one.
+/// Returns a bit mask of the bytes that are not idchars. The lowest bit is the first byte's.
+// The signs `;`, `[` and `{` differ in the bits 0x60 only, `]` and `}` in the bit 0x20 only, and
+// `(` and `)` in the lowest bit only.
 #[inline(always)]
 pub fn other_than_idchars(block: u8x16) -> u64
     ensures { result ≡ failures is_idchar block }
@@ -20,7 +21,8 @@ pub fn other_than_idchars(block: u8x16) -> u64
     (is_sign | is_outside).to_bitmask()
 }
 
-/// A bit for each byte that is no hexadecimal digit, the lowest for the first.
+/// Returns a bit mask of the bytes that are not hexadecimal digits. The lowest bit is the first
+/// byte's.
 #[inline(always)]
 pub fn other_than_hex_digits(block: u8x16) -> u64
     ensures { result ≡ failures is_hex block }
@@ -31,7 +33,7 @@ pub fn other_than_hex_digits(block: u8x16) -> u64
     (no_digit & no_letter).to_bitmask()
 }
 
-/// A bit for each byte that is no whitespace, the lowest for the first.
+/// Returns a bit mask of the bytes that are not whitespace. The lowest bit is the first byte's.
 #[inline(always)]
 pub fn other_than_whitespace(block: u8x16) -> u64
     ensures { result ≡ failures is_whitespace block }
@@ -42,8 +44,8 @@ pub fn other_than_whitespace(block: u8x16) -> u64
         & block.simd_ne(u8x16::splat(b'\r'))).to_bitmask()
 }
 
-/// A bit for each byte that ends a line or may begin a confusing character, the lowest for the
-/// first.
+/// Returns a bit mask of the bytes that end a line or are 0xE2, with which every confusing
+/// character begins. The lowest bit is the first byte's.
 #[inline(always)]
 pub fn other_than_plain_in_line(block: u8x16) -> u64
     ensures { result ≡ failures is_plain_in_line block }

@@ -3,7 +3,7 @@ use Rattle.std.specs.Prelude.{Vec}
 use Rattle.std.specs.declared.alloc.Global.{Global}
 use Rattle.std.proofs.lemmas.List.{map-append}
 use Rattle.wat_lexer_parser.specs.lemmas.WhileLaws.{IsSoFar, none_so_far, one_more_read, one_refused_read, look_refused_read, all_read_at, asks_at}
-use Rattle.wat_lexer_parser.specs.parser.Sights.{Tells}
+use Rattle.wat_lexer_parser.specs.parser.Sights.{PeekIs}
 use Rattle.wat_lexer_parser.specs.readings.Readings.{while_seen}
 use Rattle.wat_lexer_parser.specs.readings.Reads.{Reads}
 use Rattle.wat_lexer_parser.proofs.parser.Parser.all_while.Goals as goal
@@ -80,5 +80,5 @@ returns-in_err-peek-clause-reads g c =
     let b = c.each.self in
     let e = c.in_err-peek.field-0.0 in
     let is : c.from_residual.result ≡ Err e = search rules in
-    let known : Tells (g.P.Peek.sight b) (Err e) = search rules in
+    let known : PeekIs (g.P.Peek.sight b) (Err e) = search rules in
     subst (λ r. Reads (λ v. map g.T.Parse.value v.items) (while_seen g.P.Peek.sight g.T.Parse.meaning) a r b.place) (sym is) (look_refused_read (λ (v : Vec _ Global). map g.T.Parse.value v.items) g.P.Peek.sight g.T.Parse.meaning a b (map g.T.Parse.value c.each.values.items) e c.each.invariant.so_far c.each.invariant.kept c.each.invariant.within known)

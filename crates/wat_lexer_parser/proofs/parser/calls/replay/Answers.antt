@@ -2,7 +2,7 @@ use Rattle.std.proofs.Common.{◌≡◌, ◌+◌, ◌++◌, ◌∷◌, ◌∙◌
 use Rattle.std.specs.Prelude.{List}
 use Rattle.wat_lexer_parser.specs.declared.parser.calls.Call.{Call}
 use Rattle.wat_lexer_parser.specs.declared.parser.calls.Reply.{Reply}
-use Rattle.wat_lexer_parser.specs.calls.Calls.{AfterSome, answer}
+use Rattle.wat_lexer_parser.specs.calls.Calls.{IsStateAfterPrefix, answer}
 use Rattle.wat_lexer_parser.proofs.calls.Beginnings.{Played, play_start, play_more, play_begins}
 use Rattle.wat_lexer_parser.proofs.parser.calls.replay.Goals as goal
 
@@ -33,5 +33,5 @@ returns-in_err-push-clause-beginning c =
     let s : c.answer.new.self ≡ (answer l.parser x).1 = search rules in
     let r' = r ∙ ap (λ (y : Call). (answer l.parser y).0) c.index-calls-i.is in
     let s' = s ∙ ap (λ (y : Call). (answer l.parser y).1) c.index-calls-i.is in
-    let b : AfterSome c.args.parser.now cs c.answer.new.self = play_begins c.args.parser.now cs (l.i + 1) _ c.answer.new.self (play_more c.args.parser.now cs l.i l.replies.items l.parser x c.in_ok-reply.reply c.answer.new.self c.loop-i-test.true r' s' l.invariant.played) in
+    let b : IsStateAfterPrefix c.args.parser.now cs c.answer.new.self = play_begins c.args.parser.now cs (l.i + 1) _ c.answer.new.self (play_more c.args.parser.now cs l.i l.replies.items l.parser x c.in_ok-reply.reply c.answer.new.self c.loop-i-test.true r' s' l.invariant.played) in
     search rules

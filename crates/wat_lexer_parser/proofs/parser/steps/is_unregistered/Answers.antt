@@ -11,7 +11,7 @@ use Rattle.wat_lexer_parser.proofs.inside.PlainNames.{plain_value}
 use Rattle.wat_lexer_parser.proofs.shown.Annotations.{skipped}
 use Rattle.wat_lexer_parser.proofs.parser.steps.is_unregistered.Goals as goal
 
--- what has no fault is a name
+-- A result without an error is a name.
 named : (r : Result (List ℕ) LexError) → result_err r ≡ None → (x : List ℕ) × (r ≡ Ok x)
 named (Ok x) e = (x, refl)
 named (Err f) e = cc

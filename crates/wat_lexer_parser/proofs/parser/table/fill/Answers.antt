@@ -1,7 +1,7 @@
 use Rattle.std.proofs.Common.{◌∙◌, map, subst}
 use Rattle.std.proofs.lemmas.Str.{IsCharBoundary-start}
 use Rattle.wat_lexer_parser.specs.inside.TableNames.{name_view}
-use Rattle.wat_lexer_parser.specs.inside.Table.{Noted}
+use Rattle.wat_lexer_parser.specs.inside.Table.{HasAnnotations}
 use Rattle.wat_lexer_parser.proofs.inside.Filling.{filling_start, filling_more}
 use Rattle.wat_lexer_parser.proofs.parser.table.fill.Goals as goal
 
@@ -18,7 +18,7 @@ pub tokens-preserved : goal.tokens-preserved
 tokens-preserved c =
     let t = c.tokens.table in
     let u = c.add.new.self in
-    let noted = subst (λ x. Noted x u.tokens.items u.opens.items (map name_view u.names.items)) c.input-text.ensures.text c.in_ok-add-in-Ok-Some.ensures.noted in
+    let noted = subst (λ x. HasAnnotations x u.tokens.items u.opens.items (map name_view u.names.items)) c.input-text.ensures.text c.in_ok-add-in-Ok-Some.ensures.noted in
     let token = rw c.in-Ok-Some.field-0-is at c.in-Ok-Some.ensures.token in
     let boundary = rw c.in-Ok-Some.field-0-is at c.in-Ok-Some.ensures.boundary in
     record {

@@ -2,20 +2,20 @@
 //! Tokens and their kinds.
 
 use crate::shim::prelude::*;
-/// A single token of a text.
+/// A token of a text.
 // The largest field is first, so that a token has 16 bytes.
 #[derive(Clone, Copy, Debug, PartialEq)]
 pub struct Token {
-    /// Where the token begins, in bytes from the text's start.
+    /// Byte offset of the token in the text.
     pub offset: usize,
-    /// How many bytes the token has.
+    /// Length in bytes.
     pub len: u32,
-    /// What kind of token this is.
+    /// Kind of the token.
     pub kind: TokenKind,
 }
 
 impl Token {
-    /// Whether `@` comes directly after the first byte of the token, as in `(@`.
+    /// Returns `true` if the byte after the first byte of the token is `@`, as in `(@`.
     ///
     /// # Proved
     ///
@@ -32,14 +32,14 @@ impl Token {
     }
 }
 
-/// The kinds of tokens, whitespace and comments among them.
+/// Kind of a token. Whitespace and comments are tokens too.
 #[derive(Clone, Copy, Debug, PartialEq)]
 pub enum TokenKind {
-    /// `;;` up to the end of the line, which does not belong to it.
+    /// A line comment: `;;` and the rest of the line, without the line end.
     LineComment,
-    /// `(;` up to the `;)` that closes it; block comments nest.
+    /// A block comment: `(;` up to the matching `;)`. Block comments nest.
     BlockComment,
-    /// Spaces, tabs and line ends.
+    /// A run of spaces, tabs and line ends.
     Whitespace,
     /// `(`
     LParen,
@@ -47,15 +47,15 @@ pub enum TokenKind {
     RParen,
     /// A string in quotes.
     String,
-    /// `$` and a name, as idchars or as a string; also `$` alone,
-    /// whose name is a fault when it is read.
+    /// An identifier: `$` and a name, as idchars or as a string. Also `$` alone, which is an error
+    /// when its name is read.
     Id,
-    /// A word that begins with `a` to `z` and is no number.
+    /// A keyword: idchars that begin with `a` to `z` and are not a number.
     Keyword,
-    /// `@` and a name, as idchars or as a string; also `@` alone,
-    /// whose name is a fault when it is read.
+    /// An annotation: `@` and a name, as idchars or as a string. Also `@` alone, which is an error
+    /// when its name is read.
     Annotation,
-    /// What the format reserves: any other run, and each of `,` `;` `[` `]` `{` `}`.
+    /// A reserved token: any other run of idchars and strings, and each of `,` `;` `[` `]` `{` `}`.
     Reserved,
     /// An integer.
     Integer(IntegerKind),
@@ -64,8 +64,9 @@ pub enum TokenKind {
 }
 
 impl TokenKind {
-    /// The kind's number, 1 to 15, for programs that see a token as numbers: 11 for an integer, 12 to
-    /// 15 for the kinds of floats. The others have the place of their variant, counted from 1.
+    /// Returns the kind as an integer from 1 to 15, for programs that store tokens as integers. It
+    /// is 11 for an integer and 12 to 15 for the kinds of floats. The others are numbered from 1 in
+    /// the order of the variants.
     ///
     /// # Proved
     ///
@@ -93,7 +94,7 @@ impl TokenKind {
         }
     }
 
-    /// Whether it is white space or a comment.
+    /// Returns `true` for whitespace and comments.
     ///
     /// # Proved
     ///
@@ -109,7 +110,7 @@ impl TokenKind {
     }
 }
 
-/// What the lexer knows of an integer.
+/// What the lexer knows about an integer.
 #[derive(Clone, Copy, Debug, PartialEq)]
 pub struct IntegerKind {
     pub(crate) sign: Sign,
@@ -118,7 +119,7 @@ pub struct IntegerKind {
 }
 
 impl IntegerKind {
-    /// The sign that the integer begins with.
+    /// Returns the sign that the integer begins with, if any.
     ///
     /// # Proved
     ///
@@ -129,7 +130,7 @@ impl IntegerKind {
         self.sign.token()
     }
 
-    /// Whether underscores are between its digits.
+    /// Returns `true` if there are underscores between the digits.
     ///
     /// # Proved
     ///
@@ -140,7 +141,7 @@ impl IntegerKind {
         self.has_underscores
     }
 
-    /// Whether its digits come after `0x`.
+    /// Returns `true` if the digits follow `0x`.
     ///
     /// # Proved
     ///
@@ -152,31 +153,31 @@ impl IntegerKind {
     }
 }
 
-/// What the lexer knows of a floating-point number.
+/// Kind of a floating-point number, with what the lexer knows about it.
 #[derive(Clone, Copy, Debug, PartialEq)]
 pub enum FloatKind {
-    /// `inf`
+    /// `inf`, with or without a sign.
     Inf {
-        /// Whether it begins with `-`.
+        /// `true` if the number begins with `-`.
         negative: bool,
     },
-    /// `nan`
+    /// `nan`, with or without a sign.
     Nan {
-        /// Whether it begins with `-`.
+        /// `true` if the number begins with `-`.
         negative: bool,
     },
-    /// `nan:0x` and a payload.
+    /// `nan:0x` and a payload, with or without a sign.
     NanVal {
-        /// Whether it begins with `-`.
+        /// `true` if the number begins with `-`.
         negative: bool,
-        /// Whether underscores are between its digits.
+        /// `true` if there are underscores between the digits.
         has_underscores: bool,
     },
-    /// Digits with a fraction, an exponent, or both.
+    /// Digits with a dot, an exponent, or both.
     Normal {
-        /// Whether underscores are between its digits.
+        /// `true` if there are underscores between the digits.
         has_underscores: bool,
-        /// Whether its digits come after `0x`.
+        /// `true` if the digits follow `0x`.
         hex: bool,
     },
 }
@@ -190,8 +191,8 @@ pub enum SignToken {
     Minus,
 }
 
-/// The sign that a number begins with, or none, in one byte: an `Option` has a tag of its own, and
-/// a token is to be small.
+/// The sign that a number begins with, or none, in one byte. An `Option` would add a tag to each
+/// token, which is kept small.
 #[derive(Clone, Copy, Debug, PartialEq)]
 pub(crate) enum Sign {
     None,
@@ -200,6 +201,8 @@ pub(crate) enum Sign {
 }
 
 impl Sign {
+    /// Returns the sign, or `None` for a number without a sign.
+    ///
     /// # Proved
     ///
     /// ```text
@@ -214,45 +217,49 @@ impl Sign {
     }
 }
 
-/// A token at the start of a text: its kind, and its length in bytes.
+/// A token at the start of a text, without its offset.
 #[derive(Clone, Copy)]
 pub struct Lexeme {
     pub kind: TokenKind,
+    /// Length in bytes.
     pub len: usize,
 }
 
-/// What is at the start of a text.
+/// Result of scanning the start of a text: a token, the end of the text, or a lexical error.
 #[derive(Clone, Copy)]
 pub enum Found {
+    /// A token.
     Lexeme(Lexeme),
-    /// The text's end.
+    /// The end of the text.
     End,
-    /// No token.
+    /// A lexical error.
     Fault,
 }
 
-/// What a run at the start of a text is, known without the facts of a number.
+/// Kind of a run at the start of a text, with all runs of idchars alone in one variant.
 #[derive(Clone, Copy, PartialEq, Eq)]
 pub enum Shape {
     String,
     Id,
     Annotation,
     Reserved,
-    /// A word of idchars alone, of any kind.
+    /// Idchars alone: a number or any other kind.
     Word,
-    /// No token.
+    /// A lexical error.
     Fault,
 }
 
-/// How many bytes are looked at in one step: a block's, or one, which is faster where the target has
-/// no vectors.
+/// The number of bytes that are examined in one step.
 #[derive(Clone, Copy, PartialEq, Eq)]
 pub enum Stride {
+    /// One byte, which is faster on targets without vector instructions.
     Byte,
+    /// A block of 16 bytes.
     Block,
 }
 
-/// The shape of a run at the start of a text, and its length in bytes, 0 at a fault.
+/// The shape and the length in bytes of a run at the start of a text. At a lexical error, the
+/// length is 0.
 #[derive(Clone, Copy)]
 pub struct Outline {
     pub shape: Shape,

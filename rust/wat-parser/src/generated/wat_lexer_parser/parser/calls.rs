@@ -13,46 +13,49 @@ use wat_lex::proved::lexer::{Token, TokenKind};
 /// A call of a parser.
 #[derive(Debug, PartialEq)]
 pub enum Call {
-    /// Looks at what is shown.
+    /// A peek at the next visible token.
     Look,
-    /// Takes the token that is shown.
+    /// An advance past the next visible token.
     Take,
-    /// Takes the comment that comes next.
+    /// An advance past the next comment.
     Comment,
-    /// Registers the name of an annotation.
+    /// The registration of an annotation name.
     Register(String),
-    /// Takes back a name that was registered.
+    /// The removal of one registration of an annotation name.
     Unregister(String),
-    /// Takes a group in parentheses with up to so many tokens in it.
+    /// An advance past `(`, this number of visible tokens of any kind, and `)`.
     Parens(usize),
 }
 
-/// What a parser replies to a call.
+/// A parser's reply to a call.
 #[derive(Debug, PartialEq)]
 pub enum Reply {
-    /// This token is shown.
+    /// The next visible token.
     Token(Token),
-    /// The text's end is shown.
+    /// The end of the text.
     End,
-    /// A fault is shown, at this byte of the text.
+    /// An error that a peek found: its offset in the text, and its kind.
     Fault(usize, FaultKind),
-    /// The offset and the length of the comment that was taken.
+    /// The offset and the length of a comment that the parser advanced past.
     Comment(usize, u32),
-    /// The call was done.
+    /// Success of a registration, of its removal, or of an advance past a group.
     Done,
-    /// There is no comment, or the name is not registered.
+    /// Failure because no comment is next, or because the name is not registered.
     Absent,
-    /// No `(` is shown; with the current span's offset.
+    /// Failure because `(` is not next, with the offset of the current span.
     NotOpen(usize),
-    /// No `)` is shown after the tokens; with the current span's offset.
+    /// Failure because `)` is not next after the tokens of a group, with the offset of the current
+    /// span there.
     NotClosed(usize),
-    /// The name is registered as often as can be.
+    /// Failure because the name is registered `usize::MAX` times.
     TooOften,
 }
 
-/// What a look finds: a token or a comment with the place after it, None, or a fault.
+/// The result of a peek: a token or a comment with the position after it, `None`, or an error.
 type Found = Result<Option<(Token, usize)>, Fault>;
 
+/// Returns the reply for an error that a peek found.
+///
 /// # Proved
 ///
 /// ```text
@@ -62,6 +65,8 @@ fn fault_reply(fault: Fault) -> Reply {
     Reply::Fault(fault.offset, fault.kind)
 }
 
+/// Returns the reply for the result of a peek at a token.
+///
 /// # Proved
 ///
 /// ```text
@@ -75,6 +80,8 @@ fn shown_reply(found: Found) -> Reply {
     }
 }
 
+/// Returns the reply for the result of a peek at a comment.
+///
 /// # Proved
 ///
 /// ```text
@@ -89,18 +96,19 @@ fn comment_reply(found: Found) -> Reply {
 }
 
 impl<'a> Parser<'a> {
-    /// The place after what was found here, with its byte.
+    /// Returns the position after a token or comment found at the parser's position, and its byte
+    /// offset. If none was found, returns the parser's position.
     ///
     /// # Proved
     ///
     /// ```text
     /// requires on { IfOk found (λ found. IfSome found (λ v. self.now.place < v.1)) }
     /// requires after { IfOk found (λ found. IfSome found (IsAfter self.now.source)) }
-    /// ensures place { result.0 ≡ place_after found self.now.place }
+    /// ensures place { result.0 ≡ position_after found self.now.place }
     /// ensures on { self.now.place ≤ result.0 }
     /// ensures within { IsPlace self.now.source result.0 result.1 }
     /// ```
-    fn place_after(&self, found: Found) -> (usize, usize) {
+    fn position_after(&self, found: Found) -> (usize, usize) {
         match found {
             Ok(Some((token, next))) => (next, token.offset + token.len as usize),
             Ok(None) => (self.place, self.byte),
@@ -108,7 +116,8 @@ impl<'a> Parser<'a> {
         }
     }
 
-    /// The place after up to so many shown tokens, with its byte.
+    /// Returns the position after the next `count` visible tokens, and its byte offset. Stops early
+    /// at the end of the text. Returns an error if a peek finds one.
     ///
     /// # Proved
     ///
@@ -142,8 +151,8 @@ impl<'a> Parser<'a> {
         Ok((at, pos))
     }
 
-    /// The reply to taking `)` at `at`, with the place after it, or the parser's own where none is
-    /// shown, and its byte.
+    /// Returns the reply to consuming `)` at `at`, and the position after it with its byte offset.
+    /// If `)` is not next, the position is the parser's own.
     ///
     /// # Proved
     ///
@@ -175,8 +184,8 @@ impl<'a> Parser<'a> {
         }
     }
 
-    /// The reply to taking a group of up to so many tokens, with the place after it, or the parser's
-    /// own where it is no such group, and its byte.
+    /// Returns the reply to consuming `(`, `count` visible tokens and `)`, and the position after
+    /// them with its byte offset. If one of them is missing, the position is the parser's own.
     ///
     /// # Proved
     ///
@@ -212,7 +221,7 @@ impl<'a> Parser<'a> {
         }
     }
 
-    /// Makes a call, and answers its reply. Out of memory, it is not made.
+    /// Executes a call and returns its reply. Has no effect if an allocation fails.
     ///
     /// # Proved
     ///
@@ -226,19 +235,19 @@ impl<'a> Parser<'a> {
             Call::Look => Ok(shown_reply(self.look(self.place, self.byte))),
             Call::Take => {
                 let found = self.look(self.place, self.byte);
-                let (next, byte) = self.place_after(found);
+                let (next, byte) = self.position_after(found);
                 self.move_to(next, byte);
                 Ok(shown_reply(found))
             }
             Call::Comment => {
                 let source = &self.source;
                 let found = source.comment_at(self.place, self.byte);
-                let (next, byte) = self.place_after(found);
+                let (next, byte) = self.position_after(found);
                 self.move_to(next, byte);
                 Ok(comment_reply(found))
             }
-            Call::Register(name) => self.answer_register(name.as_str()),
-            Call::Unregister(name) => Ok(self.answer_unregister(name.as_str())),
+            Call::Register(name) => self.reply_to_register(name.as_str()),
+            Call::Unregister(name) => Ok(self.reply_to_unregister(name.as_str())),
             Call::Parens(count) => {
                 let (reply, place, byte) = self.group(*count);
                 self.move_to(place, byte);
@@ -247,6 +256,8 @@ impl<'a> Parser<'a> {
         }
     }
 
+    /// Registers an annotation name and returns the reply. Has no effect if an allocation fails.
+    ///
     /// # Proved
     ///
     /// ```text
@@ -254,7 +265,7 @@ impl<'a> Parser<'a> {
     /// ensures state { OnOk result (self.new ≡ (register self.old name.now).1) }
     /// ensures refused { OnErr result (self.new ≡ self.old) }
     /// ```
-    fn answer_register(&mut self, name: &str) -> Result<Reply, AllocError> {
+    fn reply_to_register(&mut self, name: &str) -> Result<Reply, AllocError> {
         let alloc = self.alloc();
         self.next = Kept::nothing();
         match self.names.register(alloc, name) {
@@ -264,13 +275,15 @@ impl<'a> Parser<'a> {
         }
     }
 
+    /// Removes one registration of an annotation name, if there is one, and returns the reply.
+    ///
     /// # Proved
     ///
     /// ```text
     /// ensures reply { result ≡ (unregister self.old name.now).0 }
     /// ensures state { self.new ≡ (unregister self.old name.now).1 }
     /// ```
-    fn answer_unregister(&mut self, name: &str) -> Reply {
+    fn reply_to_unregister(&mut self, name: &str) -> Reply {
         if self.names.is_registered(name) {
             self.next = Kept::nothing();
             self.names.unregister(name);
@@ -281,16 +294,20 @@ impl<'a> Parser<'a> {
     }
 }
 
-/// Makes the calls of a list one after another, and answers the replies. Out of memory, the first
-/// calls of the list were made, and the others not.
+/// Executes the calls of a list in order, and returns the replies.
+///
+/// # Errors
+///
+/// Fails if an allocation fails. The parser's state is then that after some number of calls from
+/// the start of the list.
 ///
 /// # Proved
 ///
 /// ```text
 /// ensures replies { IfOk result (λ made. made.items ≡ replies parser.old calls.now) }
 /// ensures state { IfOk result (λ _. parser.new ≡ state_after parser.old calls.now) }
-/// ensures beginning { OnErr result (AfterSome parser.old calls.now parser.new) }
-/// ensures law { NothingElse parser.old calls.now }
+/// ensures beginning { OnErr result (IsStateAfterPrefix parser.old calls.now parser.new) }
+/// ensures law { IsIndependentOfPeeks parser.old calls.now }
 /// ```
 pub fn replay<'a>(
     alloc: Global,

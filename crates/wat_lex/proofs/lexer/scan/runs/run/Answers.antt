@@ -3,7 +3,7 @@ use Rattle.std.proofs.lemmas.List.{take_rest}
 use Rattle.std.proofs.lemmas.Str.{IsCharBoundary-from_drop}
 use Rattle.std.specs.List.{prefix_len}
 use Rattle.wat_lex.specs.grammar.Classes.{is_idchar}
-use Rattle.wat_lex.specs.inside.ScannedStrings.{StringTaken, StringRefused}
+use Rattle.wat_lex.specs.inside.ScannedStrings.{StringTaken, StringFaultFound}
 use Rattle.wat_lex.proofs.inside.RunSteps.{Joined, joined_start, joined_string, joined_end, joined_wrong, after_quote}
 use Rattle.wat_lex.proofs.lexer.scan.runs.run.Goals as goal
 use Rattle.wat_lex.proofs.lexer.scan.runs.run.Goals.{Then-bytes-len-eq34, After-idchar_len-more}
@@ -32,7 +32,7 @@ returns-in-Err-clause-err c =
     let q = quote (goal.at.returns-in-Err-clause-err c).Then-bytes-len-eq34 in
     rw c.fault_moved.ensures
     (joined_wrong c.args.flags c.args.text.now c.loop-len.len c.loop-len.idchars c.loop-len.strings c.in-Err.fault c.loop-len.invariant q.inside q.byte
-    (subst (λ x. StringRefused c.args.flags x c.in-Err.fault) c.range_from.ensures.value c.in-Err.ensures.err))
+    (subst (λ x. StringFaultFound c.args.flags x c.in-Err.fault) c.range_from.ensures.value c.in-Err.ensures.err))
 
 rest_is : (text bs : List ℕ) (n : ℕ) → bs ≡ text → take (length bs - n) (drop n bs) ≡ drop n text
 rest_is text bs n e = take_rest bs n ∙ ap (drop n) e

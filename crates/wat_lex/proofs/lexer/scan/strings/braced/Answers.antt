@@ -21,7 +21,7 @@ pub returns-clause-err : goal.returns-clause-err
 returns-clause-err c = if_err c.braced_number.result _ _ (λ f. breaks_on _ (92 ∷ 117 ∷ []) (chars_rest c.args.it.now) (chars_rest c.next.new.self) 123 f (was (goal.at.returns-clause-err c).In-Some c.if-c-ne123.false)) c.braced_number.ensures.err
 
 pub returns-in_default-clause-err : goal.returns-in_default-clause-err
-returns-in_default-clause-err c = refused _ _ _ c.refuse.ensures (open_missing _ _ c.in_default.ensures.steps.0.0)
+returns-in_default-clause-err c = refused _ _ _ c.string_error_at.ensures (open_missing _ _ c.in_default.ensures.steps.0.0)
 
 pub returns-then-c-ne123-clause-err : goal.returns-then-c-ne123-clause-err
-returns-then-c-ne123-clause-err c = refused _ _ _ c.refuse-then-c-ne123.ensures (open_wrong _ _ _ c.in-Some.c _ (first (goal.at.returns-then-c-ne123-clause-err c).In-Some) (ap length c.as_str-left.ensures) c.if-c-ne123.true)
+returns-then-c-ne123-clause-err c = refused _ _ _ c.string_error_at-then-c-ne123.ensures (open_wrong _ _ _ c.in-Some.c _ (first (goal.at.returns-then-c-ne123-clause-err c).In-Some) (ap length c.as_str-left.ensures) c.if-c-ne123.true)

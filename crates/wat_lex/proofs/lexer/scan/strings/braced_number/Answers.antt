@@ -18,7 +18,7 @@ pub returns-clause-err : goal.returns-clause-err
 returns-clause-err c = if_err c.number.result _ _ (λ f. breaks_on _ (92 ∷ 117 ∷ 123 ∷ []) (chars_rest c.args.it.now) (chars_rest c.next.new.self) c.in-Some.c f (first (goal.at.returns-clause-err c).In-Some)) c.number.ensures.err
 
 pub returns-in_default-clause-err : goal.returns-in_default-clause-err
-returns-in_default-clause-err c = refused _ _ _ c.refuse.ensures (digits_missing _ _ c.in_default.ensures.steps.0.0)
+returns-in_default-clause-err c = refused _ _ _ c.string_error_at.ensures (digits_missing _ _ c.in_default.ensures.steps.0.0)
 
 pub returns-then-not-is_hex-clause-err : goal.returns-then-not-is_hex-clause-err
-returns-then-not-is_hex-clause-err c = refused _ _ _ c.refuse-then-not-is_hex.ensures (digits_wrong _ _ _ c.in-Some.c _ (first (goal.at.returns-then-not-is_hex-clause-err c).In-Some) (ap length c.as_str-left.ensures) (sym c.is_hex.ensures ∙ c.if-not-is_hex.true))
+returns-then-not-is_hex-clause-err c = refused _ _ _ c.string_error_at-then-not-is_hex.ensures (digits_wrong _ _ _ c.in-Some.c _ (first (goal.at.returns-then-not-is_hex-clause-err c).In-Some) (ap length c.as_str-left.ensures) (sym c.is_hex.ensures ∙ c.if-not-is_hex.true))

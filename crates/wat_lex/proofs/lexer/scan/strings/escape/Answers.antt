@@ -33,7 +33,7 @@ pub returns-clause-err : goal.returns-clause-err
 returns-clause-err c = if_err c.braced.result _ _ (λ f. breaks_on _ (92 ∷ []) (chars_rest c.args.it.now) (chars_rest c.next.new.self) 117 f (was (goal.at.returns-clause-err c).In-Some c.if-c-ne117.false)) c.braced.ensures.err
 
 pub returns-in_default-clause-err : goal.returns-in_default-clause-err
-returns-in_default-clause-err c = refused _ _ _ c.refuse.ensures (escape_missing _ _ c.in_default.ensures.steps.0.0)
+returns-in_default-clause-err c = refused _ _ _ c.string_error_at.ensures (escape_missing _ _ c.in_default.ensures.steps.0.0)
 
 pub returns-then-c-ne117-clause-err : goal.returns-then-c-ne117-clause-err
-returns-then-c-ne117-clause-err c = refused _ _ _ c.refuse-then-c-ne117.ensures (escape_wrong _ _ _ c.in-Some.c _ (first (goal.at.returns-then-c-ne117-clause-err c).In-Some) (ap length c.as_str-left.ensures) (sym c.in_default-letter.ensures) (sym c.is_hex.ensures ∙ c.if-is_hex.false) c.if-c-ne117.true)
+returns-then-c-ne117-clause-err c = refused _ _ _ c.string_error_at-then-c-ne117.ensures (escape_wrong _ _ _ c.in-Some.c _ (first (goal.at.returns-then-c-ne117-clause-err c).In-Some) (ap length c.as_str-left.ensures) (sym c.in_default-letter.ensures) (sym c.is_hex.ensures ∙ c.if-is_hex.false) c.if-c-ne117.true)

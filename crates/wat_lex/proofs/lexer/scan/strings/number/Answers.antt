@@ -25,11 +25,11 @@ returns-in_err-row_value-clause-err c =
 pub returns-in_default-clause-err : goal.returns-in_default-clause-err
 returns-in_default-clause-err c =
     let g = row_good c.args.flags c.args.first _ (chars_rest c.row.it) c.row.n c.row.last _ c.row.underscore c.row.invariant c.in_ok-row_value.ensures in
-    refused _ _ _ c.refuse.ensures (row_no_more c.args.flags c.args.first _ (chars_rest c.row.it) c.row.n c.row.last g.row c.in_default.ensures.steps.0.0 g.is)
+    refused _ _ _ c.string_error_at.ensures (row_no_more c.args.flags c.args.first _ (chars_rest c.row.it) c.row.n c.row.last g.row c.in_default.ensures.steps.0.0 g.is)
 
 pub returns-then-flags-clause-err : goal.returns-then-flags-clause-err
 returns-then-flags-clause-err c =
-    refused _ _ _ c.refuse-then-flags.ensures
+    refused _ _ _ c.string_error_at-then-flags.ensures
     (row_doubled c.args.flags c.args.first _ (chars_rest c.row.it) _ c.row.n c.row.last _ c.row.underscore c.row.invariant c.if-flags.true c.if-underscore.true (was 95 (goal.at.returns-then-flags-clause-err c).In-Some c.if-c-eq95.true) (ap length c.as_str-left.ensures))
 
 pub returns-in_err-n-clause-err : goal.returns-in_err-n-clause-err

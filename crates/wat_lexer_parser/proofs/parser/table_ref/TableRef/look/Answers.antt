@@ -84,7 +84,7 @@ returns-in-None-clause-value c =
     let e : t ≡ get_or s.tokens i t = search rules in
     let f : step_of s.setting.text n t (slice_get s.tokens (i + 1)) ≡ Skip = sym c.step.ensures ∙ c.in-Skip.is in
     let p : Pair s.tokens i None = subst (Pair s.tokens i) c.in-None.is c.close_of.ensures in
-    c.left_open.ensures ∙ sym (c.loop-i.invariant.same ∙ shown_unclosed s n i t h e f (λ r k. p r (group_from (drop (i + 1) s.tokens) r k)))
+    c.unclosed_ending.ensures ∙ sym (c.loop-i.invariant.same ∙ shown_unclosed s n i t h e f (λ r k. p r (group_from (drop (i + 1) s.tokens) r k)))
 
 pub returns-clause-value : goal.returns-clause-value
 returns-clause-value c =

@@ -2,7 +2,6 @@ use Rattle.std.proofs.Common.{◌≡◌, ◌<◌, ◌+◌, ◌∙◌, ap, sym, s
 use Rattle.std.specs.Str.{IsCharBoundary}
 use Rattle.wat_lex.specs.tokens.BareWords.{BareWordAt, bare_len}
 use Rattle.wat_lex.specs.tokens.Setting.{Setting}
-use Rattle.wat_lex.proofs.tokens.ReadableTokens.{token_of}
 use Rattle.wat_lexer_parser.specs.inside.Next.{IsPlace}
 use Rattle.wat_lexer_parser.specs.inside.ShownIn.{step_next}
 use Rattle.wat_lexer_parser.specs.names.RegisteredNames.{no_names}
@@ -29,7 +28,7 @@ returns c =
     let word = subst (λ (x : Setting). BareWordAt x c.args.byte c.past_bare_word-end.result) same (c.past_bare_word-end.ensures.token some) in
     let t = word.token in
     let there = some_is s c.args.place c.args.byte (Some t) c.lemma_read.ensures.read c.requires.place word.there in
-    let reader = token_of s.setting c.args.byte t at word.there in
+    let reader = c.tokens.ensures.readable s.setting c.args.byte t at word.there in
     let kind = word.marked (first_byte text c.args.byte c.requires.marked) in
     let offset = word.there.offset in
     let long : 1 < t.len = omega (arith, word.ends, offset, c.if-end-byte-lt2.false) in

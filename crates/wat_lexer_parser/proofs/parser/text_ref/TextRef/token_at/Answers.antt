@@ -2,7 +2,7 @@ use Rattle.std.proofs.Common.{◌≡◌, ℕ, drop, ap, sym, subst, Some, None, 
 use Rattle.std.specs.Prelude.{IfOk, IfErr, IfSome, IfNone, Option, Result, slice_get}
 use Rattle.std.specs.Str.{IsCharBoundary}
 use Rattle.wat_lex.specs.tokens.Setting.{Setting}
-use Rattle.wat_lex.specs.tokens.UniqueTilings.{AnswerAt}
+use Rattle.wat_lex.specs.tokens.UniqueTilings.{ResultAt}
 use Rattle.wat_lex.specs.declared.lexer.faults.LexFault.{LexFault}
 use Rattle.wat_lex.specs.declared.lexer.kinds.Token.{Token}
 use Rattle.wat_lexer_parser.specs.inside.Next.{IsPlace}
@@ -16,9 +16,9 @@ scan-requires c =
     let same : s.setting ≡ c.self.inside.lexer = ap (λ (x : Source). x.setting) (sym c.self.view_is) in
     subst (λ (x : Setting). IsCharBoundary x.text c.args.byte) same (boundary s c.args.place c.args.byte c.lemma_read.ensures.utf8 c.lemma_read.ensures.read c.requires)
 
-found_here : (s : Source) (x : Setting) (p byte : ℕ) (r : Result (Option Token) LexFault) → s.setting ≡ x → AnswerAt s.setting byte (answer_of (drop p s.tokens) s.ending)
-    → ((q : Result (Option Token) LexFault) → AnswerAt x byte q → q ≡ r) → answer_of (drop p s.tokens) s.ending ≡ r
-found_here s x p byte r same a one = one (answer_of (drop p s.tokens) s.ending) (subst (λ y. AnswerAt y byte (answer_of (drop p s.tokens) s.ending)) same a)
+found_here : (s : Source) (x : Setting) (p byte : ℕ) (r : Result (Option Token) LexFault) → s.setting ≡ x → ResultAt s.setting byte (answer_of (drop p s.tokens) s.ending)
+    → ((q : Result (Option Token) LexFault) → ResultAt x byte q → q ≡ r) → answer_of (drop p s.tokens) s.ending ≡ r
+found_here s x p byte r same a one = one (answer_of (drop p s.tokens) s.ending) (subst (λ y. ResultAt y byte (answer_of (drop p s.tokens) s.ending)) same a)
 
 pub returns-clause-token : goal.returns-clause-token
 returns-clause-token c =

@@ -1,0 +1,9 @@
+use Rattle.std.specs.Cow.{cow_slice_items}
+use Rattle.wat_c.specs.Readings.{Finds, IsString, ReadsString}
+use Rattle.wat_c.proofs.Answering.{given}
+use Rattle.wat_c.proofs.by_place.give_string.Goals as goal
+
+pub returns-in-Ok : goal.returns-in-Ok
+returns-in-Ok c =
+    given (Finds IsString ReadsString (record { text = c.args.text.now; flags = c.args.settings }) c.args.pos) c.args.out.now c.give.new.out c.as_slice.result.now (cow_slice_items c.in-Ok.value) c.give.result
+    c.in-Ok.ensures.found c.as_slice.ensures.value c.give.ensures.known c.give.ensures.left

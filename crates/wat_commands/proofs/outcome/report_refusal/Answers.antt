@@ -1,9 +1,0 @@
-use Rattle.std.proofs.Common.{sym, ◌∙◌}
-use Rattle.wat_commands.proofs.OutcomeLaws.{refused_named}
-use Rattle.wat_commands.proofs.outcome.report_refusal.Goals as goal
-
-pub returns-in-None : goal.returns-in-None
-returns-in-None g c = rw c.in-None.is (rw c.from.ensures at c.writeln.ensures.bytes)
-
-pub returns-in-Some-2 : goal.returns-in-Some-2
-returns-in-Some-2 g c = refused_named c.writeln-in-Some-2.result c.args.name c.in-Some-2.field-0 c.args.failure _ _ c.in-Some-2.is (sym c.is_unread.ensures ∙ c.if-is_unread.false) c.writeln-in-Some-2.ensures.bytes

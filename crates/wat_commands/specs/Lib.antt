@@ -1,8 +1,0 @@
-pub mod Compiles
-pub mod Modules
-pub mod JsonWrites
-pub mod Outcomes
-pub mod Printed
-pub mod Responses
-pub mod Runs
-pub mod Writes

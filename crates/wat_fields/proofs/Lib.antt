@@ -1,3 +1,0 @@
-pub mod FunctionTypes
-pub mod TypeKeys
-pub mod Lengths

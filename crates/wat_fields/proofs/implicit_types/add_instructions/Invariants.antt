@@ -1,8 +1,0 @@
-use Rattle.std.proofs.Common.{◌≡◌, drop}
-use Rattle.std.specs.List.{flat_map}
-use Rattle.wat_fields.specs.ImplicitTypes.{types_after}
-use Rattle.wat_instructions.specs.Uses.{instruction_types}
-use Rattle.wat_fields.proofs.implicit_types.add_instructions.Given as goal
-
-abbrev pub invariant-loop-instruction : goal.invariant-loop-instruction
-invariant-loop-instruction l = types_after l.fn.types (flat_map instruction_types l.all) ≡ types_after l.types (flat_map instruction_types (drop l.instruction-index l.all))

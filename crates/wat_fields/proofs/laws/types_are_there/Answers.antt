@@ -1,5 +1,0 @@
-use Rattle.wat_fields.proofs.FunctionTypes as function_types
-use Rattle.wat_fields.proofs.laws.types_are_there.Goals as goal
-
-pub returns : goal.returns
-returns c = function_types.types_are_there

@@ -1,6 +1,0 @@
-use Rattle.std.proofs.Common.{◌≡◌, ◌<◌, ◌^◌, length, take}
-use Rattle.wat_fields.specs.Views.{together}
-use Rattle.wat_fields.proofs.strings.len_of.Given as goal
-
-abbrev pub invariant-loop-string : goal.invariant-loop-string
-invariant-loop-string l = (l.len ≡ length (together (take l.string-index l.strings))) × (l.len < 2 ^ 63)

@@ -1,8 +1,0 @@
-use Rattle.wat_fields_read.proofs.Utf8.{utf8_yes, utf8_no}
-use Rattle.wat_fields_read.proofs.header.is_utf8.Goals as goal
-
-pub returns-in-Ok : goal.returns-in-Ok
-returns-in-Ok c = utf8_yes c.args.bytes.now c.in-Ok.ensures.cases.1
-
-pub returns-in-Err : goal.returns-in-Err
-returns-in-Err c = utf8_no c.args.bytes.now c.in-Err.ensures.cases.0

@@ -1,9 +1,0 @@
-use Rattle.std.proofs.Common.{◌≡◌, ◌++◌, map, drop}
-use Rattle.std.specs.List.{flat_map}
-use Rattle.wat_instructions.specs.Terminals.{label}
-use Rattle.wat_fields_read.specs.Reading.{elem_name_at}
-use Rattle.wat_fields_read.specs.Views.{left_of}
-use Rattle.wat_fields_read.proofs.names.elem_names.Given as goal
-
-abbrev pub invariant-loop-start : goal.invariant-loop-start
-invariant-loop-start l = flat_map elem_name_at (map left_of l.starts) ≡ map label l.names.items ++ flat_map elem_name_at (map left_of (drop l.start-index l.starts))

@@ -1,4 +1,0 @@
-mod FunctionTypes
-mod Imports
-mod Layouts
-mod Sums

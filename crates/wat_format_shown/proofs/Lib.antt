@@ -1,5 +1,0 @@
-mod Alike
-mod Places
-mod Same
-mod Shows
-mod Tokens

@@ -1,4 +1,0 @@
-pub mod Moved
-pub mod Reads
-pub mod Sides
-pub mod lemmas

@@ -1,4 +1,0 @@
-//! What a parser shows of a layout is what it shows of the text.
-#![tactic(auto)]
-
-pub mod laws;

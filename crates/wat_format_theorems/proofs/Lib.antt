@@ -1,0 +1,7 @@
+mod Alike
+mod FunctionTypes
+mod Layouts
+mod Places
+mod Same
+mod Shows
+mod Tokens

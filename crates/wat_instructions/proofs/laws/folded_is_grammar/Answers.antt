@@ -1,5 +1,0 @@
-use Rattle.wat_instructions.proofs.Folding.{law}
-use Rattle.wat_instructions.proofs.laws.folded_is_grammar.Goals as goal
-
-pub returns : goal.returns
-returns c = law

@@ -1,5 +1,0 @@
-use Rattle.wat_instructions.proofs.Runs.{law}
-use Rattle.wat_instructions.proofs.laws.machine_is_grammar.Goals as goal
-
-pub returns : goal.returns
-returns c = law

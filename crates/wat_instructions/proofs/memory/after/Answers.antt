@@ -1,7 +1,0 @@
-use Rattle.std.proofs.Common.{rules}
-use Rattle.wat_instructions.specs.Memory.{after}
-use Rattle.wat_instructions.proofs.memory.after.Goals as goal
-
-pub returns : goal.returns
-unfolding after
-returns c = search rules

@@ -1,7 +1,0 @@
-use Rattle.std.proofs.Common.{◌≡◌, drop}
-use Rattle.wat_instructions.specs.Memory.{are_digits}
-use Rattle.wat_instructions.proofs.Digits.{digits_from}
-use Rattle.wat_instructions.proofs.memory.are_digits.Given as goal
-
-abbrev pub invariant-loop-byte : goal.invariant-loop-byte
-invariant-loop-byte l = digits_from l.hex l.after_digit (drop l.byte-index l.digits) ≡ are_digits l.hex l.digits

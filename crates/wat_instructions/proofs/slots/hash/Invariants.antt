@@ -1,6 +1,0 @@
-use Rattle.std.proofs.Common.{◌≡◌, drop}
-use Rattle.wat_instructions.specs.Slots.{hash_from}
-use Rattle.wat_instructions.proofs.slots.hash.Given as goal
-
-abbrev pub invariant-loop-byte : goal.invariant-loop-byte
-invariant-loop-byte l = hash_from l.hash (drop l.byte-index l.word) ≡ hash_from 0 l.word

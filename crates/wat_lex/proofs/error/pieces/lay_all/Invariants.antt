@@ -1,8 +1,0 @@
-use Rattle.std.proofs.Common.{take}
-use Rattle.std.specs.Prelude.{flat_map}
-use Rattle.wat_lex.specs.errors.LaidPieces.{LaysMore}
-use Rattle.wat_lex.specs.errors.PieceTexts.{piece_text}
-use Rattle.wat_lex.proofs.error.pieces.lay_all.Given as goal
-
-abbrev pub invariant-loop-piece : goal.invariant-loop-piece
-invariant-loop-piece l = LaysMore l.initial.out l.initial.at (flat_map piece_text (take l.piece-index l.pieces)) l.out l.at

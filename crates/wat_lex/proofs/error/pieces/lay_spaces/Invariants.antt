@@ -1,6 +1,0 @@
-use Rattle.std.specs.Prelude.{replicate}
-use Rattle.wat_lex.specs.errors.LaidPieces.{LaysMore}
-use Rattle.wat_lex.proofs.error.pieces.lay_spaces.Given as goal
-
-abbrev pub invariant-loop : goal.invariant-loop
-invariant-loop l = LaysMore l.initial.out l.initial.at (replicate l.counter 32) l.out l.at

@@ -1,5 +1,0 @@
-use Rattle.wat_lines.proofs.Decimals.{pair_at}
-use Rattle.wat_lines.proofs.line.two_digits.Goals as goal
-
-pub returns : goal.returns
-returns c = pair_at c.args.number c.requires

@@ -1,0 +1,15 @@
+pub mod Branches
+pub mod Types
+pub mod Memory
+pub mod Table
+pub mod Slots
+pub mod Grammar
+pub mod Names
+pub mod Uses
+pub mod TypeViews
+pub mod Fields
+pub mod ImplicitTypes
+pub mod Modules
+pub mod Indices
+pub mod Law
+pub mod Views

@@ -1,0 +1,5 @@
+pub mod Counting
+pub mod SectionBytes
+pub mod RunLaws
+pub mod LocalLaws
+pub mod FunctionElements

@@ -1,0 +1,18 @@
+//! Encodes the fields of a module in the binary format, section by section.
+#![tactic(auto)]
+
+mod bytes;
+mod code;
+mod data;
+mod elements;
+pub mod encode;
+mod exports;
+mod functions;
+mod globals;
+mod imports;
+mod indices;
+mod instructions;
+mod memories;
+mod start;
+mod tables;
+mod types;

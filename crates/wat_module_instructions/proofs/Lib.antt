@@ -1,0 +1,13 @@
+pub mod Runs
+pub mod Passing
+pub mod Stacks
+pub mod Steps
+pub mod Opens
+pub mod Digits
+pub mod Exponents
+pub mod Distinct
+pub mod Labels
+pub mod Listed
+pub mod Folding
+pub mod Lanes
+pub mod Alike

@@ -1,0 +1,4 @@
+pub mod Indices
+pub mod Machine
+pub mod Law
+pub mod Parts

@@ -1,0 +1,145 @@
+-- The stack, the names and the errors of the code, as definitions, and what its calls ensure. Not part of the standard.
+use Rattle.std.specs.Prelude.{Bool, ◌≡◌, ◌<◌, ℕ, length, List, [], ◌∷◌, ◌++◌, map, Result, Ok, Err, MatchResult}
+use Rattle.wat_module_ast.specs.declared.error.Fault as declared
+use Rattle.wat_module_tokens.specs.declared.stream.TokenCursor.{TokenCursor}
+use Rattle.wat_module_ast.specs.declared.instruction.Instruction.{Instruction}
+use Rattle.wat_module_ast.specs.declared.error.ParseFailure.{ParseFailure}
+use Rattle.wat_module_ast.specs.declared.error.ParseFailure.TheVariants.{Text, Memory}
+use Rattle.wat_module_instructions.specs.declared.frame.Frame.{Frame}
+use Rattle.wat_module_instructions.specs.declared.frame.Frame.TheVariants as frame
+use Rattle.wat_module_ast.specs.declared.instruction.ValueType.{ValueType}
+use Rattle.wat_module_instructions.specs.declared.reading.Identifiers.{Identifiers}
+use Rattle.wat_module_instructions.specs.declared.reading.Identifiers.TheVariants as identifiers
+use Rattle.wat_module_instructions.specs.declared.reading.Scope.{Scope}
+use Rattle.wat_module_ast.specs.TypeViews.{type_of}
+use Rattle.wat_module_ast.specs.Grammar.{Context, Fault, Lane, before_labels, before_type, labels_from, lane_bytes, lane_index, lane_of, listed}
+use Rattle.wat_module_ast.specs.Branches.{branches}
+use Rattle.wat_module_instructions.specs.Machine.{Part, Body, Block, Group, Operands, Condition, Then, Else, Step, labels_in, run}
+use Rattle.wat_module_tokens.specs.TokenCursor.{terminals_of}
+use Rattle.wat_module_tokens.specs.Terminals.{Terminal, Label, label}
+
+-- A frame of the code's stack.
+abbrev pub part : Frame → Part
+part frame.Body = Body
+part (frame.Block b l) = Block b (label l)
+part (frame.Group l) = Group (label l)
+part (frame.Operands i) = Operands i
+part (frame.Condition i l) = Condition i (label l)
+part (frame.Then l) = Then (label l)
+part (frame.Else l) = Else (label l)
+
+-- The frames on top of the stack `ps`; the last frame is the innermost.
+abbrev pub stack_on : List Frame → List Part → List Part
+stack_on [] ps = ps
+stack_on (f ∷ fs) ps = stack_on fs (part f ∷ ps)
+
+-- The stack of these frames.
+unfoldable pub stack : List Frame → List Part
+stack fs = stack_on fs []
+
+-- The context that the code parses with.
+abbrev pub scope_of : Scope → Context
+scope_of s = record {
+  types = record { names = s.type_names.now; types = map type_of s.types.now; are_known = s.are_types_known };
+  locals = s.locals.now;
+  funcs = s.funcs.now;
+  tables = s.tables.now;
+  memories = s.memories.now;
+  globals = s.globals.now;
+  elems = s.elems.now;
+  datas = s.datas.now;
+}
+
+-- A syntax error of the code.
+abbrev pub fault_of : declared.Fault → Fault
+fault_of f = (f.kind, terminals_of f.left)
+
+-- `Faults q e`: if `e` is a syntax error, `q` fails with it; if `e` is an allocation failure, nothing is ensured.
+abbrev pub Faults : {A : Type 0} → Result A Fault → ParseFailure → Type 0
+Faults q (Text f) = q ≡ Err (fault_of f)
+Faults q (Memory e) = Unit {0}
+
+-- The identifiers among which an index is looked up, in the order of their indices.
+abbrev pub identifiers_of : Identifiers → List Label
+identifiers_of (identifiers.Items names) = names.now
+identifiers_of (identifiers.Labels frames) = labels_in (stack frames.now)
+
+-- `ReadsAs view expected result`: a call returns a value, whose `view` is that of the definition, and the tokens after
+-- it. Otherwise it fails with the error of the definition, or with an allocation failure.
+abbrev pub ReadsAs : {V W : Type 0} → (V → W) → Result (W × List Terminal) Fault → Result (V × TokenCursor) ParseFailure → Type 0
+ReadsAs view expected result = MatchResult result (λ r. expected ≡ Ok (view r.0, terminals_of r.1)) (λ e. Faults expected e)
+
+-- `ReadsExactly view expected result`: like `ReadsAs`, for a call that does not allocate: its error is that of the
+-- definition.
+abbrev pub ReadsExactly : {V W : Type 0} → (V → W) → Result (W × List Terminal) Fault → Result (V × TokenCursor) declared.Fault → Type 0
+ReadsExactly view expected result = MatchResult result (λ r. expected ≡ Ok (view r.0, terminals_of r.1)) (λ f. expected ≡ Err (fault_of f))
+
+-- `SkipsExactly expected result`: a call that does not allocate returns the remaining tokens of the definition, or fails
+-- with its error.
+abbrev pub SkipsExactly : Result (List Terminal) Fault → Result TokenCursor declared.Fault → Type 0
+SkipsExactly expected result = MatchResult result (λ r. expected ≡ Ok (terminals_of r)) (λ f. expected ≡ Err (fault_of f))
+
+-- `IsMemory e`: the error `e` is an allocation failure.
+abbrev pub IsMemory : ParseFailure → Type 0
+IsMemory (Text f) = ⊥
+IsMemory (Memory e) = Unit {0}
+
+-- `NoLabel ls n ts before after`: no label follows `n` at `ts`, and `after` is `before`.
+abbrev pub NoLabel : List Label → ℕ → List Terminal → List ℕ → List ℕ → Type 0
+NoLabel ls n ts before after = (labels_from ls n ts ≡ Ok (branches [] n, ts)) × (after ≡ before)
+
+-- `IsLabel ls n ts before after m us`: the label `m` follows `n` at `ts`, `us` comes after it,
+-- and `after` is `before` with `n` appended.
+abbrev pub IsLabel : List Label → ℕ → List Terminal → List ℕ → List ℕ → ℕ → List Terminal → Type 0
+IsLabel ls n ts before after m us = (labels_from ls n ts ≡ before_labels n (labels_from ls m us)) × (after ≡ before ++ n ∷ [])
+
+-- A result with these types before its own.
+abbrev pub before_all : List ValueType → Result (List ValueType × List Terminal) Fault → Result (List ValueType × List Terminal) Fault
+before_all [] q = q
+before_all (u ∷ us) q = before_type u (before_all us q)
+
+-- `NotListed word inside ts before after`: no group begins at `ts`, so nothing is consumed, and `after` is `before`.
+abbrev pub NotListed : List ℕ → Bool → List Terminal → List ValueType → List ValueType → Type 0
+NotListed word inside ts before after = (listed word inside ts ≡ Ok ([], ts)) × (after ≡ before)
+
+-- `IsListed word inside ts before after still left`: tokens up to `left` are consumed, and their types are appended to
+-- `before`, which gives `after`; `still` is true if `left` is inside a group.
+pub record IsListed (word : List ℕ) (inside : Bool) (ts : List Terminal) (before after : List ValueType) (still : Bool) (left : List Terminal) : Type 0 where
+  pub types : List ValueType
+  pub is : listed word inside ts ≡ before_all types (listed word still left)
+  pub follow : after ≡ before ++ types
+
+-- `IsIndex ts before after left`: a lane index is parsed, up to `left`, and appended to `before`, which gives `after`.
+pub record IsIndex (ts : List Terminal) (before after : List ℕ) (left : List Terminal) : Type 0 where
+  pub number : ℕ
+  pub is : lane_index ts ≡ Ok (number, left)
+  pub follow : after ≡ before ++ number ∷ []
+
+-- `IsLane k ts before after left`: a lane of the kind `k` is parsed, up to `left`, and its bytes are
+-- appended to `before`, which gives `after`.
+pub record IsLane (k : Lane) (ts : List Terminal) (before after : List ℕ) (left : List Terminal) : Type 0 where
+  pub number : ℕ
+  pub is : lane_of k ts ≡ Ok (number, left)
+  pub follow : after ≡ before ++ lane_bytes k number
+
+-- `Stepped q before after frames left`: the step `q` is without an error. Its instructions are appended to `before`,
+-- which gives `after`; `frames` is its stack, and `left` the remaining tokens.
+pub record Stepped (q : Result Step Fault) (before after : List Instruction) (frames : List Part) (left : List Terminal) : Type 0 where
+  pub output : List Instruction
+  pub is : q ≡ Ok (record { output = output; stack = frames; left = left })
+  pub follows : after ≡ before ++ output
+
+-- `StepsAs expected before after frames result`: a call makes the step of the definition, which appends instructions to
+-- `before` and gives `after`. Otherwise it fails with the error of the definition, or with an allocation failure.
+abbrev pub StepsAs : Result Step Fault → List Instruction → List Instruction → List Part → Result TokenCursor ParseFailure → Type 0
+StepsAs expected before after frames result = MatchResult result (λ r. Stepped expected before after frames (terminals_of r)) (λ e. Faults expected e)
+
+-- `RunsTo context ps ts before after left`: with more steps than tokens, the run ends at `left`, and its instructions
+-- are appended to `before`, which gives `after`.
+abbrev pub RunsTo : Context → List Part → List Terminal → List Instruction → List Instruction → List Terminal → Type 0
+RunsTo context ps ts before after left = (n : ℕ) → length ts < n → (is : List Instruction) × (run context n ps ts ≡ Ok (is, left)) × (after ≡ before ++ is)
+
+-- `RunsInto context ps ts e`: with more steps than tokens, the run fails with the
+-- error `e`, or `e` is an allocation failure.
+abbrev pub RunsInto : Context → List Part → List Terminal → ParseFailure → Type 0
+RunsInto context ps ts e = (n : ℕ) → length ts < n → Faults (run context n ps ts) e

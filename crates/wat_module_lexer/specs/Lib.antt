@@ -1,0 +1,3 @@
+pub mod TokenTerminals
+pub mod Shown
+pub mod Drafts

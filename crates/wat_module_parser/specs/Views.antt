@@ -1,0 +1,72 @@
+-- The remaining tokens, names, variables and type uses of the code, as definitions, and what a call that parses
+-- an item ensures. Not part of the standard.
+use Rattle.std.specs.Prelude.{◌≡◌, ◌++◌, List, [], map, Some, None, Ok, Err}
+use Rattle.wat_module_ast.specs.declared.error.ParseFailure.{ParseFailure}
+use Rattle.wat_module_ast.specs.declared.error.ParseFailure.TheVariants as refusal
+use Rattle.wat_module_instructions.specs.Parts.{fault_of}
+use Rattle.wat_module_ast.specs.Grammar.{Context}
+use Rattle.wat_module_tokens.specs.TokenCursor.{terminals_of}
+use Rattle.wat_module_tokens.specs.Terminals.{Terminal, Label, label}
+use Rattle.wat_module_ast.specs.Types.{Types}
+use Rattle.wat_module_ast.specs.TypeViews.{type_of}
+use Rattle.wat_module_tokens.specs.declared.stream.TokenCursor as declared_pieces
+use Rattle.wat_module_parser.specs.declared.names.Binding as declared_binding
+use Rattle.wat_module_parser.specs.declared.names.Names as declared_names
+use Rattle.wat_module_parser.specs.declared.variables.NamedUse as declared_use
+use Rattle.wat_module_parser.specs.declared.variables.Variable as declared_variable
+use Rattle.wat_module_ast.specs.Fields.{Binding, NamedUse, Variable, binding, named_use, variable}
+use Rattle.wat_module_parser.specs.Reading.{Item}
+
+-- The terminals that remain to be parsed.
+abbrev pub remaining_terminals : declared_pieces.TokenCursor → List Terminal
+remaining_terminals l = terminals_of l
+
+-- An item of an index space of the code.
+abbrev pub binding_of : declared_binding.Binding → Binding
+binding_of h = binding h.space (label h.name)
+
+-- A parameter, a result or a local of the code.
+abbrev pub variable_of : declared_variable.Variable → Variable
+variable_of v = variable (label v.name) v.of
+
+-- A type use of the code, with the identifiers of its parameters.
+abbrev pub use_of : declared_use.NamedUse → NamedUse
+use_of u = named_use u.index (map variable_of u.params.items) (map variable_of u.results.items)
+
+-- The types that the code parses with.
+abbrev pub types_of : declared_names.Names → Types
+types_of n = record { names = n.type_names; types = map type_of n.types.items; are_known = n.are_types_known }
+
+-- The context that the code parses with, without locals.
+abbrev pub context_of : declared_names.Names → Context
+context_of n = record {
+  types = types_of n;
+  locals = [];
+  funcs = n.funcs;
+  tables = n.tables;
+  memories = n.memories;
+  globals = n.globals;
+  elems = n.elems;
+  datas = n.datas;
+}
+
+-- The context `c` with these identifiers of locals.
+abbrev pub with_names : List Label → Context → Context
+with_names ls c = record { types = c.types; locals = ls; funcs = c.funcs; tables = c.tables; memories = c.memories; globals = c.globals; elems = c.elems; datas = c.datas }
+
+-- `NoItem item before after`: no such item is next, and `after` is `before`.
+abbrev pub NoItem : {V : Type 0} → Item V → List V → List V → Type 0
+NoItem item before after = (item ≡ None) × (after ≡ before)
+
+-- `IsItem item before after left`: an item is parsed, up to `left`, and its values are
+-- appended to `before`, which gives `after`.
+pub record IsItem {V : Type 0} (item : Item V) (before after : List V) (left : List Terminal) : Type 0 where
+  pub values : List V
+  pub is : item ≡ Some (Ok (values, left))
+  pub follow : after ≡ before ++ values
+
+-- `ItemFaults item e`: if `e` is a syntax error, the item fails with it; if `e` is
+-- an allocation failure, nothing is ensured.
+abbrev pub ItemFaults : {V : Type 0} → Item V → ParseFailure → Type 0
+ItemFaults item (refusal.Text f) = item ≡ Some (Err (fault_of f))
+ItemFaults item (refusal.Memory e) = Unit {0}

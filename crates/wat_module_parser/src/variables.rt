@@ -1,0 +1,114 @@
+//! Parameters, results and locals with their identifiers, and their types alone.
+ghost use Rattle.std.specs.Prelude.{◌≡◌, ◌∷◌, map, IfOk};
+ghost use Rattle.std.specs.List.{flat_map};
+ghost use Rattle.wat_module_ast.specs.Fields as grammar;
+ghost use Rattle.wat_module_ast.specs.Views.{local_types};
+ghost use Rattle.wat_module_parser.specs.Views.{use_of, variable_of};
+ghost use Rattle.wat_module_ast.specs.TypeViews as bare;
+ghost use Rattle.wat_module_ast.specs.TypeViews.{type_of};
+
+use std::alloc::{AllocError, Global};
+use wat_module_ast::fields::Locals;
+use wat_module_ast::instruction::ValueType;
+use wat_module_ast::types::{FunctionType, TypeUse};
+use wat_module_tokens::token::Name;
+
+/// A parameter, result or local.
+#[derive(Clone, Copy)]
+pub(crate) struct Variable<'a> {
+    /// Identifier of the variable, if given.
+    pub(crate) name: Name<'a>,
+    /// Type of the variable.
+    pub(crate) of: ValueType,
+}
+
+/// A type use whose parameters keep their identifiers.
+#[derive(Drop)]
+pub(crate) struct NamedUse<'a> {
+    /// Type index, if given.
+    pub(crate) index: Option<usize>,
+    /// Parameters.
+    pub(crate) params: Vec<Variable<'a>>,
+    /// Results.
+    pub(crate) results: Vec<Variable<'a>>,
+}
+
+/// Returns the types of variables.
+pub(crate) fn value_types(
+    alloc: Global,
+    variables: &[Variable<'_>],
+) -> Result<Vec<ValueType>, AllocError>
+    ensures { IfOk result (λ types. types.items ≡
+        map grammar.type_of (map variable_of variables.now)) }
+{
+    let mut types = Vec::new(alloc);
+    for variable in variables {
+        types.push(variable.of)?;
+    }
+    Ok(types)
+}
+
+/// Returns the locals as maximal runs of consecutive variables of one type.
+pub(crate) fn locals_of(
+    alloc: Global,
+    variables: &[Variable<'_>],
+) -> Result<Vec<Locals>, AllocError>
+    ensures { IfOk result (λ locals. flat_map local_types locals.items ≡
+        map grammar.type_of (map variable_of variables.now)) }
+{
+    match variables {
+        [first, others @ ..] => locals_after(alloc, first.of, others),
+        [] => Ok(Vec::new(alloc)),
+    }
+}
+
+/// Returns a local of type `first`, and the locals `others` after it, as maximal runs of
+/// consecutive locals of one type.
+fn locals_after(
+    alloc: Global,
+    first: ValueType,
+    others: &[Variable<'_>],
+) -> Result<Vec<Locals>, AllocError>
+    ensures { IfOk result (λ locals. flat_map local_types locals.items ≡
+        first ∷ map grammar.type_of (map variable_of others.now)) }
+{
+    let mut locals = Vec::new(alloc);
+    let mut count = 1;
+    let mut of = first;
+    for other in others {
+        if other.of == of {
+            count += 1;
+        } else {
+            locals.push(Locals { count, of })?;
+            count = 1;
+            of = other.of;
+        }
+    }
+    locals.push(Locals { count, of })?;
+    Ok(locals)
+}
+
+/// Returns the function type with these parameters and results.
+pub(crate) fn function_type(
+    alloc: Global,
+    params: &[Variable<'_>],
+    results: &[Variable<'_>],
+) -> Result<FunctionType, AllocError>
+    ensures { IfOk result (λ of. type_of of ≡
+        grammar.function_type (map variable_of params.now) (map variable_of results.now)) }
+{
+    let params = value_types(alloc, params)?;
+    let results = value_types(alloc, results)?;
+    Ok(FunctionType { params, results })
+}
+
+/// Returns the type use without the identifiers of its parameters.
+pub(crate) fn without_names(alloc: Global, uses: &NamedUse<'_>) -> Result<TypeUse, AllocError>
+    ensures { IfOk result (λ u. bare.use_of u ≡ grammar.without_names (use_of uses.now)) }
+{
+    let of = function_type(alloc, &uses.params, &uses.results)?;
+    Ok(TypeUse {
+        index: uses.index,
+        of,
+    })
+}

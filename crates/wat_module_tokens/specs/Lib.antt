@@ -1,0 +1,3 @@
+pub mod Terminals
+pub mod Tokens
+pub mod TokenCursor

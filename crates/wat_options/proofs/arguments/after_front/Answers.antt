@@ -1,6 +1,0 @@
-use Rattle.std.proofs.Common.{sym, ◌∙◌}
-use Rattle.wat_options.proofs.ArgumentLaws.{front_nil}
-use Rattle.wat_options.proofs.arguments.after_front.Goals as goal
-
-pub returns-in_default : goal.returns-in_default
-returns-in_default c = record { rest = sym (front_nil c.loop-argument.rest.now c.in_default.ensures) ∙ c.loop-argument.invariant.rest; shorter = c.loop-argument.invariant.shorter }

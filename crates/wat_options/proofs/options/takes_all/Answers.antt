@@ -1,6 +1,0 @@
-use Rattle.std.proofs.Common.{sym, ◌∙◌}
-use Rattle.wat_options.proofs.LineLaws.{take_none}
-use Rattle.wat_options.proofs.options.takes_all.Goals as goal
-
-pub returns : goal.returns
-returns c = sym (take_none c.args.verb c.loop-argument.rest.now c.in_default.ensures) ∙ c.loop-argument.invariant

@@ -1,5 +1,0 @@
-use Rattle.wat_parser_c.proofs.KnownFaults.{faults_are_known}
-use Rattle.wat_parser_c.proofs.laws.faults_are_known.Goals as goal
-
-pub returns : goal.returns
-returns c = faults_are_known

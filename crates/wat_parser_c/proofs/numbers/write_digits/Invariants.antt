@@ -1,5 +1,0 @@
-use Rattle.wat_parser_c.proofs.Writing.{Written}
-use Rattle.wat_parser_c.proofs.numbers.write_digits.Given as goal
-
-abbrev pub invariant-loop-byte : goal.invariant-loop-byte
-invariant-loop-byte l = Written l.initial.out l.out l.initial.at l.at l.digits l.byte-index

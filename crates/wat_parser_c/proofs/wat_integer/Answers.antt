@@ -1,5 +1,0 @@
-use Rattle.wat_rows.specs.Rows.{setting}
-use Rattle.wat_parser_c.proofs.wat_integer.Goals as goal
-
-pub returns-clause-one : goal.returns-clause-one
-returns-clause-one c = c.one_answer.ensures.integers (setting c.args.text.now c.args.allow c.args.strict) c.args.pos c.args.out.now

@@ -1,8 +1,0 @@
-use Rattle.std.proofs.Common.{◌≡◌, length, refl, rules}
-use Rattle.wat_pieces.proofs.Puts.{put_open}
-use Rattle.wat_pieces.proofs.push_open.Goals as goal
-
-pub returns-clause-sound : goal.returns-clause-sound
-returns-clause-sound c =
-    let count : c.len.result ≡ length c.args.draft.now.tokens.items = search rules in
-    put_open c.args.text.now c.args.draft.now (record c.args.draft.now { tokens = c.push-2.new.self }) c.args.groups.now.items c.push.new.self.items c.new.result c.len.result c.in_ok-push-2.ensures.items refl c.in_ok-push.ensures.items count c.new.ensures c.requires.sound

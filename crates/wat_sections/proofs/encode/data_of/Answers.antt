@@ -1,7 +1,0 @@
-use Rattle.wat_sections.specs.Views.{counts_of, segment_of}
-use Rattle.std.proofs.Common.{map}
-use Rattle.wat_sections.proofs.Counting.{all_data}
-use Rattle.wat_sections.proofs.encode.data_of.Goals as goal
-
-pub returns : goal.returns
-returns c = all_data c.args.fields.now (map segment_of c.loop-field.segments.items) (counts_of c.loop-field.counts) c.loop-field.field-index c.loop-field.invariant.0 c.loop-field-test.false

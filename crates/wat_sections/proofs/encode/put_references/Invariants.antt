@@ -1,8 +1,0 @@
-use Rattle.std.proofs.Common.{◌≡◌, ◌++◌, map, take}
-use Rattle.std.specs.List.{flat_map}
-use Rattle.wat_sections.specs.Binary.{expression_bytes}
-use Rattle.wat_fields.specs.Fields.{ref_func}
-use Rattle.wat_sections.proofs.encode.put_references.Given as goal
-
-abbrev pub invariant-loop-index : goal.invariant-loop-index
-invariant-loop-index l = l.out.items ≡ l.initial.out.items ++ flat_map (expression_bytes l.types) (map ref_func (take l.index-index l.functions))

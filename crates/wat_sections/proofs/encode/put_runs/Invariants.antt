@@ -1,8 +1,0 @@
-use Rattle.std.proofs.Common.{◌≡◌, ◌++◌, map, take}
-use Rattle.std.specs.List.{flat_map}
-use Rattle.wat_sections.specs.Binary.{run_bytes}
-use Rattle.wat_sections.specs.Views.{run_of}
-use Rattle.wat_sections.proofs.encode.put_runs.Given as goal
-
-abbrev pub invariant-loop-run : goal.invariant-loop-run
-invariant-loop-run l = l.out.items ≡ l.initial.out.items ++ flat_map run_bytes (map run_of (take l.run-index l.runs))

@@ -1,8 +1,0 @@
-use Rattle.std.proofs.Common.{◌≡◌, length, map, take}
-use Rattle.std.specs.List.{flat_map}
-use Rattle.wat_sections.specs.Binary.{data_bytes}
-use Rattle.wat_sections.specs.Views.{segment_of}
-use Rattle.wat_sections.proofs.encode.segments_len.Given as goal
-
-abbrev pub invariant-loop-segment : goal.invariant-loop-segment
-invariant-loop-segment l = l.all ≡ length (flat_map (data_bytes l.types) (map segment_of (take l.segment-index l.segments)))

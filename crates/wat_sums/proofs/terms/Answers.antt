@@ -1,7 +1,0 @@
-use Rattle.std.proofs.Common.{refl}
-use Rattle.wat_sums.specs.Sums.{term}
-use Rattle.wat_sums.proofs.terms.Goals as goal
-
-pub all_of-requires : goal.all_of-requires
-unfolding term
-all_of-requires c = λ k. ((refl, tt), term.advances refl)

@@ -1,0 +1,13 @@
+use Rattle.std.proofs.Common.{◌≡◌, length, ◌-◌}
+use Rattle.wat_lexer_parser.specs.laws.BlankTexts.{blank_text}
+use Rattle.wat_tokens_io.specs.lemmas.BlockLaws.{Putting}
+use Rattle.wat_tokens_output.proofs.blank.write_blanked.Given as goal
+
+abbrev pub invariant-tokens : goal.invariant-tokens
+invariant-tokens g l = record {
+  putting : Putting (blank_text l.lexer.text) l.lexer l.pos (g.W.Sink.held l.initial.output) (g.W.Sink.held l.output) l.block;
+  failed : g.W.Sink.failure l.output ≡ g.W.Sink.failure l.initial.output;
+}
+
+abbrev pub decreases-tokens : goal.decreases-tokens
+decreases-tokens g l = length l.lexer.text - l.pos

@@ -1,0 +1,9 @@
+use Rattle.wat_tokens_output.specs.declared.input.RunFailure.TheVariants.{NotUtf8}
+use Rattle.wat_tokens_output.specs.lemmas.InputLaws.{text_known, as_other}
+use Rattle.wat_tokens_run.proofs.print.print.Goals as goal
+
+pub returns-in-Ok-clause-not_utf8 : goal.returns-in-Ok-clause-not_utf8
+returns-in-Ok-clause-not_utf8 g c = λ n. text_known c.print_of.result c.args.bytes.now n c.in-Ok.ensures.utf8 c.print_of.ensures.refused
+
+pub returns-in-Err-clause-not_utf8 : goal.returns-in-Err-clause-not_utf8
+returns-in-Err-clause-not_utf8 g c = λ n. as_other c.in-Err.error (NotUtf8 n) (c.in-Err.ensures.not_utf8 n)

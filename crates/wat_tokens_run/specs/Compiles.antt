@@ -1,0 +1,62 @@
+-- WebAssembly specification, text format and binary format: modules. The output of the commands `types` and `module`: the bytes of the module that a
+-- text is, or nothing and an error. That nothing is written for another text is not part of the standard.
+use Rattle.std.specs.Prelude.{◌≡◌, ◌<◌, ◌^◌, false, ℕ, List, [], length, Option, Some, Err, MatchOption}
+use Rattle.std.specs.Str.{IsUtf8}
+use Rattle.wat_module_ast.specs.Fields.{Field}
+use Rattle.wat_lex.specs.errors.Errors.{Report}
+use Rattle.wat_lex.specs.tokens.Tiling.{MaximalTiling}
+use Rattle.wat_lex.specs.declared.lexer.faults.LexFault.{LexFault}
+use Rattle.wat_lex.specs.declared.lexer.kinds.Token.{Token}
+use Rattle.wat_lexer_parser.specs.declared.parser.fault.Fault.{Fault}
+use Rattle.wat_lexer_parser.specs.laws.Blanking.{TextShows}
+use Rattle.wat_lexer_parser.specs.names.RegisteredNames.{no_names}
+use Rattle.wat_modules.specs.Compiling as modules
+use Rattle.wat_module_lexer.specs.TokenTerminals as pieces
+use Rattle.wat_module_encoder.specs.Binary as sections
+use Rattle.wat_types.specs.Binary as binary
+use Rattle.wat_types.specs.Compiling as types
+use Rattle.wat_types.specs.Signatures.{Signature}
+
+-- Of a text and a value, `Spells` states that the grammar derives the text with this value, `Fits` that its binary format is short enough, and `encoded`
+-- is that binary format. The text has a value that fits, and these are the bytes of that value.
+pub record Compiled {V : Type 0} (Spells : V → Type 0) (Fits : V → Type 0) (encoded : V → List ℕ) (written : List ℕ) : Type 0 where
+  pub value : V
+  pub spelled : Spells value
+  pub fit : Fits value
+  pub bytes : written ≡ encoded value
+
+-- The text has no value that fits, nothing is written, and the error reported is the error of the text.
+pub record Rejected {V : Type 0} (Spells : V → Type 0) (Fits : V → Type 0) (IsErrorOfText : Report → Type 0) (written : List ℕ) (error : Option Report) : Type 0 where
+  pub unspelled : (value : V) → Spells value → ¬ Fits value
+  pub nothing : written ≡ []
+  pub refusal : Report
+  pub refused : IsErrorOfText refusal
+  pub reported : error ≡ Some refusal
+
+-- The bytes are a text of at most 2^32-1 bytes. Without an error, the output is the binary format of the text's value, and otherwise nothing.
+pub record Compiles {V : Type 0} (Spells : List ℕ → V → Type 0) (Fits : V → Type 0) (encoded : V → List ℕ) (IsErrorOf : List ℕ → Report → Type 0) (bytes written : List ℕ) (error : Option (Option Report)) : Type 0 where
+  pub utf8 : IsUtf8 bytes
+  pub short : length bytes < 2 ^ 32
+  pub compiled : MatchOption error (Compiled (Spells bytes) Fits encoded written) (Rejected (Spells bytes) Fits (IsErrorOf bytes) written)
+
+-- The error of a text that `types` rejects follows from its raw tokens.
+pub record IsTypesError (text : List ℕ) (refusal : Report) : Type 0 where
+  pub tokens : List Token
+  pub ending : Option LexFault
+  pub tiling : MaximalTiling (types.plain text) 0 tokens ending
+  pub refused : types.compiled_text (record { setting = types.plain text; track = false; tokens = tokens; ending = ending }) ≡ Err refusal
+
+-- The output of `types`, for a module of function types.
+abbrev pub CompilesTypes : List ℕ → List ℕ → Option (Option Report) → Type 0
+CompilesTypes = Compiles {V = List Signature} types.SpellsTypes binary.Fits binary.module_bytes IsTypesError
+
+-- The error of a text that `module` rejects follows from its visible tokens, and from the error after them.
+pub record IsModuleError (text : List ℕ) (refusal : Report) : Type 0 where
+  pub tokens : List Token
+  pub last : Option Fault
+  pub shown : TextShows (pieces.plain text) no_names tokens last
+  pub refused : modules.compiled text tokens last ≡ Err refusal
+
+-- The output of `module`, for a module of any fields.
+abbrev pub CompilesModule : List ℕ → List ℕ → Option (Option Report) → Type 0
+CompilesModule = Compiles {V = List Field} modules.DenotesModule modules.Fits sections.module_bytes IsModuleError

@@ -1,0 +1,135 @@
+"""The known differences between the results of `wat2wasm` 1.0.32, wast 222 and the program under test, for compare_modules.py."""
+import functools
+
+import module_tokens as tokens_of
+from generate_modules import FORMS, laid
+from module_sections import DATA_COUNT, contents, differences, meaning, type_count
+
+# Texts that `wat2wasm` accepts and the program rejects: the program's message, and a test of the tokens.
+REFUSED = {
+    "of an `if` without `then` or `else`, which wat2wasm takes": ("unexpected token", tokens_of.has_bare_part),
+    "of a table or elements of numbers, which wat2wasm takes": ("unknown keyword", tokens_of.has_number_table),
+    "of an unknown name in an element, for which wat2wasm does not look": ("unknown identifier", tokens_of.has_name_in_element),
+    "of a table that is said, without `func` or an offset, which wat2wasm takes": ("unexpected token", tokens_of.has_said_table),
+    "of an element segment with nothing in it, which wat2wasm takes": ("unexpected token", tokens_of.has_no_list),
+    "of two data segments of one name, which wat2wasm takes": ("duplicate identifier", tokens_of.has_two_segments_of_a_name),
+    "of a `table.copy` of one table, which wat2wasm takes": ("unexpected token", tokens_of.has_one_table),
+    "of a type's number with the lists of another type, which wat2wasm takes": ("mismatching type", tokens_of.type_numbers),
+}
+# Texts of older syntax or later proposals that only the program rejects: its message, and a test of the tokens.
+REFUSED_ALONE = {
+    "of limits with a type, which both oracles take": ("unexpected token", tokens_of.has_index_type),
+    "of a segment's memory or table without parentheses, which both oracles take": ("unexpected token", tokens_of.has_bare_use),
+    "of a memory's index in an instruction, which both oracles take": ("unexpected token", tokens_of.has_memory_index),
+    "of a memory's index before a memory argument, which both oracles take": ("unknown keyword", tokens_of.has_memory_index),
+}
+OF_A_FORM = "of a form left out: "
+NO_TYPE = "of the number of no type, for which the oracles do not look"
+
+
+def is_taken_by_both(name):
+    """Returns `True` if both reference implementations are known to accept the texts of a known difference."""
+    return name is not None and (name == NO_TYPE or name in REFUSED_ALONE or name.startswith(OF_A_FORM))
+
+
+# Texts that a program rejects if it does not implement a form: its message, and a test of the tokens.
+LEFT_OUT = {
+    **{form: [("unknown keyword", functools.partial(tokens_of.has_word, {word for word, _ in rows}))] for form, rows in FORMS.items()},
+    "reference-types": [("unknown keyword", tokens_of.has_reference), ("unknown identifier", tokens_of.has_reference)],
+    "typed-select": [("unknown keyword", tokens_of.has_typed_select)],
+    "bare": [("unexpected token", tokens_of.has_no_module), ("unknown keyword", tokens_of.has_no_module)],
+}
+
+# Texts that the program accepts and `wat2wasm` rejects.
+CONDITIONS = "of an `if` with more conditions than one, which wat2wasm refuses"
+UNFOUND = "of the number of a type that a use brings, which wat2wasm does not find"
+STOPPED = "of a segment with a label's name or a type use, at which an assertion of wat2wasm fails"
+
+# Texts for which the program and `wat2wasm` write different bytes.
+SHORT = "of a block of `(type x)`, which wat2wasm writes short"
+UNTYPED = "of a block of the number of a type that a use brings, which wat2wasm writes as one without a type"
+EMPTY = "of an element without instructions, which wat2wasm leaves out"
+OUTSIDE = "of a type use outside of functions, which wat2wasm does not look for"
+COUNT = "of a data count, which wat2wasm leaves out of no segments and writes for other expressions"
+LONG = "of a table's index from 64 on, which wat2wasm writes in two bytes"
+# The known differences that occur in modules, and not only in mutants.
+OF_MODULES = {SHORT, STOPPED, COUNT, LONG}
+
+
+def refusal(without, tokens, message):
+    """Returns the name of the known difference that explains why only the program rejects a text, or `None`."""
+    found = (name for name, (said, has) in {**REFUSED_ALONE, **REFUSED}.items() if message.startswith(said + "\n") and has(tokens))
+    left_out = (f"{OF_A_FORM}{form}" for form in without for said, has in LEFT_OUT[form] if message.startswith(said + "\n") and has(tokens))
+    return next(left_out, None) or next(found, None)
+
+
+def is_no_type(tokens, message, theirs):
+    """Returns `True` if a type use has an integer that is not the index of a type in the module of these bytes."""
+    return message.startswith("unknown identifier\n") and any(number >= type_count(theirs) for number in tokens_of.type_numbers(tokens))
+
+
+def is_other_count(tokens, ours, theirs):
+    """Returns `True` if one data count is omitted: by `wat2wasm` that of 0 segments, by the program one that no function needs."""
+    ours, theirs = (contents(data).get(DATA_COUNT) for data in (ours, theirs))
+    return ours == b"\0" and theirs is None or ours is None and not tokens_of.has_data_index(tokens)
+
+
+def is_long(makers, rng, tokens):
+    """Returns `True` if the bytes agree, or differ in a known way, once each index of a table is below 64."""
+    small = tokens_of.with_small_tables(tokens)
+    ours, theirs = (maker(small, laid(rng, small))[0] for maker in makers)
+    return small != tokens and None not in (ours, theirs) and (ours == theirs or bool(other_bytes(makers, rng, small, ours, theirs)))
+
+
+def other_bytes(makers, rng, tokens, ours, theirs):
+    """Returns the names of the known differences that together explain why the bytes differ from those of `wat2wasm`, or an empty list."""
+    names, short = [], tokens_of.shortened(tokens)
+    if short != tokens and (answer := makers[0](short, laid(rng, short))[0]) is not None:
+        names, tokens, ours = [SHORT], short, answer
+    bare = tokens_of.untyped(tokens)
+    if bare != tokens and (answer := makers[0](bare, laid(rng, bare))[0]) is not None:
+        names, tokens, ours = names + [UNTYPED], bare, answer
+    spelled, said = differences(contents(ours), contents(theirs)), differences(meaning(ours), meaning(theirs))
+    if DATA_COUNT in spelled and is_other_count(tokens, ours, theirs):
+        names, spelled, said = names + [COUNT], spelled - {DATA_COUNT}, said - {DATA_COUNT}
+    if spelled and not said and is_long(makers, rng, tokens):
+        names, spelled = names + [LONG], set()
+    if not spelled:
+        return names
+    if tokens_of.has_use_outside(tokens):
+        return [OUTSIDE]
+    return [EMPTY] if tokens_of.has_empty_item(tokens) else []
+
+
+def departures(makers, without, rng, tokens, ours, theirs):
+    """Returns the names of the known differences that explain these results, or an empty list.
+
+    `makers` are functions that return the results of the program and of `wat2wasm` for tokens and their text.
+    """
+    if ours[0] is not None and theirs[0] is not None:
+        return other_bytes(makers, rng, tokens, ours[0], theirs[0])
+    if ours[0] is None:
+        name = NO_TYPE if theirs[0] is not None and is_no_type(tokens, ours[1], theirs[0]) else refusal(without, tokens, ours[1])
+    elif "Assertion" in theirs[1]:
+        name = STOPPED
+    elif "invalid func type index" in theirs[1]:
+        name = UNFOUND
+    else:
+        name = CONDITIONS if tokens_of.has_more_conditions(tokens) and "expected" in theirs[1] else None
+    return [name] if name else []
+
+
+# Changes to a text that a reference implementation does not accept as it is, by the construct that is changed.
+FOR_WAT2WASM = {"a table's index left out": tokens_of.with_tables}
+FOR_WAST = {"an underscore in a memory argument": tokens_of.without_underscores, "a folded block in a segment, without `offset` or `item`": tokens_of.with_words}
+
+
+def written_for(oracle, tokens):
+    """Returns the tokens as a reference implementation accepts them, and the names of the changed constructs."""
+    names = []
+    for name, change in oracle.items():
+        changed = change(tokens)
+        if changed != tokens:
+            names.append(name)
+        tokens = changed
+    return tokens, names

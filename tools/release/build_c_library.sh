@@ -1,0 +1,13 @@
+#!/usr/bin/env bash
+# Proves and builds the static library, and copies the small C library of Rattle's toolchain, which it uses to allocate, to the same folder. Prints
+# the folder of both archives.
+#
+# usage: tools/release/build_c_library.sh
+set -eu
+cd "$(dirname "$0")/../.."
+if ! said=$(cd crates/wat_c && rt lib); then
+    echo "$said" >&2
+    exit 1
+fi
+cp "$(dirname "$(rt doc)")/c/liblibc_c.a" crates/wat_c/out/
+echo crates/wat_c/out

@@ -1,0 +1,225 @@
+#!/usr/bin/env python3
+"""Runs the program on long texts, and checks the bytes that it allocates, the bytes that it still holds at its end, its writes and its opened files.
+
+usage: tools/test/memory_bounds.py PROGRAM
+
+If BY_CARGO is set, PROGRAM was built with cargo, and Rust's library still holds the buffer of standard input at the end.
+
+Each run has a bound on the bytes allocated for each byte of its text, and a bound on its writes. It must end within a time limit, and its output is
+compared with output generated here or with that of an equivalent run. At the end no memory may be held. The counts are those of
+tools/lib/fail_allocations.c, which is loaded before the C library.
+"""
+import os
+import pathlib
+import re
+import shutil
+import subprocess
+import sys
+import tempfile
+
+TOOLS = pathlib.Path(__file__).resolve().parents[1]
+# Time limit of a run. A correct run is much faster; a run whose time is quadratic in the length of the text takes minutes.
+SECONDS = 20
+# The bytes that a run may allocate in addition to those in proportion to the text: for arguments, a report and one block of output.
+BESIDE = 200_000
+# The bytes that the runtime library of the program's compiler holds until the end.
+KEPT = 9_000 if os.environ.get("BY_CARGO") else 0
+# The number of bytes of standard input that are read at once.
+PIECE = 65_536
+WHITE = ("Whitespace", "LineComment", "BlockComment")
+
+
+def compiler():
+    if shutil.which(os.environ.get("CC", "cc")):
+        return os.environ.get("CC", "cc")
+    page = subprocess.run(["rt", "doc"], capture_output=True, text=True, check=True).stdout.strip()
+    return str(pathlib.Path(page).parent / "toolchain/bin/clang")
+
+
+class Room:
+    """A temporary directory with the counting library and the files of the runs."""
+
+    def __init__(self, program, folder):
+        self.program, self.folder = pathlib.Path(program).resolve(), pathlib.Path(folder)
+        self.library = self.folder / "refuse.so"
+        self.faults, self.runs = [], 0
+        command = [compiler(), "-O1", "-fPIC", "-shared", "-nostdlib", "-o", self.library, TOOLS / "lib/fail_allocations.c"]
+        subprocess.run(command, check=True)
+
+    def file(self, name, text):
+        (self.folder / name).write_bytes(text)
+
+    def run(self, words, text=b""):
+        """Runs the program on a text, and returns its status, output, report and counts. Standard input is a file, so that reads are not short."""
+        counts, given = self.folder / "counts", self.folder / "given"
+        given.write_bytes(text)
+        with open(counts, "wb") as counted, open(given, "rb") as source:
+            os.set_inheritable(counted.fileno(), True)
+            inside = {"LD_PRELOAD": str(self.library), "TELL": str(counted.fileno()), "PATH": os.environ["PATH"]}
+            try:
+                done = subprocess.run(
+                    [self.program, *words], stdin=source, capture_output=True, cwd=self.folder, env=inside, timeout=SECONDS, pass_fds=[counted.fileno()]
+                )
+            except subprocess.TimeoutExpired:
+                return None, b"", b"", {}
+        numbers = {it: int(number) for it, number in re.findall(r"(\w+)=(\d+)", counts.read_text())}
+        return done.returncode, done.stdout, done.stderr, numbers
+
+    def check(self, name, words, text=b"", *, size=None, times, writes, opens=0, wanted=None, status=0):
+        """Runs the program, records a fault if a bound, the status or the output is not as specified, and returns the output."""
+        got, written, reported, counted = self.run(words, text)
+        self.runs += 1
+        size = len(text) if size is None else size
+        say = lambda what: self.faults.append(f"{name}: {what}")
+        if got is None:
+            say(f"did not end within {SECONDS} s")
+            return written
+        if got != status or (status == 0 and reported):
+            say(f"status {got}, {reported[:200]!r}")
+        if wanted is not None and written != wanted:
+            say(f"wrote {len(written)} bytes in place of {len(wanted)}, or others")
+        if counted.get("asked", 0) > times * size + BESIDE or not counted.get("requests"):
+            say(f"asked for {counted.get('asked')} bytes of memory for {size} of text, where {times} for each is the bound")
+        if counted.get("held", 0) > KEPT:
+            say(f"still holds {counted['held']} bytes at its end")
+        if text and counted.get("reads", 0) > -(-len(text) // PIECE) + 1:
+            say(f"{counted['reads']} reads of {len(text)} bytes, by pieces of {PIECE}")
+        if counted.get("opens", 0) > opens:
+            say(f"{counted['opens']} files opened, where {opens} is the bound")
+        if counted.get("writes", 0) > writes:
+            say(f"{counted['writes']} writes, where {writes} is the bound")
+        share = counted.get("asked", 0) / max(size, 1)
+        print(f"{name:34} {size:9} {counted.get('asked', 0):10} {share:6.2f} {times:6} {counted.get('held', 0):5} {counted.get('writes', 0):6} {writes:6}")
+        return written
+
+
+def lines(count):
+    """Yields parts of a module's text, each with comments, names and strings."""
+    for i in range(count):
+        yield f'(func $f{i} (param $x i32) "a\\n{i}") ;; line {i}\n(; block\n;)\n'
+
+
+def blanked(text):
+    """Returns the text with its comments replaced by spaces, except for their line ends. No string of the text may contain a comment's delimiter."""
+    return re.sub(rb";;[^\r\n]*|\(;.*?;\)", lambda it: re.sub(rb"[^\r\n]", b" ", it[0]), text, flags=re.DOTALL)
+
+
+def tokens_that_count(listed):
+    return b"".join(it for it in listed.splitlines(keepends=True) if it.split()[1].decode() not in WHITE)
+
+
+def leb128(number):
+    bytes_of = []
+    while number >= 128:
+        bytes_of.append(number % 128 + 128)
+        number //= 128
+    return bytes([*bytes_of, number])
+
+
+def module(count):
+    """Returns the text of a module with `count` types, and its bytes."""
+    one = b"(type (func (param i32 i64) (result f32)))\n"
+    content = leb128(count) + count * b"\x60\x02\x7f\x7e\x01\x7d"
+    return b"(module\n" + count * one + b")", b"\0asm\x01\0\0\0\x01" + leb128(len(content)) + content
+
+
+def lists(room):
+    text = "".join(lines(15_700)).encode()
+    listed = room.check("list", [], text, times=1.5, writes=170)
+    room.check("list, by its name", ["list"], text, times=1.5, writes=170, wanted=listed)
+    if sum(int(it.split()[0].split(b"..")[1]) - int(it.split(b"..")[0]) for it in listed.splitlines()) != len(text):
+        room.faults.append("list: its tokens are not the text")
+    room.check("sig", ["sig"], text, times=1.5, writes=80, wanted=tokens_that_count(listed))
+    objects = room.check("list as JSON", ["--json", "list"], text, times=1.5, writes=600)
+    if len(objects.splitlines()) != len(listed.splitlines()):
+        room.faults.append("list as JSON: it has not a line for each token")
+    room.check("sig as JSON", ["--json", "sig"], text, times=1.5, writes=300)
+    room.check("blank", ["blank"], text, times=1.5, writes=24, wanted=blanked(text))
+    room.check("list as JSON, 3 MB", ["--json", "list"], 3 * text, times=2, writes=1900)
+
+
+def groups(room):
+    """Checks texts with a registered and an unregistered annotation before each token, and deeply nested groups."""
+    text = 100_000 * b"(@a (b)) (@z ()) x\n"
+    shown = room.check("sig, many annotations", ["sig", "a"], text, times=1.7, writes=380)
+    if shown.count(b" Annotation\n") != 100_000 or shown.count(b" LParen\n") != 200_000 or shown.count(b" Keyword\n") != 200_000:
+        room.faults.append("sig, many annotations: others are shown")
+    deep = 100_000 * b"(" + 100_000 * b")"
+    room.check("sig, deep groups", ["sig"], deep, times=2, writes=100, wanted=tokens_that_count(room.run([], deep)[1]))
+
+
+def plays(room):
+    text = b"x (;;) (a) " + 104_000 * b"(@n b) yy "
+    calls = ["take", "comment", "parens=1", "look", "reg=n", "look", "parens=2", "unreg=n", "take", "take", "comment", "parens=0", "look", "look", "unreg=n"]
+    wanted = (
+        b"0..1 Keyword\ncomment 2..6\ndone\n18..20 Keyword\ndone\n11..12 LParen\ndone\ndone\n18..20 Keyword\n28..30 Keyword\nabsent\n"
+        b"not open 38\n38..40 Keyword\n38..40 Keyword\nabsent\n"
+    )
+    room.check("play, fifteen calls", ["play", *calls], text, times=1.5, writes=1, wanted=wanted)
+    room.check("play, two thousand calls", ["play", *(2_000 * ["look"])], text, times=2, writes=1, wanted=2_000 * b"0..1 Keyword\n")
+
+
+def types(room):
+    text, wanted = module(24_000)
+    room.check("types", ["types"], text, times=13, writes=1, wanted=wanted)
+
+
+def layouts(room):
+    text = "".join(lines(15_000)).encode().replace(b" (param", b"\n\n   (param")
+    laid = room.check("fmt", ["fmt"], text, times=1.6, writes=26)
+    if laid.split() == [] or b"".join(laid.split()) != b"".join(text.split()):
+        room.faults.append("fmt: it keeps not all that is no white space")
+    room.check("fmt of a layout", ["fmt"], laid, times=1.6, writes=26, wanted=laid)
+    room.check("fmt --check of a layout", ["fmt", "--check"], laid, times=3, writes=0, wanted=b"")
+    other = room.check("fmt --check", ["fmt", "--check"], text, times=3, writes=1, status=1)
+    if other.count(b"\n") != 1:
+        room.faults.append(f"fmt --check: it wrote {other[:80]!r}")
+
+
+def files(room):
+    """Checks commands on 5 different files, of which 2 are already formatted."""
+    texts = {f"{i}.wat": "".join(lines(3_900 + i)).encode().replace(b" (param", b"\n\n   (param") for i in range(5)}
+    for i in (1, 3):
+        texts[f"{i}.wat"] = room.run(["fmt"], texts[f"{i}.wat"])[1]
+    laid = {name: room.run(["fmt"], text)[1] for name, text in texts.items()}
+    rest = [name for name in texts if texts[name] != laid[name]]
+    if len(rest) != 3:
+        room.faults.append("fmt, five files: not three of them are to be laid out")
+    size = sum(map(len, texts.values()))
+
+    def stay(what, wanted):
+        for name in texts:
+            if (room.folder / name).read_bytes() != wanted[name]:
+                room.faults.append(f"{what}: the file {name} is not as it must be")
+
+    for name, text in texts.items():
+        room.file(name, text)
+    room.check("fmt, five files", ["fmt", *texts], size=size, times=2.4, writes=30, opens=5, wanted=b"".join(laid.values()))
+    stay("fmt, five files", texts)
+    room.check("fmt, other order", ["fmt", *reversed(texts)], size=size, times=2.4, writes=30, opens=5, wanted=b"".join(reversed(laid.values())))
+    named = b"".join(name.encode() + b"\n" for name in rest)
+    room.check("fmt --check, five files", ["fmt", "--check", *texts], size=size, times=3.1, writes=5, opens=5, wanted=named, status=1)
+    stay("fmt --check, five files", texts)
+    lists = b"\n".join(f"==> {name} <==\n".encode() + room.run([], text)[1] for name, text in texts.items())
+    room.check("list, five files", ["list", *texts], size=size, times=1.6, writes=220, opens=5, wanted=lists)
+    room.check("fmt --write, five files", ["fmt", "--write", *texts], size=size, times=3.1, writes=0, opens=8, wanted=b"")
+    stay("fmt --write, five files", laid)
+
+
+def main():
+    if len(sys.argv) != 2:
+        print(__doc__.split("\n\n")[1], file=sys.stderr)
+        return 2
+    with tempfile.TemporaryDirectory() as folder:
+        room = Room(sys.argv[1], folder)
+        print(f"{'run':34} {'bytes':>9} {'asked':>10} {'each':>6} {'bound':>6} {'held':>5} {'writes':>6} {'bound':>6}")
+        for part in (lists, groups, plays, types, layouts, files):
+            part(room)
+    for fault in room.faults:
+        print(f"memory_bounds.py: {fault}")
+    print(f"memory_bounds.py: {room.runs} runs, {len(room.faults)} faults")
+    return 1 if room.faults else 0
+
+
+if __name__ == "__main__":
+    sys.exit(main())
