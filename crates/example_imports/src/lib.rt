@@ -11,7 +11,8 @@ ghost use Rattle.wat_lexer_parser.specs.readings.Reads.{IsKept, Reads};
 ghost use Rattle.std.specs.Cow.{cow_str_bytes};
 ghost use Rattle.std.specs.Option.{option_map};
 ghost use Rattle.wat_lexer_parser.specs.readings.Types.{spelled};
-ghost use Rattle.example_imports.specs.Imports.{entry_after_strings, entry_after_id, entry_body, entry, inner, list};
+ghost use Rattle.example_imports.specs.Imports.{entry_after_strings, entry_after_id, entry_body};
+ghost use Rattle.example_imports.specs.Imports.{entry, inner, list};
 ghost use Rattle.example_imports.specs.Values.{read_of};
 
 pub mod kw;

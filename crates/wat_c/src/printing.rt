@@ -16,7 +16,8 @@ ghost use Rattle.std.specs.Prelude.{
   IfOk,
 };
 ghost use Rattle.std.specs.Str.{IsUtf8};
-ghost use Rattle.wat_lex.specs.errors.Rendering.{Excerpt, excerpt, rendered_location_in, rendered_location};
+ghost use Rattle.wat_lex.specs.errors.Rendering.{Excerpt, excerpt, rendered_location_in};
+ghost use Rattle.wat_lex.specs.errors.Rendering.{rendered_location};
 ghost use Rattle.wat_lex.specs.declared.lexer.faults.LexError.TheVariants.{EmptyId};
 ghost use Rattle.wat_c.specs.Answers.{Answers, OneAnswer};
 ghost use Rattle.wat_c.specs.Printing.{Prints, file_name, printed_in};

@@ -2,7 +2,8 @@
 //! this form.
 ghost use Rattle.std.specs.Prelude.{◌≡◌, ◌<◌, ◌^◌, length, IfSome};
 ghost use Rattle.std.specs.Str.{IsCharBoundary};
-ghost use Rattle.wat_c_records.specs.inside.OneByte.{sorts, blocking_classes, row_alone, IsRowAlone};
+ghost use Rattle.wat_c_records.specs.inside.OneByte.{sorts, blocking_classes, row_alone};
+ghost use Rattle.wat_c_records.specs.inside.OneByte.{IsRowAlone};
 
 use crate::rows::{TokenRow, plain};
 

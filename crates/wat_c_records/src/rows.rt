@@ -1,8 +1,10 @@
 //! Rows of integers for a token, the end of the text, and a lexical error.
 ghost use Rattle.std.specs.Prelude.{◌≡◌, ◌<◌, ◌≤◌, ◌+◌};
 ghost use Rattle.std.specs.Str.{IsCharBoundary};
-ghost use Rattle.wat_c_records.specs.Rows.{float_row, kind_row, sign_code, minus_code, plain, token_row};
-ghost use Rattle.wat_c_records.specs.Rows.{offset_row, fault_code, fault_found, fault_wanted, found_row};
+ghost use Rattle.wat_c_records.specs.Rows.{float_row, kind_row, sign_code, minus_code, plain};
+ghost use Rattle.wat_c_records.specs.Rows.{token_row};
+ghost use Rattle.wat_c_records.specs.Rows.{offset_row, fault_code, fault_found, fault_wanted};
+ghost use Rattle.wat_c_records.specs.Rows.{found_row};
 
 use wat_lex::lexer::{FloatKind, LexError, LexFault, SignToken, Token, TokenKind};
 

@@ -1,7 +1,8 @@
 //! Exponents of hexadecimal literals, with any number of digits.
 ghost use Rattle.std.specs.Prelude.{◌≡◌, ◌^◌, ◌<◌, true, false};
 ghost use Rattle.std.specs.Str.Parse.{digits_value};
-ghost use Rattle.wat_lex.specs.grammar.Numbers.{is_digit, is_exponent_letter, unsigned, is_negative};
+ghost use Rattle.wat_lex.specs.grammar.Numbers.{is_digit, is_exponent_letter, unsigned};
+ghost use Rattle.wat_lex.specs.grammar.Numbers.{is_negative};
 ghost use Rattle.wat_floats.specs.Literals.{digits, exponent, size, up_power, down_power};
 ghost use Rattle.wat_floats.specs.Rounding.{IsCapped};
 

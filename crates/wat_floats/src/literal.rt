@@ -1,5 +1,6 @@
 //! Conversion of literals: their sign, underscores, base and special values.
-ghost use Rattle.std.specs.Prelude.{◌≡◌, ◌<◌, ◌*◌, false, true, None, Some, IfOk, IfSome, IsOk, MatchOption};
+ghost use Rattle.std.specs.Prelude.{◌≡◌, ◌<◌, ◌*◌, false, true, None, Some, IfOk, IfSome, IsOk};
+ghost use Rattle.std.specs.Prelude.{MatchOption};
 ghost use Rattle.std.specs.Str.Parse.{digits_value};
 ghost use Rattle.wat_lex.specs.grammar.Numbers.{has_underscores};
 ghost use Rattle.wat_lex.specs.values.NumberValues.{joined};

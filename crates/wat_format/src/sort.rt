@@ -3,7 +3,8 @@ ghost use Rattle.std.specs.Prelude.{◌≡◌, Option};
 ghost use Rattle.wat_format.specs.Layout.{is_white};
 ghost use Rattle.wat_format.specs.Sorts.{begins_block, ends_block, parts_block, is_mark_byte};
 ghost use Rattle.wat_format.specs.Sorts.{sort_by_first, sort_of, sort_of_keyword};
-ghost use Rattle.wat_format.specs.inside.Tests.{is_open, is_close, is_comment, is_mark, keeps_space_after_open};
+ghost use Rattle.wat_format.specs.inside.Tests.{is_open, is_close, is_comment, is_mark};
+ghost use Rattle.wat_format.specs.inside.Tests.{keeps_space_after_open};
 
 use wat_lex::lexer::TokenKind;
 

@@ -3,7 +3,8 @@
 ghost use Rattle.std.specs.Prelude.{ℕ};
 ghost use Rattle.wat_format_theorems.specs.FunctionTypes.{LayoutsSpellTheSame};
 ghost use Rattle.wat_format_theorems.specs.Moved.{LayoutsShowTheSame};
-ghost use Rattle.wat_format_theorems.specs.Reads.{LayoutsAreSameTexts, LayoutsReadTheSame, MapsAreOne, MovesReading};
+ghost use Rattle.wat_format_theorems.specs.Reads.{LayoutsAreSameTexts, LayoutsReadTheSame};
+ghost use Rattle.wat_format_theorems.specs.Reads.{MapsAreOne, MovesReading};
 ghost use Rattle.wat_format_theorems.specs.lemmas.Types.{stays};
 ghost use Rattle.wat_types.specs.Meanings.{module_types};
 

@@ -1,4 +1,5 @@
-//! Theorems: a parser finds the same visible tokens in a formatted text as in the text.
+//! Theorems: a formatted text reads as the text does: a parser returns the same visible tokens for
+//! both, and the grammar derives both with the same function types.
 #![tactic(auto)]
 
 pub mod laws;

@@ -2,11 +2,13 @@
 //! effect: the contract of each is its theorem, which proofs in other crates can use.
 ghost use Rattle.wat_lex.specs.tokens.Blanking.{BlanksAreSpace, BlanksAreText, CommentsStay};
 ghost use Rattle.wat_lex.specs.tokens.EverySetting.{ScanResultExists, ScanResultIsUnique};
-ghost use Rattle.wat_lex.specs.tokens.EverySetting.{EachBoundaryHasTiling, TilingsAreUnique, TokensOfCuts};
+ghost use Rattle.wat_lex.specs.tokens.EverySetting.{EachBoundaryHasTiling, TilingsAreUnique};
+ghost use Rattle.wat_lex.specs.tokens.EverySetting.{TokensOfCuts};
 ghost use Rattle.wat_lex.specs.tokens.EverySetting.{TokensOfMoves, TokensAreReadable};
 ghost use Rattle.wat_lex.specs.tokens.EverySetting.{TokensEndAtBoundaries, WordsOfTokens};
 ghost use Rattle.wat_lex.specs.tokens.EverySetting.{NamesExist};
-ghost use Rattle.wat_lex.specs.tokens.EverySetting.{NamesAreUnique, NamesAreValues, StringsAreValues};
+ghost use Rattle.wat_lex.specs.tokens.EverySetting.{NamesAreUnique, NamesAreValues};
+ghost use Rattle.wat_lex.specs.tokens.EverySetting.{StringsAreValues};
 ghost use Rattle.wat_lex.specs.tokens.EverySetting.{CutsAreOne};
 
 /// Theorem: at each character boundary there is exactly one of a token, the end of the text, and a

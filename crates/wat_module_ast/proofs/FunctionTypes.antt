@@ -119,8 +119,8 @@ at_end t (u ∷ us) = by (same_type u t) (at_end t us)
     by true h = refl
     by false h = h
 
-added_types : (t : FunctionType) (us : List FunctionType) → has_type t (with_type us t) ≡ true
-added_types t us = by (has_type t us) refl
+has_added : (t : FunctionType) (us : List FunctionType) → has_type t (with_type us t) ≡ true
+has_added t us = by (has_type t us) refl
   where
     by : (b : Bool) → has_type t us ≡ b → has_type t (if b then us else us ++ t ∷ []) ≡ true
     by true e = e
@@ -139,7 +139,7 @@ kept_after t ts (u ∷ us) h = kept_after t (with_type ts u) us (kept t u ts h)
 
 each : (ts us : List FunctionType) (u : FunctionType) (k : ℕ) → k < length us → slice_index_or us k u ≡ u → has_type u (types_after ts us) ≡ true
 each ts [] u k l e = absurd (omega (arith, l))
-each ts (v ∷ us) u zero l e = kept_after u (with_type ts v) us (subst (λ x. has_type u (with_type ts x) ≡ true) (sym e) (added_types u ts))
+each ts (v ∷ us) u zero l e = kept_after u (with_type ts v) us (subst (λ x. has_type u (with_type ts x) ≡ true) (sym e) (has_added u ts))
 each ts (v ∷ us) u (suc k) l e = each (with_type ts v) us u k (omega (arith, l)) e
 
 pub after_more : (ts us vs : List FunctionType) → types_after ts (us ++ vs) ≡ types_after (types_after ts us) vs

@@ -46,15 +46,15 @@ same_bytes [] (u ∷ us) = refl
 same_bytes (t ∷ ts) [] = refl
 same_bytes (t ∷ ts) (u ∷ us) = ap (λ b. (type_byte t == type_byte u) && b) (same_bytes ts us)
 
-with_more_types : (a b c : Bool) → a && (b && c) ≡ (a && b) && c
-with_more_types true b c = refl
-with_more_types false b c = refl
+and_assoc : (a b c : Bool) → a && (b && c) ≡ (a && b) && c
+and_assoc true b c = refl
+and_assoc false b c = refl
 
 same_lists : (ps qs rs ss : List ValueType) → bytes_eq (map type_byte ps ++ 0x40 ∷ map type_byte rs) (map type_byte qs ++ 0x40 ∷ map type_byte ss) ≡ same_values ps qs && same_values rs ss
 same_lists [] [] rs ss = same_bytes rs ss
 same_lists [] (q ∷ qs) rs ss = ap (λ b. b && bytes_eq (map type_byte rs) (map type_byte qs ++ 0x40 ∷ map type_byte ss)) (between_too q)
 same_lists (p ∷ ps) [] rs ss = ap (λ b. b && bytes_eq (map type_byte ps ++ 0x40 ∷ map type_byte rs) (map type_byte ss)) (between p)
-same_lists (p ∷ ps) (q ∷ qs) rs ss = ap (λ b. (type_byte p == type_byte q) && b) (same_lists ps qs rs ss) ∙ with_more_types (type_byte p == type_byte q) (same_values ps qs) (same_values rs ss)
+same_lists (p ∷ ps) (q ∷ qs) rs ss = ap (λ b. (type_byte p == type_byte q) && b) (same_lists ps qs rs ss) ∙ and_assoc (type_byte p == type_byte q) (same_values ps qs) (same_values rs ss)
 
 -- types are the same where their keys are
 pub same_keys : (t u : FunctionType) → bytes_eq (type_key t) (type_key u) ≡ same_type t u

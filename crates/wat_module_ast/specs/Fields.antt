@@ -32,7 +32,6 @@ pub record Variable : Type 0 where
 abbrev pub variable : Label → ValueType → Variable
 variable l t = record { name = l; type = t }
 
--- A variable without an identifier.
 abbrev pub unnamed : ValueType → Variable
 unnamed t = variable None t
 
@@ -83,7 +82,6 @@ pub record Target : Type 0 where
   pub index : ℕ
   pub offset : List Instruction
 
--- The target with this index and these instructions.
 abbrev pub target : ℕ → List Instruction → Target
 target i is = record { index = i; offset = is }
 
@@ -129,7 +127,8 @@ extern_space (OfTable t) = space.Table
 extern_space (OfMemory l) = space.Mem
 extern_space (OfGlobal t) = space.Global
 
--- The item that a field defines, if it defines one.
+-- The function, table, memory or global that a field defines or imports, if there is one. A type and a segment are in
+-- no `IndexSpace`.
 abbrev pub binding_of : Field → List Binding
 binding_of (TypeField l t) = []
 binding_of (Import m n l ns t) = binding (extern_space t) l ∷ []

@@ -4,7 +4,8 @@ ghost use Rattle.std.specs.List.{flat_map, list_any};
 ghost use Rattle.wat_module_ast.specs.Fields as grammar;
 ghost use Rattle.wat_module_ast.specs.Views.{field_of, fields_of, together};
 ghost use Rattle.wat_module_encoder.specs.Binary as binary;
-ghost use Rattle.wat_module_encoder.specs.Views.{counts_of, data_by, data_target_of, segment_head, segment_of};
+ghost use Rattle.wat_module_encoder.specs.Views.{counts_of, data_by, data_target_of, segment_head};
+ghost use Rattle.wat_module_encoder.specs.Views.{segment_of};
 
 use crate::bytes::{put, put_head, put_sized, sum};
 use crate::indices::{Counts, NO_ITEMS, counted};

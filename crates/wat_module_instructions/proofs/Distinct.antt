@@ -18,9 +18,9 @@ use denote.Ref.{Bor}
 same : (x : List ℕ) → bytes_eq x x ≡ true
 same x = (bytes_eq-Decides x x).1 refl
 
-step_at_else : (x y : List ℕ) (b : Bool) → bytes_eq x y ≡ false → bytes_eq y x ≡ b → b ≡ false
-step_at_else x y true e f = let k : bytes_eq x y ≡ true = (bytes_eq-Decides x y).1 (sym ((bytes_eq-Decides y x).0 f)) in cc
-step_at_else x y false e f = refl
+differs_back : (x y : List ℕ) (b : Bool) → bytes_eq x y ≡ false → bytes_eq y x ≡ b → b ≡ false
+differs_back x y true e f = let k : bytes_eq x y ≡ true = (bytes_eq-Decides x y).1 (sym ((bytes_eq-Decides y x).0 f)) in cc
+differs_back x y false e f = refl
 
 or_true : (b : Bool) → (b || true) ≡ true
 or_true true = refl
@@ -74,7 +74,7 @@ named_after : (x y : List ℕ) (ls : List Label) (b c : Bool) → bytes_eq x y �
 named_after x y ls true c e f g d h = cc
 named_after x y ls false true e f g d h = cc
 named_after x y ls false false e f g d h =
-    ap (λ (b : Bool). if b then false else are_distinct (ls ++ Some y ∷ [])) (has_either x ls (Some y ∷ []) ∙ ap (λ (b : Bool). b || (if bytes_eq y x then true else false)) f ∙ ap (λ (b : Bool). if b then true else false) (step_at_else x y (bytes_eq y x) e refl))
+    ap (λ (b : Bool). if b then false else are_distinct (ls ++ Some y ∷ [])) (has_either x ls (Some y ∷ []) ∙ ap (λ (b : Bool). b || (if bytes_eq y x then true else false)) f ∙ ap (λ (b : Bool). if b then true else false) (differs_back x y (bytes_eq y x) e refl))
     ∙ g h d
 
 -- a name that is not there

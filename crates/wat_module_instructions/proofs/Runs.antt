@@ -331,13 +331,13 @@ turned_takes : (l : Label) (q : Result (List Terminal) Fault) (ps : List Part) (
 turned_takes l (Ok us) ps ts h = omega (arith, h.short)
 turned_takes l (Err f) ps ts h = tt
 
-word_allocates : (context : Context) (o : Option ℕ) (w : List ℕ) (ts : List Terminal) (ps : List Part) → Left (word_by context o (Word w ∷ ts) ts ps) (suc (length ts))
-word_allocates context (Some o) w ts ps = at_block_takes o (label_of ts).0 (block_type context.types (label_of ts).1) ps ts (head_keeps context.types ts)
-word_allocates context None w ts ps = at_plain_takes (plain context (labels_in ps) (Word w ∷ ts)) ps (Word w ∷ ts) (plain_takes context (labels_in ps) w ts)
+word_takes : (context : Context) (o : Option ℕ) (w : List ℕ) (ts : List Terminal) (ps : List Part) → Left (word_by context o (Word w ∷ ts) ts ps) (suc (length ts))
+word_takes context (Some o) w ts ps = at_block_takes o (label_of ts).0 (block_type context.types (label_of ts).1) ps ts (head_keeps context.types ts)
+word_takes context None w ts ps = at_plain_takes (plain context (labels_in ps) (Word w ∷ ts)) ps (Word w ∷ ts) (plain_takes context (labels_in ps) w ts)
 
 else_word_takes : (context : Context) (b : Bool) (l : Label) (w : List ℕ) (ts : List Terminal) (ps : List Part) (e : Bool) → Left (if e then step_at_else l (end_label l ts) ps else word_by context (structured w) (Word w ∷ ts) ts (Block b l ∷ ps)) (suc (length ts))
 else_word_takes context b l w ts ps true = turned_takes l (end_label l ts) ps ts (end_keeps l ts)
-else_word_takes context b l w ts ps false = word_allocates context (structured w) w ts (Block b l ∷ ps)
+else_word_takes context b l w ts ps false = word_takes context (structured w) w ts (Block b l ∷ ps)
 
 block_word_takes : (context : Context) (b : Bool) (l : Label) (w : List ℕ) (ts : List Terminal) (ps : List Part) (d : Bool)
     → Left (if d then ended (end_label l ts) ps else if b && is_else w then step_at_else l (end_label l ts) ps else word_by context (structured w) (Word w ∷ ts) ts (Block b l ∷ ps)) (suc (length ts))
@@ -345,10 +345,10 @@ block_word_takes context b l w ts ps true = ended_takes (end_label l ts) ps ts (
 block_word_takes context b l w ts ps false = else_word_takes context b l w ts ps (b && is_else w)
 
 any_word_takes : (context : Context) (p : Part) (w : List ℕ) (ts : List Terminal) (ps : List Part) → Left (word_step context p w (Word w ∷ ts) ts ps) (suc (length ts))
-any_word_takes context Body w ts ps = word_allocates context (structured w) w ts (Body ∷ ps)
-any_word_takes context (Group l) w ts ps = word_allocates context (structured w) w ts (Group l ∷ ps)
-any_word_takes context (Then l) w ts ps = word_allocates context (structured w) w ts (Then l ∷ ps)
-any_word_takes context (Else l) w ts ps = word_allocates context (structured w) w ts (Else l ∷ ps)
+any_word_takes context Body w ts ps = word_takes context (structured w) w ts (Body ∷ ps)
+any_word_takes context (Group l) w ts ps = word_takes context (structured w) w ts (Group l ∷ ps)
+any_word_takes context (Then l) w ts ps = word_takes context (structured w) w ts (Then l ∷ ps)
+any_word_takes context (Else l) w ts ps = word_takes context (structured w) w ts (Else l ∷ ps)
 any_word_takes context (Block b l) w ts ps = block_word_takes context b l w ts ps (is_end w)
 any_word_takes context (Operands i) w ts ps = tt
 any_word_takes context (Condition i l) w ts ps = tt

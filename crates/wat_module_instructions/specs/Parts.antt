@@ -1,4 +1,4 @@
--- The stack, the names and the errors of the code, as definitions, and what its calls ensure. Not part of the standard.
+-- The stack, the scope and the errors of the parser's code as values of the definitions, and what its calls return. Not part of the standard.
 use Rattle.std.specs.Prelude.{Bool, ◌≡◌, ◌<◌, ℕ, length, List, [], ◌∷◌, ◌++◌, map, Result, Ok, Err, MatchResult}
 use Rattle.wat_module_ast.specs.declared.error.Fault as declared
 use Rattle.wat_module_tokens.specs.declared.stream.TokenCursor.{TokenCursor}
@@ -64,18 +64,18 @@ abbrev pub identifiers_of : Identifiers → List Label
 identifiers_of (identifiers.Items names) = names.now
 identifiers_of (identifiers.Labels frames) = labels_in (stack frames.now)
 
--- `ReadsAs view expected result`: a call returns a value, whose `view` is that of the definition, and the tokens after
--- it. Otherwise it fails with the error of the definition, or with an allocation failure.
+-- `ReadsAs view expected result`: `expected` is what the definition parses: a value and the remaining tokens, or an
+-- error. A call returns a value whose `view` is that value, and the same remaining tokens. Otherwise it fails with
+-- that error, or with an allocation failure.
 abbrev pub ReadsAs : {V W : Type 0} → (V → W) → Result (W × List Terminal) Fault → Result (V × TokenCursor) ParseFailure → Type 0
 ReadsAs view expected result = MatchResult result (λ r. expected ≡ Ok (view r.0, terminals_of r.1)) (λ e. Faults expected e)
 
--- `ReadsExactly view expected result`: like `ReadsAs`, for a call that does not allocate: its error is that of the
--- definition.
+-- `ReadsExactly view expected result`: the same without an allocation failure.
 abbrev pub ReadsExactly : {V W : Type 0} → (V → W) → Result (W × List Terminal) Fault → Result (V × TokenCursor) declared.Fault → Type 0
 ReadsExactly view expected result = MatchResult result (λ r. expected ≡ Ok (view r.0, terminals_of r.1)) (λ f. expected ≡ Err (fault_of f))
 
--- `SkipsExactly expected result`: a call that does not allocate returns the remaining tokens of the definition, or fails
--- with its error.
+-- `SkipsExactly expected result`: a call returns the remaining tokens of the definition, or fails with its error. There
+-- is no allocation failure.
 abbrev pub SkipsExactly : Result (List Terminal) Fault → Result TokenCursor declared.Fault → Type 0
 SkipsExactly expected result = MatchResult result (λ r. expected ≡ Ok (terminals_of r)) (λ f. expected ≡ Err (fault_of f))
 
@@ -129,17 +129,18 @@ pub record Stepped (q : Result Step Fault) (before after : List Instruction) (fr
   pub is : q ≡ Ok (record { output = output; stack = frames; left = left })
   pub follows : after ≡ before ++ output
 
--- `StepsAs expected before after frames result`: a call makes the step of the definition, which appends instructions to
--- `before` and gives `after`. Otherwise it fails with the error of the definition, or with an allocation failure.
+-- `StepsAs expected before after frames result`: a call makes the step of the definition: it appends the step's
+-- instructions to `before`, which gives `after`, leaves the stack `frames`, and returns the remaining tokens. Otherwise
+-- it fails with the error of the definition, or with an allocation failure.
 abbrev pub StepsAs : Result Step Fault → List Instruction → List Instruction → List Part → Result TokenCursor ParseFailure → Type 0
 StepsAs expected before after frames result = MatchResult result (λ r. Stepped expected before after frames (terminals_of r)) (λ e. Faults expected e)
 
--- `RunsTo context ps ts before after left`: with more steps than tokens, the run ends at `left`, and its instructions
--- are appended to `before`, which gives `after`.
+-- `RunsTo context ps ts before after left`: a run that may take more steps than there are tokens ends at `left`, and
+-- its instructions, appended to `before`, give `after`.
 abbrev pub RunsTo : Context → List Part → List Terminal → List Instruction → List Instruction → List Terminal → Type 0
 RunsTo context ps ts before after left = (n : ℕ) → length ts < n → (is : List Instruction) × (run context n ps ts ≡ Ok (is, left)) × (after ≡ before ++ is)
 
--- `RunsInto context ps ts e`: with more steps than tokens, the run fails with the
--- error `e`, or `e` is an allocation failure.
+-- `RunsInto context ps ts e`: a run that may take more steps than there are tokens fails with the error `e`, or `e` is
+-- an allocation failure.
 abbrev pub RunsInto : Context → List Part → List Terminal → ParseFailure → Type 0
 RunsInto context ps ts e = (n : ℕ) → length ts < n → Faults (run context n ps ts) e

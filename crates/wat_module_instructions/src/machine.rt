@@ -2,7 +2,8 @@
 ghost use Rattle.wat_module_ast.specs.Grammar.{structured};
 ghost use Rattle.wat_module_tokens.specs.TokenCursor.{terminals_of};
 ghost use Rattle.wat_module_instructions.specs.Machine as spec;
-ghost use Rattle.wat_module_instructions.specs.Parts.{ReadsAs, RunsInto, RunsTo, StepsAs, part, scope_of};
+ghost use Rattle.wat_module_instructions.specs.Parts.{ReadsAs, RunsInto, RunsTo, StepsAs, part};
+ghost use Rattle.wat_module_instructions.specs.Parts.{scope_of};
 ghost use Rattle.wat_module_instructions.specs.Parts.{stack};
 ghost use Rattle.wat_module_tokens.specs.Terminals as terminals;
 ghost use Rattle.std.specs.Prelude.{◌≡◌, [], Ok, Err, MatchResult};
@@ -408,19 +409,19 @@ fn at_word<'p, 'a>(
     match frame {
         Frame::Operands(_) => Err(ParseFailure::Text(unexpected(cursor))),
         Frame::Condition(_, _) => Err(ParseFailure::Text(unexpected(cursor))),
-        Frame::Block(may_turn, label) => {
+        Frame::Block(may_have_else, label) => {
             if reading::is_end(word) {
                 let rest = reading::end_label(label, rest)?;
                 out.push(END)?;
                 return Ok(rest);
             }
-            if may_turn && reading::is_else(word) {
+            if may_have_else && reading::is_else(word) {
                 let rest = reading::end_label(label, rest)?;
                 frames.push(Frame::Block(false, label))?;
                 out.push(ELSE)?;
                 return Ok(rest);
             }
-            frames.push(Frame::Block(may_turn, label))?;
+            frames.push(Frame::Block(may_have_else, label))?;
             instruction(alloc, scope, frames, out, word, cursor, rest)
         }
         Frame::Body | Frame::Group(_) | Frame::Then(_) | Frame::Else(_) => {

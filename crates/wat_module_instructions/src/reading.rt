@@ -11,7 +11,8 @@ ghost use Rattle.wat_module_tokens.specs.TokenCursor.{terminals_of};
 ghost use Rattle.wat_module_instructions.specs.Machine.{bound, labels_in};
 ghost use Rattle.wat_module_ast.specs.Branches.{branches};
 ghost use Rattle.wat_module_instructions.specs.Parts.{Faults, IsLabel, IsMemory, NoLabel, ReadsAs};
-ghost use Rattle.wat_module_instructions.specs.Parts.{identifiers_of, ReadsExactly, SkipsExactly, part};
+ghost use Rattle.wat_module_instructions.specs.Parts.{identifiers_of, ReadsExactly, SkipsExactly};
+ghost use Rattle.wat_module_instructions.specs.Parts.{part};
 ghost use Rattle.wat_module_instructions.specs.Parts.{scope_of, stack};
 ghost use Rattle.wat_module_tokens.specs.Terminals.{Word, label};
 
@@ -89,15 +90,15 @@ fn label_index(frames: &[Frame<'_>], name: &str) -> Option<usize>
     None
 }
 
-/// The identifiers that an index may name: those of the items of an index space, or the labels of
-/// the open frames.
+/// The identifiers that may be written for an index: those of the items of an index space, or the
+/// labels of the open frames.
 #[derive(Clone, Copy)]
 enum Identifiers<'s, 'n> {
     Items(&'s IndexedNames<'n>),
     Labels(&'s [Frame<'n>]),
 }
 
-/// Returns the index of an identifier.
+/// Returns the index of the first item, or of the innermost label, with this identifier, or `None`.
 fn position(among: Identifiers<'_, '_>, name: &str) -> Option<usize>
     ensures { result ≡ position 0 name.now (identifiers_of among.entry) }
 {

@@ -4,7 +4,8 @@ ghost use Rattle.std.specs.Prelude.{length, map, slice_get, IfOk, IfSome, MatchO
 ghost use Rattle.wat_module_ast.specs.Grammar as grammar;
 ghost use Rattle.wat_module_ast.specs.declared.instruction.Argument.TheVariants as argument;
 ghost use Rattle.wat_module_tokens.specs.TokenCursor.{terminals_of};
-ghost use Rattle.wat_module_instructions.specs.Parts.{Faults, IsListed, NotListed, ReadsAs, ReadsExactly};
+ghost use Rattle.wat_module_instructions.specs.Parts.{Faults, IsListed, NotListed, ReadsAs};
+ghost use Rattle.wat_module_instructions.specs.Parts.{ReadsExactly};
 ghost use Rattle.wat_module_instructions.specs.Parts.{scope_of};
 ghost use Rattle.wat_module_ast.specs.Types as spec;
 ghost use Rattle.wat_module_ast.specs.TypeViews.{type_of, use_of};

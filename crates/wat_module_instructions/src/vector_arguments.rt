@@ -3,7 +3,8 @@ ghost use Rattle.std.specs.Prelude.{◌≡◌, ◌<◌, ◌≤◌, ◌^◌, ◌*
 ghost use Rattle.std.specs.Prelude.{MatchOption, MatchResult};
 ghost use Rattle.wat_module_ast.specs.Grammar as grammar;
 ghost use Rattle.wat_module_tokens.specs.TokenCursor.{terminals_of};
-ghost use Rattle.wat_module_instructions.specs.Parts.{Faults, IsIndex, IsLane, ReadsAs, ReadsExactly};
+ghost use Rattle.wat_module_instructions.specs.Parts.{Faults, IsIndex, IsLane, ReadsAs};
+ghost use Rattle.wat_module_instructions.specs.Parts.{ReadsExactly};
 
 use crate::faults::{fault, unexpected};
 use crate::floats::{float_32, float_64};

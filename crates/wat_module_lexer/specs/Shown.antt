@@ -32,16 +32,16 @@ pub record TextShown (text : List ℕ) (items : List Token) (error : Option (Opt
   pub read : IsRead source
   pub shown : ShownFrom source no_names 0 items error
 
--- `PiecesFrom s names place terminals error`: `terminals` are those of all visible tokens from the position `place` on,
+-- `TerminalsFrom s names place terminals error`: `terminals` are those of all visible tokens from the position `place` on,
 -- under these registered names, and `error` reports the error after them, if there is one.
-pub record PiecesFrom (s : Source) (names : Names) (place : ℕ) (terminals : List Terminal) (error : Option (Option Report)) : Type 0 where
+pub record TerminalsFrom (s : Source) (names : Names) (place : ℕ) (terminals : List Terminal) (error : Option (Option Report)) : Type 0 where
   pub tokens : List Token
   pub shown : ShownFrom s names place tokens error
   pub are : terminals ≡ map (terminal_of s.setting.text) tokens
 
--- `PiecesShown text terminals error`: `terminals` are those of all visible tokens of a text without registered names,
+-- `TerminalsShown text terminals error`: `terminals` are those of all visible tokens of a text without registered names,
 -- and `error` reports the error after them, if there is one.
-pub record PiecesShown (text : List ℕ) (terminals : List Terminal) (error : Option (Option Report)) : Type 0 where
+pub record TerminalsShown (text : List ℕ) (terminals : List Terminal) (error : Option (Option Report)) : Type 0 where
   pub tokens : List Token
   pub shown : TextShown text tokens error
   pub are : terminals ≡ map (terminal_of text) tokens

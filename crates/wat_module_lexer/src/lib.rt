@@ -10,7 +10,7 @@ ghost use Rattle.wat_module_tokens.specs.Tokens.{AreLinked, AreReadable};
 ghost use Rattle.wat_lex.specs.tokens.ReadableTokens.{IsTokenOf, token_text};
 ghost use Rattle.wat_module_lexer.specs.Drafts.{IsPacking, IsReadAs, draft_terminals};
 ghost use Rattle.wat_module_lexer.specs.TokenTerminals.{sign_of, terminal_of};
-ghost use Rattle.wat_module_lexer.specs.Shown.{PiecesFrom, PiecesShown, ShownFrom, TextShown};
+ghost use Rattle.wat_module_lexer.specs.Shown.{TerminalsFrom, TerminalsShown, ShownFrom, TextShown};
 
 use std::alloc::{AllocError, Global};
 use std::borrow::{CowSlice, CowStr};
@@ -384,7 +384,7 @@ fn push_token<'t>(
 /// must be shorter than 2^32 bytes.
 pub fn pack_tokens(alloc: Global, text: &str) -> Result<PackedText<'_>, Error>
     requires { length text.now < 2 ^ 32 }
-    ensures shown { IfOk result (λ r. PiecesShown text.now (draft_terminals text.now r.packed)
+    ensures shown { IfOk result (λ r. TerminalsShown text.now (draft_terminals text.now r.packed)
         r.error) }
     ensures readable { IfOk result (λ r. AreReadable text.now (length r.packed.kept.items)
         r.packed.tokens.items) }
@@ -406,7 +406,7 @@ fn pack_from<'p, 'a, 't>(
 ) -> Result<(PackedText<'t>, Cursor<'p, 'a>), Error>
     requires { from.parser.now.source.setting.text ≡ text.now }
     ensures shown { IfOk result (λ r.
-        PiecesFrom from.entry.parser.now.source from.entry.parser.now.names from.entry.at
+        TerminalsFrom from.entry.parser.now.source from.entry.parser.now.names from.entry.at
         (draft_terminals text.now r.0.packed) r.0.error) }
     ensures readable { IfOk result (λ r. AreReadable text.now (length r.0.packed.kept.items)
         r.0.packed.tokens.items) }

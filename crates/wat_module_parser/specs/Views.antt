@@ -9,17 +9,12 @@ use Rattle.wat_module_tokens.specs.TokenCursor.{terminals_of}
 use Rattle.wat_module_tokens.specs.Terminals.{Terminal, Label, label}
 use Rattle.wat_module_ast.specs.Types.{Types}
 use Rattle.wat_module_ast.specs.TypeViews.{type_of}
-use Rattle.wat_module_tokens.specs.declared.stream.TokenCursor as declared_pieces
 use Rattle.wat_module_parser.specs.declared.names.Binding as declared_binding
 use Rattle.wat_module_parser.specs.declared.names.Names as declared_names
 use Rattle.wat_module_parser.specs.declared.variables.NamedUse as declared_use
 use Rattle.wat_module_parser.specs.declared.variables.Variable as declared_variable
 use Rattle.wat_module_ast.specs.Fields.{Binding, NamedUse, Variable, binding, named_use, variable}
 use Rattle.wat_module_parser.specs.Reading.{Item}
-
--- The terminals that remain to be parsed.
-abbrev pub remaining_terminals : declared_pieces.TokenCursor → List Terminal
-remaining_terminals l = terminals_of l
 
 -- An item of an index space of the code.
 abbrev pub binding_of : declared_binding.Binding → Binding

@@ -2,7 +2,8 @@
 ghost use Rattle.std.specs.Prelude.{[], ◌∷◌, Ok, Err, Some, codes, map, MatchOption, MatchResult};
 ghost use Rattle.wat_module_ast.specs.Fields as grammar;
 ghost use Rattle.wat_module_parser.specs.Reading as reading;
-ghost use Rattle.wat_module_ast.specs.Views.{expression_of, field_of, expressions_of, mode_of, text_of};
+ghost use Rattle.wat_module_ast.specs.Views.{expression_of, field_of, expressions_of, mode_of};
+ghost use Rattle.wat_module_ast.specs.Views.{text_of};
 ghost use Rattle.wat_module_parser.specs.Views.{IsItem, ItemFaults, NoItem, context_of};
 ghost use Rattle.wat_module_ast.specs.Grammar.{label_of, reference_type};
 ghost use Rattle.wat_module_tokens.specs.TokenCursor.{terminals_of};
@@ -488,8 +489,8 @@ fn elem_after<'p, 'a>(
     }
 }
 
-/// Parses a declarative or passive element segment after the first keyword that follows its
-/// identifier. `all` starts at this keyword.
+/// Parses a declarative element segment after `declare`, or a passive one, whose element list
+/// begins with `word`. `all` starts at `word`, `cursor` after it.
 fn elem_word<'p, 'a>(
     alloc: Global,
     names: &Names<'a>,

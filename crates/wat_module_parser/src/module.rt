@@ -23,7 +23,8 @@ ghost use Rattle.wat_module_parser.specs.Views.{IsItem, ItemFaults, NoItem, cont
 ghost use Rattle.wat_module_parser.specs.Views.{variable_of, with_names};
 ghost use Rattle.wat_module_ast.specs.Grammar.{label_of};
 ghost use Rattle.wat_module_tokens.specs.TokenCursor.{terminals_of};
-ghost use Rattle.wat_module_instructions.specs.Parts.{Faults, IsMemory, ReadsAs, ReadsExactly, fault_of};
+ghost use Rattle.wat_module_instructions.specs.Parts.{Faults, IsMemory, ReadsAs, ReadsExactly};
+ghost use Rattle.wat_module_instructions.specs.Parts.{fault_of};
 ghost use Rattle.wat_module_instructions.specs.Parts.{scope_of};
 ghost use Rattle.wat_module_tokens.specs.Terminals.{Terminal, label};
 ghost use Rattle.wat_module_ast.specs.Uses.{unknown};
@@ -116,7 +117,7 @@ fn module_fields<'p, 'a>(
 }
 
 /// Parses the fields again, with the types that inline type uses add. `fault` is the error of
-/// parsing them with the types alone that type fields define.
+/// parsing them with only the types that type fields define.
 fn fields_again<'p, 'a>(
     alloc: Global,
     enclosed: bool,

@@ -3,11 +3,12 @@
 ghost use Rattle.std.specs.Prelude.{◌≡◌, ◌++◌, ◌∷◌, [], true, IfOk, IfSome, MatchOption, is_some};
 ghost use Rattle.std.specs.Prelude.{map};
 ghost use Rattle.std.specs.List.{flat_map};
-ghost use Rattle.wat_module_ast.specs.Fields.{all_distinct, definition_name, definition_type, is_space};
+ghost use Rattle.wat_module_ast.specs.Fields.{all_distinct, definition_name, definition_type};
+ghost use Rattle.wat_module_ast.specs.Fields.{is_space};
 ghost use Rattle.wat_module_ast.specs.Fields.{name_of, names_in, names_of};
 ghost use Rattle.wat_module_parser.specs.Reading as reading;
 ghost use Rattle.wat_module_ast.specs.Views.{definition_of};
-ghost use Rattle.wat_module_parser.specs.Views.{binding_of, context_of, remaining_terminals, types_of};
+ghost use Rattle.wat_module_parser.specs.Views.{binding_of, context_of, types_of};
 ghost use Rattle.wat_module_parser.specs.Views.{variable_of};
 ghost use Rattle.wat_module_ast.specs.Grammar.{label_of};
 ghost use Rattle.wat_module_tokens.specs.TokenCursor.{terminals_of};
@@ -208,7 +209,7 @@ fn starts<'p, 'a>(
     alloc: Global,
     cursor: TokenCursor<'p, 'a>,
 ) -> Result<Vec<TokenCursor<'p, 'a>>, AllocError>
-    ensures { IfOk result (λ starts. map remaining_terminals starts.items ≡
+    ensures { IfOk result (λ starts. map terminals_of starts.items ≡
         reading.starts reading.Before [] (terminals_of cursor.entry)) }
 {
     let mut starts = Vec::new(alloc);
@@ -226,7 +227,7 @@ fn bindings<'p, 'a>(
     starts: &[TokenCursor<'p, 'a>],
 ) -> Result<Vec<Binding<'a>>, AllocError>
     ensures { IfOk result (λ bindings. map binding_of bindings.items ≡
-        flat_map reading.binding_at (map remaining_terminals starts.now)) }
+        flat_map reading.binding_at (map terminals_of starts.now)) }
 {
     let mut bindings = Vec::new(alloc);
     for start in starts {
@@ -330,7 +331,7 @@ fn data_names<'p, 'a>(
     starts: &[TokenCursor<'p, 'a>],
 ) -> Result<Vec<Name<'a>>, AllocError>
     ensures { IfOk result (λ names. map label names.items ≡
-        flat_map reading.data_name_at (map remaining_terminals starts.now)) }
+        flat_map reading.data_name_at (map terminals_of starts.now)) }
 {
     let mut names = Vec::new(alloc);
     for start in starts {
@@ -394,7 +395,7 @@ fn elem_names<'p, 'a>(
     starts: &[TokenCursor<'p, 'a>],
 ) -> Result<Vec<Name<'a>>, AllocError>
     ensures { IfOk result (λ names. map label names.items ≡
-        flat_map reading.elem_name_at (map remaining_terminals starts.now)) }
+        flat_map reading.elem_name_at (map terminals_of starts.now)) }
 {
     let mut names = Vec::new(alloc);
     for start in starts {
@@ -471,9 +472,9 @@ fn definitions<'p, 'a>(
     starts: &[TokenCursor<'p, 'a>],
 ) -> Result<(Vec<Name<'a>>, Vec<FunctionType>), AllocError>
     ensures names { IfOk result (λ r. map label r.0.items ≡
-        map definition_name (flat_map reading.definition_at (map remaining_terminals starts.now))) }
+        map definition_name (flat_map reading.definition_at (map terminals_of starts.now))) }
     ensures types { IfOk result (λ r. map type_of r.1.items ≡
-        map definition_type (flat_map reading.definition_at (map remaining_terminals starts.now))) }
+        map definition_type (flat_map reading.definition_at (map terminals_of starts.now))) }
 {
     let mut names = Vec::new(alloc);
     let mut types = Vec::new(alloc);

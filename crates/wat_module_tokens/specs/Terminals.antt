@@ -5,7 +5,7 @@ use Rattle.std.specs.Prelude.{ℕ, zero, suc, Bool, false, List, [], ◌∷◌, 
 use Rattle.std.specs.Float.{binary32, binary64}
 use Rattle.wat_floats.specs.Literals.{literal}
 use Rattle.wat_module_tokens.specs.declared.token.DecodedToken.{DecodedToken}
-use Rattle.wat_module_tokens.specs.declared.token.DecodedToken.TheVariants as piece
+use Rattle.wat_module_tokens.specs.declared.token.DecodedToken.TheVariants as token
 use Rattle.wat_module_tokens.specs.declared.token.Name.{Name}
 use Rattle.wat_module_tokens.specs.declared.token.Name.TheVariants as name
 use Rattle.wat_module_tokens.specs.declared.token.Sign.{Sign}
@@ -36,14 +36,14 @@ float_of w = Float (literal binary32 w) (literal binary64 w)
 
 -- The terminal of a decoded token of the code.
 abbrev pub terminal : DecodedToken → Terminal
-terminal piece.Open = Open
-terminal piece.Close = Close
-terminal (piece.Word w) = Word w.now
-terminal (piece.Id x) = Id x.now
-terminal (piece.Integer s n) = Integer s n
-terminal (piece.Float w) = float_of w.now
-terminal (piece.Text v) = Text v.now
-terminal piece.Other = Other
+terminal token.Open = Open
+terminal token.Close = Close
+terminal (token.Word w) = Word w.now
+terminal (token.Id x) = Id x.now
+terminal (token.Integer s n) = Integer s n
+terminal (token.Float w) = float_of w.now
+terminal (token.Text v) = Text v.now
+terminal token.Other = Other
 
 -- 6.3.5, identifier; 6.5.1, label: an optional identifier, by the bytes of its name.
 abbrev pub Label : Type 0

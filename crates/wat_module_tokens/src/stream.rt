@@ -143,7 +143,7 @@ impl<'a> TokenStream<'a> {
 
     /// Returns the token at an index with its value, or `None` if the index is out of range.
     #[inline(always)]
-    fn piece(&self, at: usize) -> Option<DecodedToken<'a>>
+    fn token(&self, at: usize) -> Option<DecodedToken<'a>>
         ensures is { MatchOption result
             (slice_get self.now at ≡ None)
             (λ p. slice_get self.now at ≡ Some (terminal p)) }
@@ -241,13 +241,13 @@ impl<'p, 'a> TokenCursor<'p, 'a> {
             (terminals_of self.entry ≡ [])
             (λ r. terminals_of self.entry ≡ terminal r.0 ∷ terminals_of r.1) }
     {
-        match self.source.piece(self.at) {
-            Some(piece) => {
+        match self.source.token(self.at) {
+            Some(token) => {
                 let rest = TokenCursor {
                     source: self.source,
                     at: self.at + 1,
                 };
-                Some((piece, rest))
+                Some((token, rest))
             }
             None => None,
         }

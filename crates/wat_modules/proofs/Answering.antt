@@ -28,7 +28,7 @@ use Rattle.wat_module_ast.specs.Modules.{Module}
 use Rattle.wat_module_parser.specs.Law.{ReadingIsGrammar}
 use Rattle.wat_module_parser.specs.Reading as reading
 use Rattle.wat_module_lexer.specs.TokenTerminals.{plain, terminal_of}
-use Rattle.wat_module_lexer.specs.Shown.{PiecesShown, TextShown}
+use Rattle.wat_module_lexer.specs.Shown.{TerminalsShown, TextShown}
 use Rattle.wat_modules.specs.Compiling.{Fits, DenotesModule, compiled, compiled_by, compiled_tokens, fitted, message, place, too_long}
 
 -- The visible tokens of a text, and the error after them, are unique.
@@ -147,7 +147,7 @@ pub record IsCompiled (text : List ℕ) (r : Answer) : Type 0 where
   pub shows : TextShows (plain text) no_names tokens fault
   pub is : Is (compiled text tokens fault) r
 
-pub compiled_fault : (text : List ℕ) (ts : List Terminal) (e : Option Report) → PiecesShown text ts (Some e) → IsCompiled text (Err e)
+pub compiled_fault : (text : List ℕ) (ts : List Terminal) (e : Option Report) → TerminalsShown text ts (Some e) → IsCompiled text (Err e)
 compiled_fault text ts e h =
     let s = seen text h.tokens (Some e) h.shown in
     record { tokens = h.tokens; fault = s.fault; shows = s.shows; is = fault_is text h.tokens s.fault e s.reported }
@@ -156,7 +156,7 @@ compiled_fault text ts e h =
 abbrev pub IsOfTerminals : List ℕ → List Terminal → Answer → Type 0
 IsOfTerminals text ts r = (tokens : List Token) → TextShows (plain text) no_names tokens None → ts ≡ map (terminal_of text) tokens → Is (compiled_tokens text tokens) r
 
-pub compiled_end : (text : List ℕ) (ts : List Terminal) (r : Answer) → PiecesShown text ts None → IsOfTerminals text ts r → IsCompiled text r
+pub compiled_end : (text : List ℕ) (ts : List Terminal) (r : Answer) → TerminalsShown text ts None → IsOfTerminals text ts r → IsCompiled text r
 compiled_end text ts r h k =
     let s = seen text h.tokens None h.shown in
     record { tokens = h.tokens; fault = s.fault; shows = s.shows; is = no_fault text h.tokens s.fault r s.reported (k h.tokens (shows_end text h.tokens s.fault s.reported s.shows) h.are) }

@@ -1,8 +1,10 @@
 //! Splitting of the command line into options and file names.
 ghost use Rattle.std.specs.Prelude.{◌≡◌, ◌≤◌, [], ◌∷◌, length, MatchOption};
 ghost use Rattle.std.specs.Option.{option_map};
-ghost use Rattle.wat_tokens_args.specs.Arguments.{alone_kind, named_kind, leads, is_kind, times, first_of, args_of};
-ghost use Rattle.wat_tokens_args.specs.Arguments.{after_front, files_in, is_file, names_file, IsNextArgument};
+ghost use Rattle.wat_tokens_args.specs.Arguments.{alone_kind, named_kind, leads, is_kind, times};
+ghost use Rattle.wat_tokens_args.specs.Arguments.{first_of, args_of};
+ghost use Rattle.wat_tokens_args.specs.Arguments.{after_front, files_in, is_file, names_file};
+ghost use Rattle.wat_tokens_args.specs.Arguments.{IsNextArgument};
 
 /// The kind of an option or file name.
 #[derive(Clone, Copy, PartialEq, Eq)]

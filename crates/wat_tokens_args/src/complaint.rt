@@ -1,7 +1,8 @@
 //! Error messages for invalid command lines.
 ghost use Rattle.std.specs.Prelude.{◌≡◌, ◌↔◌, false, is_some};
 ghost use Rattle.wat_tokens_args.specs.Arguments.{named_kind};
-ghost use Rattle.wat_tokens_args.specs.Complaints.{asks_for_words, goes_beyond, is_own_option, rest_goes_beyond};
+ghost use Rattle.wat_tokens_args.specs.Complaints.{asks_for_words, goes_beyond, is_own_option};
+ghost use Rattle.wat_tokens_args.specs.Complaints.{rest_goes_beyond};
 
 use crate::arguments::{Kind, after_front, first, is_file, times};
 use crate::options::{Line, Verb, looks_like_file, verb_named};

@@ -1,6 +1,8 @@
 //! Parsing of the command line.
-ghost use Rattle.std.specs.Prelude.{◌≡◌, ◌≤◌, ◌<◌, true, false, IfOk, OnErr, IfSome, IfNone, IsTrue, ◌↔◌, ℕ};
-ghost use Rattle.std.specs.Prelude.{MatchOption, Option, List, [], length, nat_eq, nat_lt, codes, string_bytes};
+ghost use Rattle.std.specs.Prelude.{◌≡◌, ◌≤◌, ◌<◌, true, false, IfOk, OnErr, IfSome, IfNone};
+ghost use Rattle.std.specs.Prelude.{IsTrue, ◌↔◌, ℕ};
+ghost use Rattle.std.specs.Prelude.{MatchOption, Option, List, [], length, nat_eq, nat_lt, codes};
+ghost use Rattle.std.specs.Prelude.{string_bytes};
 ghost use Rattle.std.specs.Option.{option_map};
 ghost use Rattle.std.specs.declared.string.String.{String};
 ghost use Rattle.std.specs.declared.alloc.Global.{Global};
@@ -10,11 +12,16 @@ ghost use Rattle.wat_tokens_args.specs.declared.options.Mode.{Mode};
 ghost use Rattle.wat_tokens_args.specs.declared.options.Task.{Task};
 ghost use Rattle.wat_tokens_args.specs.declared.options.Verb.TheVariants as verbs;
 ghost use Rattle.wat_tokens_args.specs.Arguments.{args_of, first_of, is_file, times};
-ghost use Rattle.wat_tokens_args.specs.Options.{after_verb, all_args, asks_help, asks_version, begins_with, begins_with_files};
-ghost use Rattle.wat_tokens_args.specs.Options.{calls_of, file_in_question, file_names, files_of, is_known, last_words, line_parts};
-ghost use Rattle.wat_tokens_args.specs.Options.{looks_like_file, own_len, own_words, owns_operands, parts_of, takes, takes_flags, accepts_many_files};
-ghost use Rattle.wat_tokens_args.specs.Options.{take_all, verb_named, verb_of, wants_help, wants_json};
-ghost use Rattle.wat_tokens_args.specs.Options.{Asks, AsksFormat, AsksMode, AsksNothing, AsksPlay, AsksRun, AsksTask};
+ghost use Rattle.wat_tokens_args.specs.Options.{after_verb, all_args, asks_help, asks_version};
+ghost use Rattle.wat_tokens_args.specs.Options.{begins_with, begins_with_files};
+ghost use Rattle.wat_tokens_args.specs.Options.{calls_of, file_in_question, file_names, files_of};
+ghost use Rattle.wat_tokens_args.specs.Options.{is_known, last_words, line_parts};
+ghost use Rattle.wat_tokens_args.specs.Options.{looks_like_file, own_len, own_words, owns_operands};
+ghost use Rattle.wat_tokens_args.specs.Options.{parts_of, takes, takes_flags, accepts_many_files};
+ghost use Rattle.wat_tokens_args.specs.Options.{take_all, verb_named, verb_of, wants_help};
+ghost use Rattle.wat_tokens_args.specs.Options.{wants_json};
+ghost use Rattle.wat_tokens_args.specs.Options.{Asks, AsksFormat, AsksMode, AsksNothing, AsksPlay};
+ghost use Rattle.wat_tokens_args.specs.Options.{AsksRun, AsksTask};
 ghost use Rattle.wat_tokens_args.specs.Options.{HasFiles, Selects, NamesCalls};
 ghost use Rattle.wat_tokens_args.specs.OptionSteps.{IsNext};
 

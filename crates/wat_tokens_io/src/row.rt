@@ -1,6 +1,7 @@
 //! Formats tokens and errors as lines of JSON. A token's line has the members before its text, the
 //! text as a string, and the members after it.
-ghost use Rattle.std.specs.Prelude.{◌≡◌, ◌++◌, ◌+◌, ◌∷◌, ◌<◌, ◌≤◌, ◌^◌, [], length, take, flat_map, codes};
+ghost use Rattle.std.specs.Prelude.{◌≡◌, ◌++◌, ◌+◌, ◌∷◌, ◌<◌, ◌≤◌, ◌^◌, [], length, take, flat_map};
+ghost use Rattle.std.specs.Prelude.{codes};
 ghost use Rattle.std.specs.Prelude.{OnOk, OnErr, IfOk, IsTrue};
 ghost use Rattle.std.specs.Option.{option_map};
 ghost use Rattle.std.specs.Str.{IsCharBoundary};

@@ -1,6 +1,7 @@
 //! Renders errors with the name of a file, without control characters.
 ghost use Rattle.std.specs.Prelude.{◌≡◌, IfOk, string_bytes};
-ghost use Rattle.wat_tokens_output.specs.Places.{printed_in, visible, visible_char, visible_in_lines};
+ghost use Rattle.wat_tokens_output.specs.Places.{printed_in, visible, visible_char};
+ghost use Rattle.wat_tokens_output.specs.Places.{visible_in_lines};
 ghost use Rattle.wat_tokens_output.specs.Places.{visible_lines};
 
 use std::alloc::{AllocError, Global};

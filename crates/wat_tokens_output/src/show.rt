@@ -9,7 +9,8 @@ ghost use Rattle.wat_tokens_io.specs.Blocks.{Puts};
 ghost use Rattle.wat_tokens_io.specs.Lines.{line};
 ghost use Rattle.wat_tokens_io.specs.Streams.{AppendsPrefix, failure_after};
 ghost use Rattle.wat_tokens_output.specs.Shows.{with_name, with_names, IsInside, ShownEnds};
-ghost use Rattle.wat_tokens_output.specs.Shows.{AppendsShown, AppendsShownCut, ShowsFault, Takes, TakesNext};
+ghost use Rattle.wat_tokens_output.specs.Shows.{AppendsShown, AppendsShownCut, ShowsFault, Takes};
+ghost use Rattle.wat_tokens_output.specs.Shows.{TakesNext};
 
 use crate::list::refusal_of;
 use std::alloc::AllocError;

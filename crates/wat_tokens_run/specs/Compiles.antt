@@ -1,5 +1,6 @@
--- WebAssembly specification, text format and binary format: modules. The output of the commands `types` and `module`: the bytes of the module that a
--- text is, or nothing and an error. That nothing is written for another text is not part of the standard.
+-- WebAssembly specification, text format and binary format: modules. The output of the commands `types` and `module`:
+-- the bytes of the module that the grammar derives from the text, or no bytes and an error. That no bytes are written
+-- with an error is not part of the standard.
 use Rattle.std.specs.Prelude.{◌≡◌, ◌<◌, ◌^◌, false, ℕ, List, [], length, Option, Some, Err, MatchOption}
 use Rattle.std.specs.Str.{IsUtf8}
 use Rattle.wat_module_ast.specs.Fields.{Field}
@@ -11,21 +12,23 @@ use Rattle.wat_lexer_parser.specs.declared.parser.fault.Fault.{Fault}
 use Rattle.wat_lexer_parser.specs.laws.Blanking.{TextShows}
 use Rattle.wat_lexer_parser.specs.names.RegisteredNames.{no_names}
 use Rattle.wat_modules.specs.Compiling as modules
-use Rattle.wat_module_lexer.specs.TokenTerminals as pieces
-use Rattle.wat_module_encoder.specs.Binary as sections
+use Rattle.wat_module_lexer.specs.TokenTerminals as lexer
+use Rattle.wat_module_encoder.specs.Binary as encoder
 use Rattle.wat_types.specs.Binary as binary
 use Rattle.wat_types.specs.Compiling as types
 use Rattle.wat_types.specs.Signatures.{Signature}
 
--- Of a text and a value, `Spells` states that the grammar derives the text with this value, `Fits` that its binary format is short enough, and `encoded`
--- is that binary format. The text has a value that fits, and these are the bytes of that value.
+-- `Compiled Spells Fits encoded written`: the bytes `written` are the encoding of a value. `Spells v` states that the
+-- grammar derives the text with the value `v`, `Fits v` that its encoding is short enough, and `encoded v` is that
+-- encoding.
 pub record Compiled {V : Type 0} (Spells : V → Type 0) (Fits : V → Type 0) (encoded : V → List ℕ) (written : List ℕ) : Type 0 where
   pub value : V
   pub spelled : Spells value
   pub fit : Fits value
   pub bytes : written ≡ encoded value
 
--- The text has no value that fits, nothing is written, and the error reported is the error of the text.
+-- `Rejected Spells Fits IsErrorOfText written error`: the grammar derives the text with no value whose encoding is short
+-- enough, no byte is written, and `error` is the error of the text.
 pub record Rejected {V : Type 0} (Spells : V → Type 0) (Fits : V → Type 0) (IsErrorOfText : Report → Type 0) (written : List ℕ) (error : Option Report) : Type 0 where
   pub unspelled : (value : V) → Spells value → ¬ Fits value
   pub nothing : written ≡ []
@@ -33,13 +36,15 @@ pub record Rejected {V : Type 0} (Spells : V → Type 0) (Fits : V → Type 0) (
   pub refused : IsErrorOfText refusal
   pub reported : error ≡ Some refusal
 
--- The bytes are a text of at most 2^32-1 bytes. Without an error, the output is the binary format of the text's value, and otherwise nothing.
+-- `Compiles Spells Fits encoded IsErrorOf bytes written error`: the bytes are a text of at most 2^32-1 bytes. Without an
+-- error, `written` is the encoding of the text's value; otherwise it is empty, and the text has that error.
 pub record Compiles {V : Type 0} (Spells : List ℕ → V → Type 0) (Fits : V → Type 0) (encoded : V → List ℕ) (IsErrorOf : List ℕ → Report → Type 0) (bytes written : List ℕ) (error : Option (Option Report)) : Type 0 where
   pub utf8 : IsUtf8 bytes
   pub short : length bytes < 2 ^ 32
   pub compiled : MatchOption error (Compiled (Spells bytes) Fits encoded written) (Rejected (Spells bytes) Fits (IsErrorOf bytes) written)
 
--- The error of a text that `types` rejects follows from its raw tokens.
+-- `IsTypesError text refusal`: `types` rejects the text's raw tokens, which tile it up to its end or its first lexical
+-- error, with the error `refusal`.
 pub record IsTypesError (text : List ℕ) (refusal : Report) : Type 0 where
   pub tokens : List Token
   pub ending : Option LexFault
@@ -50,13 +55,14 @@ pub record IsTypesError (text : List ℕ) (refusal : Report) : Type 0 where
 abbrev pub CompilesTypes : List ℕ → List ℕ → Option (Option Report) → Type 0
 CompilesTypes = Compiles {V = List Signature} types.SpellsTypes binary.Fits binary.module_bytes IsTypesError
 
--- The error of a text that `module` rejects follows from its visible tokens, and from the error after them.
+-- `IsModuleError text refusal`: `module` rejects the text's visible tokens, or the error after them, with the error
+-- `refusal`.
 pub record IsModuleError (text : List ℕ) (refusal : Report) : Type 0 where
   pub tokens : List Token
   pub last : Option Fault
-  pub shown : TextShows (pieces.plain text) no_names tokens last
+  pub shown : TextShows (lexer.plain text) no_names tokens last
   pub refused : modules.compiled text tokens last ≡ Err refusal
 
 -- The output of `module`, for a module of any fields.
 abbrev pub CompilesModule : List ℕ → List ℕ → Option (Option Report) → Type 0
-CompilesModule = Compiles {V = List Field} modules.DenotesModule modules.Fits sections.module_bytes IsModuleError
+CompilesModule = Compiles {V = List Field} modules.DenotesModule modules.Fits encoder.module_bytes IsModuleError

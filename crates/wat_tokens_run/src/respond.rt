@@ -1,15 +1,21 @@
 //! Execution of the command line: files, output, reports and the exit status.
-ghost use Rattle.std.specs.Prelude.{◌≡◌, ◌⊎◌, ℕ, List, Bool, Option, None, false, IfOk, IfSome, MatchResult, IsTrue, is_some};
+ghost use Rattle.std.specs.Prelude.{◌≡◌, ◌⊎◌, ℕ, List, Bool, Option, None, false, IfOk, IfSome};
+ghost use Rattle.std.specs.Prelude.{MatchResult, IsTrue, is_some};
 ghost use Rattle.std.specs.Prelude.{nat_lt, length};
 ghost use Rattle.std.specs.Option.{option_map};
 ghost use Rattle.wat_tokens_args.specs.Options.{file_names};
 ghost use Rattle.wat_tokens_run.specs.Outcomes.{exit_code, status};
 ghost use Rattle.wat_tokens_run.specs.Printed.{task_prints};
-ghost use Rattle.wat_tokens_run.specs.Responses.{Found, Gives, Fails, FileInQuestionExists, FileInQuestionMissing, name_of};
-ghost use Rattle.wat_tokens_run.specs.Responses.{Acted, FormatsAll, FormatsEach, RanFile, RanFileOf};
-ghost use Rattle.wat_tokens_run.specs.Responses.{RanAll, RanFiles, RanInto, Responded, AppendsProgramText, label};
-ghost use Rattle.wat_tokens_run.specs.Responses.{head, first_file, is_binary, is_plain_list, target_file};
-ghost use Rattle.wat_tokens_run.specs.Responses.{Headed, OutputIsAllowed, OutputIsRejected, RanTo, Unheaded, was_opened};
+ghost use Rattle.wat_tokens_run.specs.Responses.{Found, Gives, Fails, FileInQuestionExists};
+ghost use Rattle.wat_tokens_run.specs.Responses.{FileInQuestionMissing, name_of};
+ghost use Rattle.wat_tokens_run.specs.Responses.{Acted, FormatsAll, FormatsEach, RanFile};
+ghost use Rattle.wat_tokens_run.specs.Responses.{RanFileOf};
+ghost use Rattle.wat_tokens_run.specs.Responses.{RanAll, RanFiles, RanInto, Responded};
+ghost use Rattle.wat_tokens_run.specs.Responses.{AppendsProgramText, label};
+ghost use Rattle.wat_tokens_run.specs.Responses.{head, first_file, is_binary, is_plain_list};
+ghost use Rattle.wat_tokens_run.specs.Responses.{target_file};
+ghost use Rattle.wat_tokens_run.specs.Responses.{Headed, OutputIsAllowed, OutputIsRejected, RanTo};
+ghost use Rattle.wat_tokens_run.specs.Responses.{Unheaded, was_opened};
 ghost use Rattle.wat_tokens_args.specs.declared.options.Mode.{Mode};
 ghost use Rattle.wat_lex.specs.declared.lexer.settings.Settings.{Settings};
 
@@ -32,10 +38,10 @@ pub trait Inputs {
     /// The sink of an output file.
     type Output: Sink + Drop;
 
-    // The result of opening a file of this name, if it is known: its bytes, or a failure.
+    // What opening a file of this name returns, if that is known: its bytes, or a failure.
     ghost found: { Self → List ℕ → Found };
 
-    // The existence of each file, if it is known.
+    // Whether a file of this name exists, if that is known.
     ghost there: { Self → List ℕ → Option Bool };
 
     // Whether standard output is a terminal, if that is known.
@@ -123,8 +129,8 @@ fn is_plain_list(task: &Task<'_>) -> bool
 }
 
 /// Writes the line that names a file before its list, if there are several files and their lists
-/// are not JSON. An empty line precedes it if an earlier file was opened. So the output begins with
-/// an empty line if the line of the first file could not be allocated.
+/// are not JSON. An empty line precedes it if an earlier file was opened, even if the line that
+/// names that file could not be allocated.
 fn write_head<W: Sink>(
     alloc: Global,
     turn: Turn,

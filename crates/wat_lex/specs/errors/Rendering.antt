@@ -43,8 +43,8 @@ excerpt text offset =
 abbrev pub align_right : ℕ → List ℕ → List ℕ
 align_right places text = replicate (places - length text) 32 ++ text
 
--- The location of an error in a file of this name, and below it the source line with a marker under the column. From
--- column 501 on it is only the location.
+-- The location of an error in a file of this name, and below it the source line with a marker under the column. If the
+-- column is over 500, only the location.
 abbrev pub rendered_location_in : List ℕ → Excerpt → List ℕ
 rendered_location_in name e =
     let place = name ++ codes ":" ++ decimal e.line ++ codes ":" ++ decimal e.column in

@@ -9,8 +9,8 @@ use Rattle.wat_lex.specs.tokens.Faults.{FaultAt}
 use Rattle.wat_lex.specs.declared.lexer.kinds.Token.{Token}
 use Rattle.wat_lex.specs.declared.lexer.faults.LexFault.{LexFault}
 
--- `TokenAt s p t`: `t` is a token at byte `p`. Its lexeme is in the language of its kind, and what follows may follow
--- it.
+-- `TokenAt s p t`: `t` is a token that starts at byte `p`: its `len` bytes are a word of the grammar's rule for its kind,
+-- and the text after them may follow that word.
 pub record TokenAt (s : Setting) (p : ℕ) (t : Token) : Type 0 where
   pub offset : t.offset ≡ p
   pub word : List ℕ
@@ -27,8 +27,8 @@ Tiling s from to (t ∷ ts) = TokenAt s from t × Tiling s (t.offset + t.len) to
 abbrev pub EndsAt : Setting → ℕ → Option LexFault → Type 0
 EndsAt s to ending = MatchOption ending (to ≡ length s.text) (FaultAt s to)
 
--- `MaximalTiling s from tokens ending`: the tokens cover the text from byte `from` up to its end or its first lexical
--- error. They are the raw tokens from there, with their ending.
+-- `MaximalTiling s from tokens ending`: the tokens cover the text from byte `from` up to its end, if `ending` is `None`,
+-- or up to its first lexical error, which is `ending`.
 pub record MaximalTiling (s : Setting) (from : ℕ) (tokens : List Token) (ending : Option LexFault) : Type 0 where
   pub to : ℕ
   pub tiling : Tiling s from to tokens

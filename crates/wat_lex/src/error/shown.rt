@@ -13,7 +13,8 @@ ghost use Rattle.std.specs.Prelude.{
   MatchOption,
 };
 ghost use Rattle.std.specs.Prelude.{encode_utf8_all};
-ghost use Rattle.wat_lex.specs.errors.Rendering.{columns, rendered_char, rendered_line, is_boundary};
+ghost use Rattle.wat_lex.specs.errors.Rendering.{columns, rendered_char, rendered_line};
+ghost use Rattle.wat_lex.specs.errors.Rendering.{is_boundary};
 
 use crate::error::stretches::{by_columns_len, is_shown_as_it_is, split_shown};
 use crate::lexer::is_confusing;

@@ -40,10 +40,10 @@ pub record IsMisnamed (text : List ℕ) (t : Token) (e : LexError) : Type 0 wher
 abbrev pub IsMarked : List ℕ → Token → Type 0
 IsMarked text t = (t.kind ≡ LParen) × IsTrue (is_marked text t)
 
--- `Shown text ending names ts found`: a peek at the raw tokens `ts`, the last ones of `text`, which end with `ending`,
--- finds `found` under the registered `names`. Whitespace, comments, and groups of unregistered annotations are
--- skipped. The finding is an error if the name of an annotation is invalid, or if the group of an unregistered
--- annotation has no end. Any other token is visible.
+-- `Shown text ending names ts found`: `ts` are the last raw tokens of `text`, after them is its end or the lexical error
+-- `ending`, and `names` are the registered names. A peek at `ts` finds `found`. Whitespace, comments, and groups of
+-- unregistered annotations are skipped. An annotation without a valid name is an error, and so is an unregistered one
+-- whose group has no end. Any other token is visible.
 pub data Shown (text : List ℕ) (ending : Option LexFault) (names : Names) : List Token → Finding → Type 0 where
   none_left : Shown text ending names [] (ended ending)
   blank : {t : Token} {r : List Token} {a : Finding} → IsTrue (is_blank t.kind) → Shown text ending names r a → Shown text ending names (t ∷ r) a

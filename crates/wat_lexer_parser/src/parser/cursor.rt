@@ -99,8 +99,8 @@ impl<'p, 'a> Cursor<'p, 'a> {
     }
 
     /// Returns the next visible token, and the position after it.
-    // For speed, a cached token stays in registers. The result of `look_again` is returned in
-    // memory, so it is taken apart in a separate branch.
+    // A cached token is returned in registers, and the result of `look_again` in memory. Two
+    // branches keep the first from being copied to memory.
     #[inline(always)]
     #[tactic(auto, unfolding(crate::specs::parser::State::seen))]
     fn look(self) -> Result<Option<(Token, usize)>, Error>
@@ -147,8 +147,8 @@ impl<'p, 'a> Cursor<'p, 'a> {
         parser.lemma_sound();
     }
 
-    /// Returns the current span: the offset of the next visible token, the length of the text at
-    /// its end, or the offset of the position itself at an error.
+    /// Returns the offset of the next visible token as a span. At the end of the text this is its
+    /// length, and before an error the offset of the cursor.
     pub fn cur_span(&self) -> Span
         ensures value { result ≡ current_span self.now.parser.now.source self.now.at
             self.now.parser.now.names }

@@ -2,8 +2,8 @@ use Rattle.std.proofs.Common.{◌≡◌, ◌++◌, map, drop}
 use Rattle.std.specs.List.{flat_map}
 use Rattle.wat_module_tokens.specs.Terminals.{label}
 use Rattle.wat_module_parser.specs.Reading.{data_name_at}
-use Rattle.wat_module_parser.specs.Views.{remaining_terminals}
+use Rattle.wat_module_tokens.specs.TokenCursor.{terminals_of}
 use Rattle.wat_module_parser.proofs.names.data_names.Given as goal
 
 abbrev pub invariant-loop-start : goal.invariant-loop-start
-invariant-loop-start l = flat_map data_name_at (map remaining_terminals l.starts) ≡ map label l.names.items ++ flat_map data_name_at (map remaining_terminals (drop l.start-index l.starts))
+invariant-loop-start l = flat_map data_name_at (map terminals_of l.starts) ≡ map label l.names.items ++ flat_map data_name_at (map terminals_of (drop l.start-index l.starts))

@@ -3,7 +3,6 @@ use Rattle.std.proofs.lemmas.List.{map-append}
 use Rattle.wat_module_tokens.specs.TokenCursor.{terminals_of}
 use Rattle.wat_module_tokens.specs.Terminals.{past, Open}
 use Rattle.wat_module_parser.specs.Reading.{starts, Before}
-use Rattle.wat_module_parser.specs.Views.{remaining_terminals}
 use Rattle.wat_module_parser.proofs.Starts.{last_start, next_start, past_is_short}
 use Rattle.wat_module_parser.proofs.names.starts.Goals as goal
 
@@ -18,10 +17,10 @@ loop-inside-smaller c =
 
 pub loop-inside-preserved : goal.loop-inside-preserved
 loop-inside-preserved c =
-    let before = map remaining_terminals c.loop-inside.starts.items in
-    let pushed : map remaining_terminals c.push.new.self.items ≡ before ++ terminals_of c.in-Some.inside ∷ [] = ap (map remaining_terminals) c.in_ok-push.ensures.items ∙ map-append remaining_terminals c.loop-inside.starts.items (c.in-Some.inside ∷ []) in
+    let before = map terminals_of c.loop-inside.starts.items in
+    let pushed : map terminals_of c.push.new.self.items ≡ before ++ terminals_of c.in-Some.inside ∷ [] = ap (map terminals_of) c.in_ok-push.ensures.items ∙ map-append terminals_of c.loop-inside.starts.items (c.in-Some.inside ∷ []) in
     c.loop-inside.invariant ∙ ap (starts Before before) c.in-Some.ensures.0 ∙ next_start before (terminals_of c.in-Some.inside)
-    ∙ ap (λ ss. starts Before ss (past 0 (terminals_of c.in-Some.inside))) (sym pushed) ∙ ap (starts Before (map remaining_terminals c.push.new.self.items)) (sym c.in-Some.ensures.1)
+    ∙ ap (λ ss. starts Before ss (past 0 (terminals_of c.in-Some.inside))) (sym pushed) ∙ ap (starts Before (map terminals_of c.push.new.self.items)) (sym c.in-Some.ensures.1)
 
 pub returns : goal.returns
-returns c = sym (c.loop-inside.invariant ∙ last_start (map remaining_terminals c.loop-inside.starts.items) (terminals_of c.loop-inside.left) c.in_default.ensures)
+returns c = sym (c.loop-inside.invariant ∙ last_start (map terminals_of c.loop-inside.starts.items) (terminals_of c.loop-inside.left) c.in_default.ensures)
