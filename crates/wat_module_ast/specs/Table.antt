@@ -2,7 +2,8 @@
 -- and vector instructions) and 5.4 (binary format: instructions). The plain instructions: the keyword, the opcode
 -- and the kind of immediate of each. Keywords with consecutive opcodes share a line. `select` with types has
 -- another opcode (`opcode_of` in `Grammar`).
-use Rattle.std.specs.Prelude.{ℕ, suc, List, [], ◌∷◌, ◌++◌, ◌==◌, codes, Option, Some, None, bytes_eq, if◌then◌else◌}
+use Rattle.std.specs.Prelude.{ℕ, suc, List, [], ◌∷◌, ◌++◌, codes, Option, Some, None, bytes_eq, if◌then◌else◌}
+use Rattle.wat_lex.specs.grammar.SpacedWords.{words_of}
 use Rattle.wat_module_ast.specs.declared.instruction.Opcode.{Opcode}
 use Rattle.wat_module_ast.specs.declared.instruction.Opcode.TheVariants.{Byte, Prefixed}
 use Rattle.wat_module_ast.specs.declared.table.Row.{Row}
@@ -22,16 +23,6 @@ row_of r = record { word = r.word.now; opcode = r.opcode; immediate = r.immediat
 abbrev pub found_of : Option Row → Option Mnemonic
 found_of None = None
 found_of (Some r) = Some (row_of r)
-
--- The words with the character `c` prepended to the first of them.
-abbrev pub put_first : ℕ → List (List ℕ) → List (List ℕ)
-put_first c [] = (c ∷ []) ∷ []
-put_first c (word ∷ words) = (c ∷ word) ∷ words
-
--- The words of a line, which are separated by one space each.
-abbrev pub words_of : List ℕ → List (List ℕ)
-words_of [] = [] ∷ []
-words_of (c ∷ cs) = if c == 32 then [] ∷ words_of cs else put_first c (words_of cs)
 
 -- Rows for keywords with the immediate `k`, and with one-byte opcodes that count up from `n`.
 abbrev pub numbered : ℕ → Immediate → List (List ℕ) → List Mnemonic

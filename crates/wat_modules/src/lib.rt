@@ -68,12 +68,12 @@ pub fn compile(alloc: Global, text: &str) -> Result<Vec<u8>, Error>
     let PackedText { packed, error } = pack_tokens(alloc, text)?;
     match error {
         Some(error) => Err(error),
-        None => of_draft(alloc, text, packed),
+        None => compile_packed(alloc, text, packed),
     }
 }
 
 /// Compiles a text without lexical errors from its packed tokens.
-fn of_draft(alloc: Global, text: &str, packed: PackedTokens<'_>) -> Result<Vec<u8>, Error>
+fn compile_packed(alloc: Global, text: &str, packed: PackedTokens<'_>) -> Result<Vec<u8>, Error>
     requires short { length text.now < 2 ^ 32 }
     requires readable { AreReadable text.now (length packed.kept.items) packed.tokens.items }
     requires linked { AreLinked (draft_terminals text.now packed) packed.tokens.items }
@@ -82,11 +82,11 @@ fn of_draft(alloc: Global, text: &str, packed: PackedTokens<'_>) -> Result<Vec<u
         Answers true (λ bytes. bytes.items) (compiled_tokens text.now tokens) result }
 {
     let PackedTokens { tokens, kept } = packed;
-    of_source(alloc, text, TokenStream::new(text, tokens, &kept))
+    compile_tokens(alloc, text, TokenStream::new(text, tokens, &kept))
 }
 
 /// Compiles a text without lexical errors from its significant tokens.
-fn of_source(alloc: Global, text: &str, source: TokenStream<'_>) -> Result<Vec<u8>, Error>
+fn compile_tokens(alloc: Global, text: &str, source: TokenStream<'_>) -> Result<Vec<u8>, Error>
     requires { length text.now < 2 ^ 32 }
     ensures { (tokens : List Token) → TextShows (plain text.now) no_names tokens None →
         source.entry ≡ map (terminal_of text.now) tokens →

@@ -1,21 +1,12 @@
 -- WebAssembly 2.0, 6.2.2 (tokens: keywords), and the proposals for the custom, name, producers, dylink and branch hint
 -- annotations. The table of standard words and its order are this project's own.
-use Rattle.std.specs.Prelude.{ℕ, Bool, true, false, List, [], ◌∷◌, ◌++◌, ◌==◌, if◌then◌else◌, codes, slice_index_or}
+use Rattle.std.specs.Prelude.{ℕ, Bool, true, false, List, [], ◌++◌, codes, slice_index_or}
+use Rattle.wat_lex.specs.grammar.SpacedWords.{words_of}
 
 -- The word as messages print it: in backquotes, after `@` if it is the name of an annotation.
 abbrev pub quoted : Bool → List ℕ → List ℕ
 quoted true word = codes "`@" ++ word ++ codes "`"
 quoted false word = codes "`" ++ word ++ codes "`"
-
--- The words, with the character in front of the first one.
-abbrev pub put_first : ℕ → List (List ℕ) → List (List ℕ)
-put_first c [] = (c ∷ []) ∷ []
-put_first c (word ∷ words) = (c ∷ word) ∷ words
-
--- The words of a line, which one space each separates.
-abbrev pub words_of : List ℕ → List (List ℕ)
-words_of [] = [] ∷ []
-words_of (c ∷ cs) = if c == 32 then [] ∷ words_of cs else put_first c (words_of cs)
 
 -- The standard keywords, in the order of their indices.
 unfoldable pub standard_words : List (List ℕ)

@@ -23,18 +23,18 @@ returns-in-None-clause-bytes c =
     let text = c.args.text.now in
     let ts = draft_terminals text c.in_ok-packed.field-0.packed in
     let h : TerminalsShown text ts None = rw c.in-None.is at c.in_ok-packed.ensures.shown in
-    compiled_bytes c.reading_is_grammar.ensures text c.of_draft.result (compiled_end text ts c.of_draft.result h c.of_draft.ensures)
+    compiled_bytes c.reading_is_grammar.ensures text c.compile_packed.result (compiled_end text ts c.compile_packed.result h c.compile_packed.ensures)
 
 pub returns-in-None-clause-spelled : goal.returns-in-None-clause-spelled
 returns-in-None-clause-spelled c =
     let text = c.args.text.now in
     let ts = draft_terminals text c.in_ok-packed.field-0.packed in
     let h : TerminalsShown text ts None = rw c.in-None.is at c.in_ok-packed.ensures.shown in
-    compiled_spelled c.one_tiling.ensures.one c.all_shown.ensures.all_one c.reading_is_grammar.ensures text c.of_draft.result (compiled_end text ts c.of_draft.result h c.of_draft.ensures)
+    compiled_spelled c.one_tiling.ensures.one c.all_shown.ensures.all_one c.reading_is_grammar.ensures text c.compile_packed.result (compiled_end text ts c.compile_packed.result h c.compile_packed.ensures)
 
 pub returns-in-None-clause-refused : goal.returns-in-None-clause-refused
 returns-in-None-clause-refused c =
     let text = c.args.text.now in
     let ts = draft_terminals text c.in_ok-packed.field-0.packed in
     let h : TerminalsShown text ts None = rw c.in-None.is at c.in_ok-packed.ensures.shown in
-    compiled_refused c.one_tiling.ensures.one c.all_shown.ensures.all_one text c.of_draft.result (compiled_end text ts c.of_draft.result h c.of_draft.ensures)
+    compiled_refused c.one_tiling.ensures.one c.all_shown.ensures.all_one text c.compile_packed.result (compiled_end text ts c.compile_packed.result h c.compile_packed.ensures)

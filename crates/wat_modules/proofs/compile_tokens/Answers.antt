@@ -6,7 +6,7 @@ use Rattle.wat_module_ast.specs.declared.error.ParseFailure.TheVariants.{Text}
 use Rattle.wat_module_instructions.specs.Parts.{Faults}
 use Rattle.wat_module_tokens.specs.TokenCursor.{terminals_of}
 use Rattle.wat_modules.proofs.Answering.{of_bytes, of_fault}
-use Rattle.wat_modules.proofs.of_source.Goals as goal
+use Rattle.wat_modules.proofs.compile_tokens.Goals as goal
 
 pub returns-in-Ok : goal.returns-in-Ok
 returns-in-Ok c = λ tokens h are.

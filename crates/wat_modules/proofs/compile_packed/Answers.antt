@@ -1,6 +1,6 @@
 use Rattle.std.proofs.Common.{map, subst, sym}
 use Rattle.wat_module_tokens.specs.Tokens.{AreLinked, terminal_in}
-use Rattle.wat_modules.proofs.of_draft.Goals as goal
+use Rattle.wat_modules.proofs.compile_packed.Goals as goal
 
 pub new-requires-clause-linked : goal.new-requires-clause-linked
 new-requires-clause-linked c =
