@@ -49,6 +49,10 @@ DECLARED = re.compile(r"\b(?:fn|struct|trait) (\w+)")
 RULE = re.compile(r"^(?:pub )?data (\w+)|^  (by_\w+) :", re.MULTILINE)
 VARIANT = re.compile(r"^    ([A-Z]\w*)", re.MULTILINE)
 STATED = re.compile(r"\b(?:ensures\*?(?: (\w+))? \{|ghost (?!use\b)(\w+))")
+STRING = re.compile(r'"(?:[^"\\]|\\.)*"')
+# A function, a macro or a constructor that is called by its bare name.
+CALLED = re.compile(r"(?<![\w.:])([A-Za-z_]\w*)\s*[(!]|(?<![\w.:])([A-Z]\w*)(?=::|\s*\{)")
+PRELUDE = {"Some", "None", "Ok", "Err", "Vec", "String", "Box", "if", "match", "return", "while", "matches", "drop"}
 QUIET = {"stdin": subprocess.DEVNULL, "stdout": subprocess.PIPE, "check": False}
 LOST = re.compile(r"error: `\w+` has no function|fits more than one|several functions")
 ENDED = re.compile(r"only=(\d+) proved=(\d+)")
@@ -193,6 +197,19 @@ def check_clauses(record, stated):
             raise Fault(f"no source has this clause: {part}")
 
 
+def check_calls(record):
+    """Checks that the new texts call only functions and name only types that the record's file names, or that they declare. Raises `Fault` otherwise."""
+    if not record.file.startswith("src/"):
+        return
+    lines = record.source().read_text(encoding="utf-8").splitlines()
+    known = set(re.findall(r"\w+", " ".join(line for line in lines if "ghost" not in line))) | PRELUDE
+    new = STRING.sub("", " ".join(text for _, text in record.pairs if "ensures" not in text))
+    declared = set(re.findall(r"\bfn (\w+)", " ".join(text for _, text in record.pairs)))
+    unknown = {one or other for one, other in CALLED.findall(new)} - known - declared
+    if unknown:
+        raise Fault(f"{record.file} does not name {', '.join(sorted(unknown))}")
+
+
 def check_record(record, stated):
     if not NAME.fullmatch(record.name):
         raise Fault("its name is not words with dashes between them")
@@ -200,6 +217,7 @@ def check_record(record, stated):
         raise Fault(f"{record.file} is no source, definition or proof")
     applied(record)
     check_functions(record)
+    check_calls(record)
     check_clauses(record, stated)
     file = record.must_fail_file()
     if file.is_file() != record.must_fail or record.must_fail and file.read_text(encoding="utf-8") != record.edit():
@@ -426,6 +444,7 @@ WRONG = {
     "an old text is there twice": (r"old: .*", "old: ensures", "its old text is in"),
     "an old text is not there": (r"old: .*", "old: no such text", "its old text is in"),
     "it changes nothing": (r"new: .*", "new: {old}", "its old text is its new one"),
+    "it calls a function that is not there": (r"new: .*", "new: no_such_function()", "does not name no_such_function"),
     "a function is not there": (r"fn: .*", "fn: no::such_function", "declares no such_function"),
     "another function is named": (r"fn: .*", "fn: {other}", "it changes"),
     "a clause is not there": (r"clause: .*", "clause: no_such of {fn}", "no source has this clause"),
