@@ -95,11 +95,12 @@ pub data ElemMode : Type 0 where
   Active : Target → ElemMode
   Declarative : ElemMode
 
--- 6.6.2 to 6.6.12, module field. Functions, tables, memories, globals and imports have an identifier and the names of
--- their inline exports. An import has a module name and a name, and an import description; an export has a name and the
--- index of its item, and a start field the index of a function. A table may have inline elements, and a memory inline
--- data. A data segment has an identifier, a target if it is active, and its bytes; an element segment has an
--- identifier, a mode, a type and its elements.
+-- 6.6.2 to 6.6.12, module field. A type has an identifier and a function type. Functions, tables, memories, globals and
+-- imports have an identifier and the names of their inline exports. An import has a module name and a name, and an
+-- import description; an export has a name, and the index space and index of its item; a start field has the index of
+-- a function. A table may have inline elements, a memory inline data, and a global has a type and instructions. A data
+-- segment has an identifier, a target if it is active, and its bytes; an element segment has an identifier, a mode, a
+-- type and its elements.
 pub data Field : Type 0 where
   TypeField : Label → FunctionType → Field
   Import : List ℕ → List ℕ → Label → List (List ℕ) → ExternType → Field
@@ -141,7 +142,7 @@ binding_of (Start i) = []
 binding_of (Data l t bytes) = []
 binding_of (Elem l m t es) = []
 
--- The items that fields define, in order.
+-- The functions, tables, memories and globals that fields define or import, in order.
 abbrev pub bindings_of : List Field → List Binding
 bindings_of fs = flat_map binding_of fs
 
@@ -315,8 +316,9 @@ pub data GlobalTypeIs : List Terminal → GlobalType → List Terminal → Type 
 
 -- 6.6.3, `typeuse`: `param* result*`; or `(type index) param* result*`, whose lists are those of the type, or
 -- both empty, in which case the parameters have no identifiers (`TypeUseIs types ts use r`). Lists alone
--- denote the least index of their type (`ImplicitTypes`). If the types are not known, which no module has, no
--- type is looked up, and any lists are accepted.
+-- denote the least index of their type (`ImplicitTypes`). In the context of a module the types are known. Before that,
+-- the parser reads the fields without them, to find the types that type uses add; then no type is looked up, and any
+-- lists are accepted.
 pub data TypeUseIs (types : Types) : List Terminal → NamedUse → List Terminal → Type 0 where
   by_lists : {ts us vs : List Terminal} {params results : List Variable}
       → Many (Group (codes "param") true) ts params us → Many (Group (codes "result") false) us results vs → TypeUseIs types ts (named_use None params results) vs

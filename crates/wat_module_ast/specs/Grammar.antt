@@ -358,7 +358,7 @@ abbrev pub indexed_by : ℕ → Option FunctionType → List Terminal → List T
 indexed_by i None all ts = Err (UnknownName, all)
 indexed_by i (Some t) all ts = agreed i t all (lists_of ts)
 
--- A type use with an index if the types are not known, which no module has: its index is 0, regardless of
+-- A type use with an index, read before the types are known: its index is 0, regardless of
 -- the text, and its type is that of the lists.
 abbrev pub assumed : Result (FunctionType × List Terminal) Fault → Result (TypeUse × List Terminal) Fault
 assumed (Ok (t, ts)) = Ok (type_use (Some 0) t, ts)

@@ -54,7 +54,7 @@ fn double<'p, 'a>(
 }
 
 /// Parses a 32-bit float, which may be written as an integer. Returns the bits of the nearest float
-/// and the remaining tokens. Returns `OutOfRange` if that float is an infinity, or if the payload
+/// and the remaining tokens. Returns `OutOfRange` if a number rounds to infinity, or if the payload
 /// of a NaN is 0 or has too many bits.
 pub(crate) fn float_32<'p, 'a>(
     alloc: Global,
@@ -76,7 +76,7 @@ pub(crate) fn float_32<'p, 'a>(
 }
 
 /// Parses a 64-bit float, which may be written as an integer. Returns the bits of the nearest float
-/// and the remaining tokens. Returns `OutOfRange` if that float is an infinity, or if the payload
+/// and the remaining tokens. Returns `OutOfRange` if a number rounds to infinity, or if the payload
 /// of a NaN is 0 or has too many bits.
 pub(crate) fn float_64<'p, 'a>(
     alloc: Global,

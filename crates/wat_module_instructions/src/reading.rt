@@ -37,8 +37,8 @@ pub struct Scope<'s, 'n> {
     pub type_names: &'s IndexedNames<'n>,
     /// Types by their indices. Empty if they are not known.
     pub types: &'s [FunctionType],
-    /// `true` if the index of a type use is looked up in `types`. If `false`, any 32-bit integer is
-    /// accepted as a type index.
+    /// `true` if the index of a type use is looked up in `types`. If `false`, any 32-bit integer
+    /// and any identifier in `type_names` is accepted as a type index.
     pub are_types_known: bool,
     /// Identifiers of the parameters and local variables of a function.
     pub locals: &'s IndexedNames<'n>,
@@ -71,8 +71,8 @@ fn bound<'n>(frame: &Frame<'n>) -> Option<Name<'n>>
     }
 }
 
-/// Returns the index of the innermost label with this identifier: the number of labels bound inside
-/// its block.
+/// Returns the index of the innermost label with this identifier: the number of open labels inside
+/// it. Returns `None` if no open label has it.
 fn label_index(frames: &[Frame<'_>], name: &str) -> Option<usize>
     ensures { result ≡ position 0 name.now (labels_in (stack frames.now)) }
 {
@@ -240,7 +240,7 @@ fn branch_table<'p, 'a>(
 }
 
 /// Parses another label of `br_table`, and appends the previous one to `labels`. Returns `None` if
-/// the next token is not an index.
+/// the next token is neither an integer nor an identifier.
 #[tactic(auto, unfolding(wat_module_ast::specs::Grammar::labels_from))]
 fn next_label<'p, 'a>(
     frames: &[Frame<'_>],
@@ -456,8 +456,8 @@ fn immediate<'p, 'a>(
     }
 }
 
-/// Returns the opcode of an instruction with these immediates: 0x1C for a `select` that lists
-/// types, otherwise the opcode of its keyword.
+/// Returns the opcode of an instruction with these immediates: 0x1C for a `select` with a group
+/// `(result ..)`, even an empty one, otherwise the opcode of its keyword.
 fn opcode_of(opcode: Opcode, argument: &Argument) -> Opcode
     ensures { result ≡ opcode_of opcode argument.now }
 {
@@ -538,7 +538,7 @@ fn after_word<'p, 'a>(word: &str, cursor: TokenCursor<'p, 'a>) -> Option<TokenCu
     }
 }
 
-/// Parses the optional label of a structured instruction.
+/// Parses an optional identifier: the label of a structured instruction, or the name of a field.
 pub fn label<'p, 'a>(cursor: TokenCursor<'p, 'a>) -> (Name<'a>, TokenCursor<'p, 'a>)
     ensures name { label result.0 ≡ (label_of (terminals_of cursor.entry)).0 }
     ensures rest { terminals_of result.1 ≡ (label_of (terminals_of cursor.entry)).1 }

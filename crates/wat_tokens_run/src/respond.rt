@@ -38,13 +38,14 @@ pub trait Inputs {
     /// The sink of an output file.
     type Output: Sink + Drop;
 
-    // What opening a file of this name returns, if that is known: its bytes, or a failure.
+    // What opening a file of this name returns: its bytes, or a failure. `None` if the environment
+    // does not specify it.
     ghost found: { Self → List ℕ → Found };
 
-    // Whether a file of this name exists, if that is known.
+    // Whether a file of this name exists; `None` if the environment does not specify it.
     ghost there: { Self → List ℕ → Option Bool };
 
-    // Whether standard output is a terminal, if that is known.
+    // Whether standard output is a terminal; `None` if the environment does not specify it.
     ghost shown: { Self → Option Bool };
 
     // The sink writes to the file of this name.
@@ -129,8 +130,8 @@ fn is_plain_list(task: &Task<'_>) -> bool
 }
 
 /// Writes the line that names a file before its list, if there are several files and their lists
-/// are not JSON. An empty line precedes it if an earlier file was opened, even if the line that
-/// names that file could not be allocated.
+/// are not JSON. If an earlier file was opened, an empty line comes first, even if the line that
+/// names the earlier file is missing because its allocation failed.
 fn write_head<W: Sink>(
     alloc: Global,
     turn: Turn,
@@ -267,8 +268,8 @@ fn first_file(files: FileNames<'_>) -> &str
 }
 
 /// Runs a task on a file with the file `target` as its output. Reports the outcome and returns its
-/// exit status. A failed write is reported with the name of the target, any other failure with that
-/// of the input.
+/// exit status. A failure to create or write the target is reported with the name of the target,
+/// any other failure with that of the input.
 fn run_into<I: Inputs, E: io::Write>(
     alloc: Global,
     settings: Settings,

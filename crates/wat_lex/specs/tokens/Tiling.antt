@@ -10,7 +10,7 @@ use Rattle.wat_lex.specs.declared.lexer.kinds.Token.{Token}
 use Rattle.wat_lex.specs.declared.lexer.faults.LexFault.{LexFault}
 
 -- `TokenAt s p t`: `t` is a token that starts at byte `p`: its `len` bytes are a word of the grammar's rule for its kind,
--- and the text after them may follow that word.
+-- and the text after them does not continue that word (`MayFollow`).
 pub record TokenAt (s : Setting) (p : ℕ) (t : Token) : Type 0 where
   pub offset : t.offset ≡ p
   pub word : List ℕ

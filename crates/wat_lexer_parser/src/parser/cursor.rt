@@ -99,8 +99,9 @@ impl<'p, 'a> Cursor<'p, 'a> {
     }
 
     /// Returns the next visible token, and the position after it.
-    // A cached token is returned in registers, and the result of `look_again` in memory. Two
-    // branches keep the first from being copied to memory.
+    // A cached token is returned in registers, and the result of `look_again` in memory. That
+    // result is taken apart in the branches `Ok` and `Err`; returned as it is, it would force the
+    // cached token into memory too.
     #[inline(always)]
     #[tactic(auto, unfolding(crate::specs::parser::State::seen))]
     fn look(self) -> Result<Option<(Token, usize)>, Error>
