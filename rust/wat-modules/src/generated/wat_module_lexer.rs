@@ -439,7 +439,7 @@ fn push_token<'t>(
 ///
 /// ```text
 /// requires { length text.now < 2 ^ 32 }
-/// ensures shown { IfOk result (λ r. PiecesShown text.now (draft_terminals text.now r.packed)
+/// ensures shown { IfOk result (λ r. TerminalsShown text.now (draft_terminals text.now r.packed)
 ///     r.error) }
 /// ensures readable { IfOk result (λ r. AreReadable text.now (length r.packed.kept.items)
 ///     r.packed.tokens.items) }
@@ -461,7 +461,7 @@ pub fn pack_tokens(alloc: Global, text: &str) -> Result<PackedText<'_>, Error> {
 /// ```text
 /// requires { from.parser.now.source.setting.text ≡ text.now }
 /// ensures shown { IfOk result (λ r.
-///     PiecesFrom from.entry.parser.now.source from.entry.parser.now.names from.entry.at
+///     TerminalsFrom from.entry.parser.now.source from.entry.parser.now.names from.entry.at
 ///     (draft_terminals text.now r.0.packed) r.0.error) }
 /// ensures readable { IfOk result (λ r. AreReadable text.now (length r.0.packed.kept.items)
 ///     r.0.packed.tokens.items) }

@@ -57,7 +57,7 @@ pub fn compile(alloc: Global, text: &str) -> Result<Vec<u8>, Error> {
     let PackedText { packed, error } = pack_tokens(alloc, text)?;
     match error {
         Some(error) => Err(error),
-        None => of_draft(alloc, text, packed),
+        None => compile_packed(alloc, text, packed),
     }
 }
 
@@ -73,9 +73,9 @@ pub fn compile(alloc: Global, text: &str) -> Result<Vec<u8>, Error> {
 ///     draft_terminals text.now packed.entry ≡ map (terminal_of text.now) tokens →
 ///     Answers true (λ bytes. bytes.items) (compiled_tokens text.now tokens) result }
 /// ```
-fn of_draft(alloc: Global, text: &str, packed: PackedTokens<'_>) -> Result<Vec<u8>, Error> {
+fn compile_packed(alloc: Global, text: &str, packed: PackedTokens<'_>) -> Result<Vec<u8>, Error> {
     let PackedTokens { tokens, kept } = packed;
-    of_source(alloc, text, TokenStream::new(text, tokens, &kept))
+    compile_tokens(alloc, text, TokenStream::new(text, tokens, &kept))
 }
 
 /// Compiles a text without lexical errors from its significant tokens.
@@ -88,7 +88,7 @@ fn of_draft(alloc: Global, text: &str, packed: PackedTokens<'_>) -> Result<Vec<u
 ///     source.entry ≡ map (terminal_of text.now) tokens →
 ///     Answers true (λ bytes. bytes.items) (compiled_tokens text.now tokens) result }
 /// ```
-fn of_source(alloc: Global, text: &str, source: TokenStream<'_>) -> Result<Vec<u8>, Error> {
+fn compile_tokens(alloc: Global, text: &str, source: TokenStream<'_>) -> Result<Vec<u8>, Error> {
     crate::parser::laws::reading_is_grammar();
     match module::module(alloc, source.cursor()) {
         Ok(fields) => {

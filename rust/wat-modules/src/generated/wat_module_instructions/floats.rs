@@ -63,8 +63,9 @@ fn double<'p, 'a>(
     }
 }
 
-/// Parses a 32-bit float, which may be written as an integer. Returns its bits and the remaining
-/// tokens, or `OutOfRange` if the value is not a 32-bit float.
+/// Parses a 32-bit float, which may be written as an integer. Returns the bits of the nearest float
+/// and the remaining tokens. Returns `OutOfRange` if a number rounds to infinity, or if the payload
+/// of a NaN is 0 or has too many bits.
 ///
 /// # Proved
 ///
@@ -88,8 +89,9 @@ pub(crate) fn float_32<'p, 'a>(
     }
 }
 
-/// Parses a 64-bit float, which may be written as an integer. Returns its bits and the remaining
-/// tokens, or `OutOfRange` if the value is not a 64-bit float.
+/// Parses a 64-bit float, which may be written as an integer. Returns the bits of the nearest float
+/// and the remaining tokens. Returns `OutOfRange` if a number rounds to infinity, or if the payload
+/// of a NaN is 0 or has too many bits.
 ///
 /// # Proved
 ///

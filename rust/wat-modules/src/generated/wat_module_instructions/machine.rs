@@ -456,19 +456,19 @@ fn at_word<'p, 'a>(
     match frame {
         Frame::Operands(_) => Err(ParseFailure::Text(unexpected(cursor))),
         Frame::Condition(_, _) => Err(ParseFailure::Text(unexpected(cursor))),
-        Frame::Block(may_turn, label) => {
+        Frame::Block(may_have_else, label) => {
             if reading::is_end(word) {
                 let rest = reading::end_label(label, rest)?;
                 out.push(END)?;
                 return Ok(rest);
             }
-            if may_turn && reading::is_else(word) {
+            if may_have_else && reading::is_else(word) {
                 let rest = reading::end_label(label, rest)?;
                 frames.push(Frame::Block(false, label))?;
                 out.push(ELSE)?;
                 return Ok(rest);
             }
-            frames.push(Frame::Block(may_turn, label))?;
+            frames.push(Frame::Block(may_have_else, label))?;
             instruction(alloc, scope, frames, out, word, cursor, rest)
         }
         Frame::Body | Frame::Group(_) | Frame::Then(_) | Frame::Else(_) => {

@@ -23,8 +23,8 @@ pub struct Scope<'s, 'n> {
     pub type_names: &'s IndexedNames<'n>,
     /// Types by their indices. Empty if they are not known.
     pub types: &'s [FunctionType],
-    /// `true` if the index of a type use is looked up in `types`. If `false`, any 32-bit integer is
-    /// accepted as a type index.
+    /// `true` if the index of a type use is looked up in `types`. If `false`, any 32-bit integer
+    /// and any identifier in `type_names` is accepted as a type index.
     pub are_types_known: bool,
     /// Identifiers of the parameters and local variables of a function.
     pub locals: &'s IndexedNames<'n>,
@@ -62,8 +62,8 @@ fn bound<'n>(frame: &Frame<'n>) -> Option<Name<'n>> {
     }
 }
 
-/// Returns the index of the innermost label with this identifier: the number of labels bound inside
-/// its block.
+/// Returns the index of the innermost label with this identifier: the number of open labels inside
+/// it. Returns `None` if no open label has it.
 ///
 /// # Proved
 ///
@@ -85,15 +85,15 @@ fn label_index(frames: &[Frame<'_>], name: &str) -> Option<usize> {
     None
 }
 
-/// The identifiers that an index may name: those of the items of an index space, or the labels of
-/// the open frames.
+/// The identifiers that may be written for an index: those of the items of an index space, or the
+/// labels of the open frames.
 #[derive(Clone, Copy)]
 enum Identifiers<'s, 'n> {
     Items(&'s IndexedNames<'n>),
     Labels(&'s [Frame<'n>]),
 }
 
-/// Returns the index of an identifier.
+/// Returns the index of the first item, or of the innermost label, with this identifier, or `None`.
 ///
 /// # Proved
 ///
@@ -271,7 +271,7 @@ fn branch_table<'p, 'a>(
 }
 
 /// Parses another label of `br_table`, and appends the previous one to `labels`. Returns `None` if
-/// the next token is not an index.
+/// the next token is neither an integer nor an identifier.
 ///
 /// # Proved
 ///
@@ -526,8 +526,8 @@ fn immediate<'p, 'a>(
     }
 }
 
-/// Returns the opcode of an instruction with these immediates: 0x1C for a `select` that lists
-/// types, otherwise the opcode of its keyword.
+/// Returns the opcode of an instruction with these immediates: 0x1C for a `select` with a group
+/// `(result ..)`, even an empty one, otherwise the opcode of its keyword.
 ///
 /// # Proved
 ///
@@ -629,7 +629,7 @@ fn after_word<'p, 'a>(word: &str, cursor: TokenCursor<'p, 'a>) -> Option<TokenCu
     }
 }
 
-/// Parses the optional label of a structured instruction.
+/// Parses an optional identifier: the label of a structured instruction, or the name of a field.
 ///
 /// # Proved
 ///

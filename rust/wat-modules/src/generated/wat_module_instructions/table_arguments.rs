@@ -40,7 +40,7 @@ fn are_indices(cursor: TokenCursor<'_, '_>) -> bool {
     }
 }
 
-/// Parses an optional table index, which is 0 by default.
+/// Parses an optional table index as an immediate, 0 by default.
 ///
 /// # Proved
 ///

@@ -548,8 +548,8 @@ fn elem_after<'p, 'a>(
     }
 }
 
-/// Parses a declarative or passive element segment after the first keyword that follows its
-/// identifier. `all` starts at this keyword.
+/// Parses a declarative element segment after `declare`, or a passive one, whose element list
+/// begins with `word`. `all` starts at `word`, `cursor` after it.
 ///
 /// # Proved
 ///

@@ -113,7 +113,7 @@ fn module_fields<'p, 'a>(
 }
 
 /// Parses the fields again, with the types that inline type uses add. `fault` is the error of
-/// parsing them with the types alone that type fields define.
+/// parsing them with only the types that type fields define.
 ///
 /// # Proved
 ///

@@ -218,7 +218,7 @@ pub(crate) fn names_in<'s, 'a>(names: &'s Names<'a>, space: IndexSpace) -> &'s I
 /// # Proved
 ///
 /// ```text
-/// ensures { IfOk result (λ starts. map remaining_terminals starts.items ≡
+/// ensures { IfOk result (λ starts. map terminals_of starts.items ≡
 /// reading.starts reading.Before [] (terminals_of cursor.entry)) }
 /// ```
 fn starts<'p, 'a>(
@@ -240,7 +240,7 @@ fn starts<'p, 'a>(
 ///
 /// ```text
 /// ensures { IfOk result (λ bindings. map binding_of bindings.items ≡
-/// flat_map reading.binding_at (map remaining_terminals starts.now)) }
+/// flat_map reading.binding_at (map terminals_of starts.now)) }
 /// ```
 fn bindings<'p, 'a>(
     alloc: Global,
@@ -374,7 +374,7 @@ fn word_binding<'a>(cursor: TokenCursor<'_, 'a>) -> Option<Binding<'a>> {
 ///
 /// ```text
 /// ensures { IfOk result (λ names. map label names.items ≡
-/// flat_map reading.data_name_at (map remaining_terminals starts.now)) }
+/// flat_map reading.data_name_at (map terminals_of starts.now)) }
 /// ```
 fn data_names<'p, 'a>(
     alloc: Global,
@@ -449,7 +449,7 @@ fn inline_data<'p, 'a>(
 ///
 /// ```text
 /// ensures { IfOk result (λ names. map label names.items ≡
-/// flat_map reading.elem_name_at (map remaining_terminals starts.now)) }
+/// flat_map reading.elem_name_at (map terminals_of starts.now)) }
 /// ```
 fn elem_names<'p, 'a>(
     alloc: Global,
@@ -541,9 +541,9 @@ fn elem_after_type<'a>(cursor: TokenCursor<'_, 'a>) -> Option<Name<'a>> {
 ///
 /// ```text
 /// ensures names { IfOk result (λ r. map label r.0.items ≡
-///     map definition_name (flat_map reading.definition_at (map remaining_terminals starts.now))) }
+///     map definition_name (flat_map reading.definition_at (map terminals_of starts.now))) }
 /// ensures types { IfOk result (λ r. map type_of r.1.items ≡
-///     map definition_type (flat_map reading.definition_at (map remaining_terminals starts.now))) }
+///     map definition_type (flat_map reading.definition_at (map terminals_of starts.now))) }
 /// ```
 fn definitions<'p, 'a>(
     alloc: Global,

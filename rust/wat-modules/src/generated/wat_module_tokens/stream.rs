@@ -152,7 +152,7 @@ impl<'a> TokenStream<'a> {
     /// ensures small { IfSome result (λ _. at < 2 ^ 63) }
     /// ```
     #[inline(always)]
-    fn piece(&self, at: usize) -> Option<DecodedToken<'a>> {
+    fn token(&self, at: usize) -> Option<DecodedToken<'a>> {
         match self.tokens.get(at) {
             Some(token) => Some(read(self.text, self.kept, *token)),
             None => None,
@@ -269,13 +269,13 @@ impl<'p, 'a> TokenCursor<'p, 'a> {
     /// ```
     #[inline(always)]
     pub fn first(self) -> Option<(DecodedToken<'a>, TokenCursor<'p, 'a>)> {
-        match self.source.piece(self.at) {
-            Some(piece) => {
+        match self.source.token(self.at) {
+            Some(token) => {
                 let rest = TokenCursor {
                     source: self.source,
                     at: self.at + 1,
                 };
-                Some((piece, rest))
+                Some((token, rest))
             }
             None => None,
         }

@@ -21,11 +21,12 @@ pub trait Inputs {
     /// The sink of an output file.
     type Output: Sink;
 
-    // The result of opening a file of this name, if it is known: its bytes, or a failure.
+    // What opening a file of this name returns: its bytes, or a failure. `None` if the environment
+    // does not specify it.
 
-    // The existence of each file, if it is known.
+    // Whether a file of this name exists; `None` if the environment does not specify it.
 
-    // Whether standard output is a terminal, if that is known.
+    // Whether standard output is a terminal; `None` if the environment does not specify it.
 
     // The sink writes to the file of this name.
 
@@ -147,8 +148,8 @@ fn is_plain_list(task: &Task<'_>) -> bool {
 }
 
 /// Writes the line that names a file before its list, if there are several files and their lists
-/// are not JSON. An empty line precedes it if an earlier file was opened. So the output begins with
-/// an empty line if the line of the first file could not be allocated.
+/// are not JSON. If an earlier file was opened, an empty line comes first, even if the line that
+/// names the earlier file is missing because its allocation failed.
 ///
 /// # Proved
 ///
@@ -309,8 +310,8 @@ fn first_file(files: FileNames<'_>) -> &str {
 }
 
 /// Runs a task on a file with the file `target` as its output. Reports the outcome and returns its
-/// exit status. A failed write is reported with the name of the target, any other failure with that
-/// of the input.
+/// exit status. A failure to create or write the target is reported with the name of the target,
+/// any other failure with that of the input.
 ///
 /// # Proved
 ///

@@ -69,8 +69,9 @@ impl<'p, 'a> Cursor<'p, 'a> {
     }
 
     /// Returns the next visible token, and the position after it.
-    // For speed, a cached token stays in registers. The result of `look_again` is returned in
-    // memory, so it is taken apart in a separate branch.
+    // A cached token is returned in registers, and the result of `look_again` in memory. That
+    // result is taken apart in the branches `Ok` and `Err`; returned as it is, it would force the
+    // cached token into memory too.
     /// # Proved
     ///
     /// ```text
@@ -126,8 +127,8 @@ impl<'p, 'a> Cursor<'p, 'a> {
         parser.lemma_sound();
     }
 
-    /// Returns the current span: the offset of the next visible token, the length of the text at
-    /// its end, or the offset of the position itself at an error.
+    /// Returns the offset of the next visible token as a span. At the end of the text this is its
+    /// length, and before an error the offset of the cursor.
     ///
     /// # Proved
     ///
