@@ -2,7 +2,8 @@
 -- functions, 6.6.6 tables, 6.6.7 memories, 6.6.8 globals, 6.6.9 exports, 6.6.10 start function, 6.6.11 element
 -- segments, 6.6.12 data segments, and the conditions of 6.6.13 (modules) that `Modules` needs; 6.4 (types). All rules
 -- are over terminals: a rule consumes tokens from the front of a list and leaves the rest. In `Rule ts x r`, the tokens
--- `ts`, up to the rest `r`, match the grammar of `x`. Section numbers in this crate are those of WebAssembly 2.0.
+-- `ts`, up to the rest `r`, match the grammar of the rule and denote the value `x`. Section numbers in this crate are
+-- those of WebAssembly 2.0.
 use Rattle.std.specs.Prelude.{◌≡◌, ◌&&◌, ◌^◌, ◌+◌, ◌/◌, ℕ, Bool, true, false, List, [], ◌∷◌, ◌++◌, length, map, codes, bytes_eq, nat_lt, slice_get, Option, Some, None, if◌then◌else◌}
 use Rattle.std.specs.List.{flat_map}
 use Rattle.std.specs.Str.{is_utf8}
@@ -314,11 +315,11 @@ pub data GlobalTypeIs : List Terminal → GlobalType → List Terminal → Type 
   by_constant : {ts : List Terminal} {w : List ℕ} {t : ValueType} → value_type w ≡ Some t → GlobalTypeIs (Word w ∷ ts) (record { is_mutable = false; value = t }) ts
   by_mutable : {ts : List Terminal} {v w : List ℕ} {t : ValueType} → v ≡ codes "mut" → value_type w ≡ Some t → GlobalTypeIs (Open ∷ Word v ∷ Word w ∷ Close ∷ ts) (record { is_mutable = true; value = t }) ts
 
--- 6.6.3, `typeuse`: `param* result*`; or `(type index) param* result*`, whose lists are those of the type, or
--- both empty, in which case the parameters have no identifiers (`TypeUseIs types ts use r`). Lists alone
--- denote the least index of their type (`ImplicitTypes`). In the context of a module the types are known. Before that,
--- the parser reads the fields without them, to find the types that type uses add; then no type is looked up, and any
--- lists are accepted.
+-- 6.6.3, `typeuse` (`TypeUseIs types ts use r`): `param* result*`, or `(type index) param* result*`. After an index, the
+-- lists must be those of the type, or both must be empty; then the parameters are those of the type, without identifiers.
+-- Lists without an index denote the least index of their type (`ImplicitTypes`). In the context of a module the types
+-- are known. While the parser still collects the types that type uses add, they are not known: no type is looked up, and
+-- any lists are accepted.
 pub data TypeUseIs (types : Types) : List Terminal → NamedUse → List Terminal → Type 0 where
   by_lists : {ts us vs : List Terminal} {params results : List Variable}
       → Many (Group (codes "param") true) ts params us → Many (Group (codes "result") false) us results vs → TypeUseIs types ts (named_use None params results) vs

@@ -103,7 +103,8 @@ fn code(alloc: Global, types: &IndexedTypes, function: &Function<'_>) -> Result<
     Ok(bytes)
 }
 
-/// Appends the code section: each function that a field defines, after its size.
+/// Appends the code section: for each function that a field defines, its size in bytes and then its
+/// code.
 pub(crate) fn put_codes(
     alloc: Global,
     out: &mut Vec<u8>,

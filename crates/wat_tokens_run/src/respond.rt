@@ -352,8 +352,9 @@ fn say<W: Sink>(text: &str, output: &mut W) -> Outcome<'static>
     }
 }
 
-/// Returns `false` if the first word after the leading options is meaningful only as a file name
-/// (`file_in_question`), and no file of this name exists.
+/// Returns `false` if the first word after the leading options is neither an option nor a command,
+/// has no `.` or `/` that makes it recognizable as a file name (`file_in_question`), and names no
+/// existing file.
 fn file_in_question_exists<I: Inputs>(words: &[String], inputs: &I) -> bool
     ensures meant { IsTrue result → FileInQuestionExists (I.there inputs.now) words.now }
     ensures not_meant { IsTrue result ⊎ FileInQuestionMissing (I.there inputs.now) words.now }

@@ -42,9 +42,9 @@ IsMarked text t = (t.kind ≡ LParen) × IsTrue (is_marked text t)
 
 -- `Shown text ending names ts found`: `ts` are the last raw tokens of `text`, after them is its end or the lexical error
 -- `ending`, and `names` are the registered names. A peek at `ts` finds `found`. Whitespace, comments, and groups of
--- unregistered annotations are skipped. A `(` before an annotation without a valid name is an error, and so is one whose
--- annotation is unregistered and whose group has no end. A `(` directly before an `@` is skipped if it is the last raw
--- token. Any other token is visible.
+-- unregistered annotations are skipped. A `(` directly before an annotation is an error if the name of the annotation is
+-- invalid, or if the name is unregistered and the group has no end. If no raw token follows a `(` directly before an
+-- `@`, because lexing fails at the `@`, the result is that error. Any other token is visible.
 pub data Shown (text : List ℕ) (ending : Option LexFault) (names : Names) : List Token → Finding → Type 0 where
   none_left : Shown text ending names [] (ended ending)
   blank : {t : Token} {r : List Token} {a : Finding} → IsTrue (is_blank t.kind) → Shown text ending names r a → Shown text ending names (t ∷ r) a

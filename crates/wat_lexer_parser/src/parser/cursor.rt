@@ -121,7 +121,8 @@ impl<'p, 'a> Cursor<'p, 'a> {
         }
     }
 
-    /// Returns the next visible token, and the position after it, from the text or its table.
+    /// Returns the next visible token, and the position after it: from the table of raw tokens if
+    /// the source has one, otherwise by lexing the text.
     #[inline(never)]
     #[tactic(auto, unfolding(crate::specs::parser::State::seen))]
     fn look_again(self) -> Result<Option<(Token, usize)>, Error>

@@ -125,7 +125,8 @@ fn code(
     Ok(bytes)
 }
 
-/// Appends the code section: each function that a field defines, after its size.
+/// Appends the code section: for each function that a field defines, its size in bytes and then its
+/// code.
 ///
 /// # Proved
 ///

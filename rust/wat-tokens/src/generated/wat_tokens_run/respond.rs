@@ -410,8 +410,9 @@ fn say<W: Sink>(text: &str, output: &mut W) -> Outcome<'static> {
     }
 }
 
-/// Returns `false` if the first word after the leading options is meaningful only as a file name
-/// (`file_in_question`), and no file of this name exists.
+/// Returns `false` if the first word after the leading options is neither an option nor a command,
+/// has no `.` or `/` that makes it recognizable as a file name (`file_in_question`), and names no
+/// existing file.
 ///
 /// # Proved
 ///

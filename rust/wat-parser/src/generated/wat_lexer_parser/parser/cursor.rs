@@ -93,7 +93,8 @@ impl<'p, 'a> Cursor<'p, 'a> {
         }
     }
 
-    /// Returns the next visible token, and the position after it, from the text or its table.
+    /// Returns the next visible token, and the position after it: from the table of raw tokens if
+    /// the source has one, otherwise by lexing the text.
     ///
     /// # Proved
     ///
