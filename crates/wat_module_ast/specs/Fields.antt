@@ -316,7 +316,8 @@ pub data GlobalTypeIs : List Terminal → GlobalType → List Terminal → Type 
   by_mutable : {ts : List Terminal} {v w : List ℕ} {t : ValueType} → v ≡ codes "mut" → value_type w ≡ Some t → GlobalTypeIs (Open ∷ Word v ∷ Word w ∷ Close ∷ ts) (record { is_mutable = true; value = t }) ts
 
 -- 6.6.3, `typeuse` (`TypeUseIs types ts use r`): `param* result*`, or `(type index) param* result*`. After an index, the
--- lists must be those of the type, or both must be empty; then the parameters are those of the type, without identifiers.
+-- lists must be those of the type, or both empty. If both are empty, the parameters and results are those of the type,
+-- and the parameters have no identifiers.
 -- Lists without an index denote the least index of their type (`ImplicitTypes`). In the context of a module the types
 -- are known. While the parser still collects the types that type uses add, they are not known: no type is looked up, and
 -- any lists are accepted.

@@ -353,8 +353,7 @@ fn say<W: Sink>(text: &str, output: &mut W) -> Outcome<'static>
 }
 
 /// Returns `false` if the first word after the leading options is neither an option nor a command,
-/// has no `.` or `/` that makes it recognizable as a file name (`file_in_question`), and names no
-/// existing file.
+/// is not recognizable as a file name (`file_in_question`), and names no existing file.
 fn file_in_question_exists<I: Inputs>(words: &[String], inputs: &I) -> bool
     ensures meant { IsTrue result → FileInQuestionExists (I.there inputs.now) words.now }
     ensures not_meant { IsTrue result ⊎ FileInQuestionMissing (I.there inputs.now) words.now }
@@ -376,7 +375,8 @@ fn target_file(target: Option<&str>) -> Option<&str>
 }
 
 /// Runs a task on each file, and writes to standard output. With `-o` it runs on the only file, and
-/// writes to the file that `-o` names. Reports each outcome and returns the greatest exit status.
+/// writes to the file that `-o` names, or to standard output if that is `-`. Reports each outcome
+/// and returns the greatest exit status.
 fn run_to<I: Inputs, W: Sink, E: io::Write>(
     alloc: Global,
     settings: Settings,

@@ -1,7 +1,7 @@
 -- WebAssembly 2.0, 6.2.3 (white space) and 6.2.4 (comments); custom annotations proposal (lexical format,
 -- annotations). The tokens visible to a parser: all except whitespace, comments, and groups `(@name ..)` of
--- unregistered names. The proposal does not say which error a text has whose annotation has an invalid name or no end:
--- `misnamed` and `unclosed` define it.
+-- unregistered names. The proposal does not say what the error is if an annotation has an invalid name, or if the group
+-- of an unregistered one has no end: `misnamed` and `unclosed` define it.
 use Rattle.std.specs.Prelude.{◌≡◌, ◌≢◌, ℕ, List, [], ◌∷◌, ◌+◌, Option, Some, None, Result, Ok, Err, IsTrue, IsFalse, IsUtf8}
 use Rattle.wat_lex.specs.values.Names.{Name, NameFault}
 use Rattle.wat_lexer_parser.specs.groups.Sorts.{Group, NoGroup}
@@ -43,8 +43,8 @@ IsMarked text t = (t.kind ≡ LParen) × IsTrue (is_marked text t)
 -- `Shown text ending names ts found`: `ts` are the last raw tokens of `text`, after them is its end or the lexical error
 -- `ending`, and `names` are the registered names. A peek at `ts` finds `found`. Whitespace, comments, and groups of
 -- unregistered annotations are skipped. A `(` directly before an annotation is an error if the name of the annotation is
--- invalid, or if the name is unregistered and the group has no end. If no raw token follows a `(` directly before an
--- `@`, because lexing fails at the `@`, the result is that error. Any other token is visible.
+-- invalid, or if the name is unregistered and the group has no end. If a `(` directly before an `@` is the last raw
+-- token, lexing failed at the `@`, and the result is that lexical error. Any other token is visible.
 pub data Shown (text : List ℕ) (ending : Option LexFault) (names : Names) : List Token → Finding → Type 0 where
   none_left : Shown text ending names [] (ended ending)
   blank : {t : Token} {r : List Token} {a : Finding} → IsTrue (is_blank t.kind) → Shown text ending names r a → Shown text ending names (t ∷ r) a

@@ -411,8 +411,7 @@ fn say<W: Sink>(text: &str, output: &mut W) -> Outcome<'static> {
 }
 
 /// Returns `false` if the first word after the leading options is neither an option nor a command,
-/// has no `.` or `/` that makes it recognizable as a file name (`file_in_question`), and names no
-/// existing file.
+/// is not recognizable as a file name (`file_in_question`), and names no existing file.
 ///
 /// # Proved
 ///
@@ -442,7 +441,8 @@ fn target_file(target: Option<&str>) -> Option<&str> {
 }
 
 /// Runs a task on each file, and writes to standard output. With `-o` it runs on the only file, and
-/// writes to the file that `-o` names. Reports each outcome and returns the greatest exit status.
+/// writes to the file that `-o` names, or to standard output if that is `-`. Reports each outcome
+/// and returns the greatest exit status.
 ///
 /// # Proved
 ///
