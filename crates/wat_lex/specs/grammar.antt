@@ -2,6 +2,7 @@
 -- language of each kind of token.
 pub mod Classes
 pub mod Comments
+pub mod SpacedWords
 pub mod Strings
 pub mod Numbers
 pub mod Runs
