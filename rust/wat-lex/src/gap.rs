@@ -57,10 +57,7 @@ impl<T: Placed> Gap<T> {
     pub(crate) fn get(&self, index: usize, text_len: usize) -> Option<T> {
         match index.checked_sub(self.before.len()) {
             None => Some(self.before[index]),
-            Some(i) => {
-                let last = self.after.len().checked_sub(i + 1)?;
-                Some(mirrored(self.after[last], text_len))
-            }
+            Some(i) => Some(mirrored(*self.after.iter().nth_back(i)?, text_len)),
         }
     }
 

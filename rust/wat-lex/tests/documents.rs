@@ -231,6 +231,13 @@ fn pieces_are_found_by_number_and_by_byte() {
             .eq(ranges.into_iter().rev())
     );
     assert_eq!(document.clone().into_text(), "(bc é)");
+    // No piece is before the edit.
+    document.replace(0..0, "").unwrap();
+    for document in [document, Document::default()] {
+        let count = document.piece_count();
+        let pieces = [count, usize::MAX - count, usize::MAX].map(|i| document.piece(i));
+        assert_eq!(pieces, [None; 3]);
+    }
 }
 
 #[test]
