@@ -1,7 +1,7 @@
 use crate::error::Error;
 use crate::gap::Gap;
 use crate::lexer::{is_too_long, too_long};
-use crate::lines::chars_before;
+use crate::marks::{Mark, Marks, boundary};
 use crate::proved::lexer::{Lexer as ProvedLexer, Settings};
 use crate::recover::{Pieces, unclosed_comments};
 use crate::{Fault, Lexer, Piece, Span, Token};
@@ -45,6 +45,7 @@ pub struct Document {
     reading: Reading,
     /// Byte offsets of the line feeds.
     feeds: Gap<usize>,
+    marks: Marks,
 }
 
 /// The range of pieces that an edit replaced. All other pieces are unchanged, except that those after the edit have shifted offsets.
@@ -129,6 +130,7 @@ impl Document {
         self.text.replace_range(range.clone(), with);
         let feeds = memchr_iter(b'\n', with.as_bytes());
         feeds.for_each(|feed| self.feeds.push(range.start + feed));
+        self.marks.insert(&self.text, with);
         let first = self.read_on();
         let (after, now) = (self.reading.kept, self.reading.pieces.len());
         Ok(Change {
@@ -138,7 +140,7 @@ impl Document {
         })
     }
 
-    /// Moves the gaps to the edit, and removes the pieces that a change of these bytes may affect and the line feeds among the bytes.
+    /// Moves the gaps to the edit, and removes the pieces that a change of these bytes may affect and the line feeds and marks among the bytes.
     fn open(&mut self, range: &Range<usize>) {
         let len = self.text.len();
         let is_before = |piece: Piece| piece.end() < range.start;
@@ -149,6 +151,7 @@ impl Document {
         while self.feeds.first_after(len).is_some_and(is_inside) {
             self.feeds.drop_after();
         }
+        self.marks.remove(&self.text, range);
     }
 
     /// Lexes from the gap up to the start of a kept piece, and returns the number of pieces before the gap that were kept.
@@ -223,7 +226,8 @@ impl Document {
     pub fn linecol(&self, span: Span) -> (usize, usize) {
         let (offset, len) = (span.offset(), self.text.len());
         if offset > len {
-            return (self.text.lines().count(), 0);
+            let is_ended = self.text.is_empty() || self.text.ends_with('\n');
+            return (self.feeds.len() + usize::from(!is_ended), 0);
         }
         let line = self.feeds.count_first(len, |feed| feed < offset);
         let start = self.line(line).map_or(0, |line| line.start);
@@ -231,24 +235,27 @@ impl Document {
     }
 
     /// Returns the line and the column of an offset, both from 0, the column in UTF-16 code units. The result equals that of
-    /// [`LineIndex::utf16_linecol`](crate::LineIndex::utf16_linecol). Reads the line up to the offset.
+    /// [`LineIndex::utf16_linecol`](crate::LineIndex::utf16_linecol). Reads at most 4 KiB of the text.
     #[must_use]
     pub fn utf16_linecol(&self, span: Span) -> (usize, usize) {
-        let (line, column) = self.linecol(span);
-        let Some(Range { start, .. }) = self.line(line) else {
-            return (line, column);
-        };
-        let before = self.text[start..].char_indices();
-        let before = before.take_while(|(at, _)| *at < column);
-        (line, before.map(|(_, c)| c.len_utf16()).sum())
+        self.linecol_in(span, |mark| mark.units)
     }
 
     /// Returns the line and the column of an offset, both from 0, the column in characters. The result equals that of
-    /// [`LineIndex::char_linecol`](crate::LineIndex::char_linecol). Reads the line up to the offset.
+    /// [`LineIndex::char_linecol`](crate::LineIndex::char_linecol). Reads at most 4 KiB of the text.
     #[must_use]
     pub fn char_linecol(&self, span: Span) -> (usize, usize) {
+        self.linecol_in(span, |mark| mark.chars)
+    }
+
+    fn linecol_in(&self, span: Span, count: impl Fn(Mark) -> usize) -> (usize, usize) {
         let (line, column) = self.linecol(span);
-        (line, chars_before(&self.text, span.offset(), column))
+        if column == 0 {
+            return (line, 0);
+        }
+        let before = |offset| count(self.marks.at(&self.text, offset));
+        let offset = span.offset();
+        (line, before(offset) - before(offset - column))
     }
 
     /// Returns the offset of a line and a column in bytes, both from 0. A column inside a character is rounded down to its start; a column or line
@@ -258,22 +265,24 @@ impl Document {
         let Some(Range { start, end }) = self.line(line) else {
             return Span::from_offset(self.text.len());
         };
-        let mut at = end.min(start.saturating_add(column));
-        while !self.text.is_char_boundary(at) {
-            at -= 1;
-        }
-        Span::from_offset(at)
+        let at = end.min(start.saturating_add(column));
+        Span::from_offset(boundary(&self.text, at))
     }
 
     /// Returns the offset of a line and a column in UTF-16 code units, both from 0, as the language server protocol has them. A column inside a
-    /// character is rounded down to its start; a column or line past the end becomes the end of the line or of the text.
+    /// character is rounded down to its start; a column or line past the end becomes the end of the line or of the text. Reads at most 4 KiB of the
+    /// text.
     #[must_use]
     pub fn utf16_place(&self, line: usize, column: usize) -> Span {
-        let Some(range) = self.line(line) else {
+        let Some(Range { start, end }) = self.line(line) else {
             return Span::from_offset(self.text.len());
         };
-        let (mut at, mut left) = (range.start, column);
-        for c in self.text[range].chars() {
+        let first = self.marks.at(&self.text, start);
+        let wanted = first.units.saturating_add(column);
+        let near = self.marks.last(|mark| mark.units <= wanted);
+        let Mark { offset, units, .. } = if near.offset < start { first } else { near };
+        let (mut at, mut left) = (offset.min(end), wanted - units);
+        for c in self.text[at..end].chars() {
             let Some(rest) = left.checked_sub(c.len_utf16()) else {
                 break;
             };

@@ -1,21 +1,19 @@
 use alloc::vec::Vec;
 
-/// An item with an offset in a text.
+/// An item of a text, with a distance from the start or the end of the text.
 pub(crate) trait Placed: Copy {
-    /// Returns the byte offset of the item.
-    fn place(self) -> usize;
+    /// The distance from the start to the end of the text.
+    type Length: Copy;
 
-    /// Returns a copy of the item at another offset.
-    fn placed(self, place: usize) -> Self;
+    /// Converts an item between counting from the start and counting back from the end of a text of this length.
+    fn mirrored(self, length: Self::Length) -> Self;
 }
 
 impl Placed for usize {
-    fn place(self) -> usize {
-        self
-    }
+    type Length = usize;
 
-    fn placed(self, place: usize) -> usize {
-        place
+    fn mirrored(self, length: usize) -> usize {
+        length - self
     }
 }
 
@@ -37,6 +35,7 @@ impl<T> Default for Gap<T> {
     }
 }
 
+// The parameter `length` of the methods is the length of the text.
 impl<T: Placed> Gap<T> {
     /// Returns the number of items.
     pub(crate) fn len(&self) -> usize {
@@ -53,31 +52,34 @@ impl<T: Placed> Gap<T> {
         self.after.len()
     }
 
-    /// Returns the item at an index. `text_len` is the length of the text in bytes.
-    pub(crate) fn get(&self, index: usize, text_len: usize) -> Option<T> {
+    /// Returns the item at an index.
+    pub(crate) fn get(&self, index: usize, length: T::Length) -> Option<T> {
         match index.checked_sub(self.before.len()) {
             None => Some(self.before[index]),
-            Some(i) => Some(mirrored(*self.after.iter().nth_back(i)?, text_len)),
+            Some(i) => Some(self.after.iter().nth_back(i)?.mirrored(length)),
         }
     }
 
-    /// Returns all items in order. `text_len` is the length of the text in bytes.
-    pub(crate) fn iter(&self, text_len: usize) -> impl DoubleEndedIterator<Item = T> + Clone + '_ {
+    /// Returns all items in order.
+    pub(crate) fn iter(
+        &self,
+        length: T::Length,
+    ) -> impl DoubleEndedIterator<Item = T> + Clone + '_ {
         let after = self.after.iter().rev();
-        let after = after.map(move |item| mirrored(*item, text_len));
+        let after = after.map(move |item| item.mirrored(length));
         self.before.iter().copied().chain(after)
     }
 
     /// Returns the number of items that satisfy the predicate. They must precede all others.
-    pub(crate) fn count_first(&self, text_len: usize, passes: impl Fn(T) -> bool) -> usize {
-        let others = |item: &T| !passes(mirrored(*item, text_len));
+    pub(crate) fn count_first(&self, length: T::Length, passes: impl Fn(T) -> bool) -> usize {
+        let others = |item: &T| !passes(item.mirrored(length));
         let after = self.after.len() - self.after.partition_point(others);
         self.before.partition_point(|item| passes(*item)) + after
     }
 
     /// Returns the item directly after the gap.
-    pub(crate) fn first_after(&self, text_len: usize) -> Option<T> {
-        Some(mirrored(*self.after.last()?, text_len))
+    pub(crate) fn first_after(&self, length: T::Length) -> Option<T> {
+        Some(self.after.last()?.mirrored(length))
     }
 
     /// Appends an item directly before the gap.
@@ -96,27 +98,14 @@ impl<T: Placed> Gap<T> {
     }
 
     /// Moves the gap after the last item that satisfies the predicate. Those items must precede all others.
-    pub(crate) fn move_to(&mut self, text_len: usize, passes: impl Fn(T) -> bool) {
-        self.move_back(text_len, &passes);
-        self.move_on(text_len, &passes);
-    }
-
-    fn move_back(&mut self, text_len: usize, passes: &impl Fn(T) -> bool) {
+    pub(crate) fn move_to(&mut self, length: T::Length, passes: impl Fn(T) -> bool) {
         while let Some(item) = self.before.last().filter(|item| !passes(**item)) {
-            self.after.push(mirrored(*item, text_len));
+            self.after.push(item.mirrored(length));
             self.before.pop();
         }
-    }
-
-    fn move_on(&mut self, text_len: usize, passes: &impl Fn(T) -> bool) {
-        while let Some(item) = self.first_after(text_len).filter(|item| passes(*item)) {
+        while let Some(item) = self.first_after(length).filter(|item| passes(*item)) {
             self.before.push(item);
             self.after.pop();
         }
     }
-}
-
-/// Converts an item's offset between counting from the start and counting back from the end of the text.
-fn mirrored<T: Placed>(item: T, text_len: usize) -> T {
-    item.placed(text_len - item.place())
 }

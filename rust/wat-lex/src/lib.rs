@@ -62,6 +62,7 @@ mod generated {
 }
 mod lexer;
 mod lines;
+mod marks;
 mod number;
 mod recover;
 // Names and signatures are those of Rattle's library, which documents their errors. The code for blocks of bytes truncates integers.

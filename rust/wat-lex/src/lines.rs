@@ -51,15 +51,15 @@ impl<'a> LineIndex<'a> {
     #[must_use]
     pub fn char_linecol(&self, span: Span) -> (usize, usize) {
         let (line, column) = self.linecol(span);
-        (line, chars_before(self.text, span.offset(), column))
+        let before = span.offset() - column..span.offset();
+        (line, self.text.as_bytes().get(before).map_or(0, chars))
     }
 }
 
-/// Returns the number of characters that begin in the `bytes` bytes before an offset, or 0 if the offset is past the end of the text.
-pub(crate) fn chars_before(text: &str, offset: usize, bytes: usize) -> usize {
-    let before = text.as_bytes().get(offset - bytes..offset);
+/// Returns the number of characters that begin in a part of a text.
+pub(crate) fn chars(bytes: &[u8]) -> usize {
     let begins = |byte: &&u8| **byte & 0b1100_0000 != 0b1000_0000;
-    before.map_or(0, |before| before.iter().filter(begins).count())
+    bytes.iter().filter(begins).count()
 }
 
 impl fmt::Debug for LineIndex<'_> {

@@ -153,11 +153,10 @@ impl Piece {
 }
 
 impl Placed for Piece {
-    fn place(self) -> usize {
-        self.offset()
-    }
+    type Length = usize;
 
-    fn placed(self, offset: usize) -> Piece {
+    fn mirrored(self, length: usize) -> Piece {
+        let offset = length - self.offset();
         match self {
             Piece::Token(token) => Piece::Token(Token { offset, ..token }),
             Piece::Fault(fault) => Piece::Fault(Fault { offset, ..fault }),

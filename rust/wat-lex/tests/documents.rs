@@ -4,6 +4,7 @@ mod texts;
 
 use std::iter;
 use std::ops::Range;
+use std::time::{Duration, Instant};
 use texts::Random;
 use wat_lex::{Change, Document, LexError, Lexer, LineIndex, Piece, Span, TokenKind};
 
@@ -255,6 +256,58 @@ fn columns_are_those_of_the_line() {
         [0, 1, 1, 5, 5, 7]
     );
     assert_eq!(at(7, 1), 8);
+}
+
+/// Compares the columns at every `step`th offset with those of a line index, and converts them back.
+fn compare_columns(document: &Document, step: usize) {
+    let text = document.text();
+    let index = LineIndex::new(text);
+    for offset in (0..text.len() + 2).step_by(step) {
+        let span = Span::from_offset(offset);
+        let (line, units) = index.utf16_linecol(span);
+        assert_eq!(document.utf16_linecol(span), (line, units), "{offset}");
+        assert_eq!(document.char_linecol(span), index.char_linecol(span));
+        assert_eq!(document.linecol(span), index.linecol(span));
+        if text.is_char_boundary(offset) {
+            assert_eq!(document.utf16_place(line, units), span, "{offset}");
+        }
+    }
+}
+
+#[test]
+fn columns_of_long_lines_are_those_of_a_line_index() {
+    let (mut random, mut document) = (Random(5), Document::default());
+    for done in 0..60 {
+        let text = document.text();
+        let mut range = range_of(text, &mut random);
+        if text.len() > 8_000 {
+            range = place(text, range.start / 4)..range.end;
+        }
+        let with = match random.below(3) {
+            0 => "a\u{e9}\u{6f22}\u{1f600}".repeat(random.below(500)),
+            1 => "0123456789".repeat(random.below(300)),
+            _ => random.text(4),
+        };
+        document.replace(range, &with).unwrap();
+        compare_columns(&document, if done % 15 == 0 { 1 } else { 19 });
+    }
+}
+
+/// Checks that the columns of the errors in a long line do not each read the line.
+#[test]
+fn columns_of_many_faults_take_little_time() {
+    let document = Document::new(&"\u{1f600}\u{e9}".repeat(100_000)).unwrap();
+    let start = Instant::now();
+    for (count, fault) in document.faults().enumerate().step_by(40) {
+        let (range, units) = (fault.range(), count / 2 * 3);
+        let place = |at| document.utf16_linecol(Span::from_offset(at));
+        assert_eq!(
+            (place(range.start), place(range.end)),
+            ((0, units), (0, units + 2))
+        );
+        assert_eq!(document.utf16_place(0, units).offset(), range.start);
+    }
+    assert!(start.elapsed() < Duration::from_secs(20));
 }
 
 #[test]
