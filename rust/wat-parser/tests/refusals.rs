@@ -153,3 +153,45 @@ fn what_is_plain_takes_no_memory() {
     let buffer = ParseBuffer::new("1").unwrap();
     assert_eq!(without_memory(|| parser::parse::<u32>(&buffer).unwrap()), 1);
 }
+
+fn peeks<const N: usize>(parser: Parser<'_>) -> Result<()> {
+    let _registered = parser.register_annotation("note");
+    for _ in 0..N {
+        assert!(parser.peek2::<LParen>()? && parser.peek3::<note>()?);
+    }
+    Ok(())
+}
+
+/// Consumes all keywords with a cursor and leaves the parser's position.
+fn walks<const N: usize>(parser: Parser<'_>) -> Result<()> {
+    for _ in 0..N {
+        parser.step(|cursor| {
+            let mut end = cursor;
+            while let Some((_, next)) = end.keyword()? {
+                end = next;
+            }
+            Ok(((), cursor))
+        })?;
+    }
+    Ok(())
+}
+
+/// Checks that tokens that stay visible are stored once, however often a cursor reaches them.
+#[test]
+fn kept_tokens_are_stored_once() {
+    let cases: [(&str, [Call; 2]); 2] = [
+        ("x (@note b) c", [peeks::<1>, peeks::<10_000>]),
+        ("a (@b) c (@b) d", [walks::<1>, walks::<10_000>]),
+    ];
+    for (text, calls) in cases {
+        let [once, often] = calls.map(|call| {
+            let mut buffer = ParseBuffer::new(text).unwrap();
+            buffer.keep_shown(true);
+            ASKED.set(Some((call, usize::MAX)));
+            // The calls do not consume all tokens.
+            let _left = parser::parse::<Asking>(&buffer);
+            ANSWERED.take().expect("an answer").1
+        });
+        assert_eq!(often, once, "{text}");
+    }
+}

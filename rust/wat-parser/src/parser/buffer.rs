@@ -8,11 +8,12 @@ use crate::proved::parser::fault::Fault;
 use crate::proved::parser::names::Names;
 use crate::proved::parser::source_ref::SourceRef;
 use crate::proved::parser::text_ref::{Row, TextRef};
+use alloc::collections::BTreeMap;
+use alloc::vec::Vec;
 use core::cell::{Cell, RefCell};
 use core::fmt;
 use wat_lex::TokenKind;
-use wat_lex::shim::alloc::{AllocError, Global, granted};
-use wat_lex::shim::vec::Vec;
+use wat_lex::shim::alloc::Global;
 
 /// A source text for one parser, which lexes it on demand, some tokens at a time. Creating it does not allocate.
 pub struct ParseBuffer<'a> {
@@ -23,8 +24,7 @@ pub struct ParseBuffer<'a> {
     pub(super) depth: Cell<usize>,
     pub(super) names: RefCell<Names>,
     rows: [Cell<Row>; ROWS],
-    /// Kept tokens, which stay visible regardless of the registered names.
-    pub(super) kept: RefCell<Vec<Token>>,
+    kept: RefCell<Kept>,
     keep_shown: bool,
     pub(super) strings: Strings,
 }
@@ -82,7 +82,7 @@ impl Position {
     }
 
     /// Returns the index of the kept token, if the position has one.
-    pub(super) fn kept(self) -> Option<usize> {
+    fn kept(self) -> Option<usize> {
         ((self.0 >> 32) as usize).checked_sub(KEPT)
     }
 
@@ -115,7 +115,7 @@ impl<'a> ParseBuffer<'a> {
             lexer,
             position: Cell::new(Position::new(0, 0)),
             rows: NO_ROWS,
-            kept: RefCell::new(Vec::new(Global)),
+            kept: RefCell::default(),
             depth: Cell::new(0),
             names: RefCell::new(Names::new(Global)),
             keep_shown: false,
@@ -204,9 +204,13 @@ impl<'a> ParseBuffer<'a> {
         let Ok(Some(shown)) = self.shown_at(byte) else {
             return position;
         };
-        let mut kept = self.kept.borrow_mut();
-        granted(kept.push(shown).map_err(AllocError::from));
-        Position::new(byte, KEPT + kept.len() - 1)
+        Position::new(byte, KEPT + self.kept.borrow_mut().index(shown))
+    }
+
+    /// Returns the kept token of a position, if it has one.
+    pub(super) fn kept_at(&self, position: Position) -> Option<Token> {
+        let index = position.kept()?;
+        Some(self.kept.borrow().tokens[index])
     }
 
     fn text_ref(&self, track: bool) -> TextRef<'a> {
@@ -230,6 +234,25 @@ impl<'a> ParseBuffer<'a> {
     #[cold]
     pub(super) fn error_of(&self, fault: Fault) -> Error {
         self.source().error_of(fault).into()
+    }
+}
+
+/// Kept tokens, which stay visible regardless of the registered names. Each is stored once, however often a cursor reaches it.
+#[derive(Default)]
+struct Kept {
+    tokens: Vec<Token>,
+    /// Index of each token, by its offset.
+    indices: BTreeMap<usize, usize>,
+}
+
+impl Kept {
+    /// Returns the index of a token, which is stored if it is not yet.
+    fn index(&mut self, token: Token) -> usize {
+        let Kept { tokens, indices } = self;
+        *indices.entry(token.offset).or_insert_with(|| {
+            tokens.push(token);
+            tokens.len() - 1
+        })
     }
 }
 

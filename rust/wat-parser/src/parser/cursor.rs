@@ -55,8 +55,8 @@ impl<'a> Cursor<'a> {
     #[inline(never)]
     pub(super) fn look(&self) -> Result<Option<Token>> {
         let (buffer, position) = (self.parser.buffer, self.position);
-        if let Some(kept) = position.kept() {
-            return Ok(Some(buffer.kept.borrow()[kept]));
+        if let Some(kept) = buffer.kept_at(position) {
+            return Ok(Some(kept));
         }
         let (row, known) = self.row();
         if known {
