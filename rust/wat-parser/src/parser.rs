@@ -141,7 +141,7 @@ impl<'a> Parser<'a> {
     /// ```
     #[must_use]
     pub fn has_meaningful_tokens(self) -> bool {
-        self.buffer.text.is_meaningful()
+        self.buffer.text_from(0).is_meaningful()
     }
 
     /// Parses a value with its [`Parse`] implementation.
@@ -378,15 +378,14 @@ impl<'a> Parser<'a> {
 
     #[inline(always)]
     fn group<T>(self, inside: impl FnOnce(Parser<'a>) -> Result<T>) -> Result<T> {
-        self.step(|cursor| match cursor.lparen()? {
-            Some(rest) => Ok(((), rest)),
-            None => Err(cursor.error("expected `(`")),
+        self.take("expected `(`", |cursor| {
+            Ok(cursor.lparen()?.map(|rest| ((), rest)))
         })?;
         let value = inside(self)?;
-        self.step(|cursor| match cursor.rparen()? {
-            Some(rest) => Ok((value, rest)),
-            None => Err(cursor.error("expected `)`")),
-        })
+        self.take("expected `)`", |cursor| {
+            Ok(cursor.rparen()?.map(|rest| ((), rest)))
+        })?;
+        Ok(value)
     }
 
     /// Returns the number of groups that [`parens`](Parser::parens) has open.
@@ -519,31 +518,42 @@ impl<'a> Parser<'a> {
         }
     }
 
-    /// Consumes this keyword and returns its offset.
-    #[doc(hidden)]
-    #[inline]
-    pub fn this_keyword(self, word: &str, expected: &'static str) -> Result<Span> {
-        self.step(|cursor| match cursor.this_keyword(word)? {
+    /// Advances past what a function of a cursor consumes, and returns its value. Returns an error with the message `expected` at the next token if
+    /// the function returns `None`.
+    #[inline(always)]
+    pub(crate) fn take<T>(
+        self,
+        expected: &'static str,
+        take: impl FnOnce(Cursor<'a>) -> Result<Option<(T, Cursor<'a>)>>,
+    ) -> Result<T> {
+        self.step(|cursor| match take(cursor)? {
             Some(taken) => Ok(taken),
             None => Err(cursor.error(expected)),
         })
     }
 
+    /// Consumes this keyword and returns its offset.
+    #[doc(hidden)]
+    #[inline]
+    pub fn this_keyword(self, word: &str, expected: &'static str) -> Result<Span> {
+        self.take(expected, |cursor| cursor.this_keyword(word))
+    }
+
     /// Consumes this reserved token and returns its offset.
     #[doc(hidden)]
     pub fn this_reserved(self, word: &str, expected: &'static str) -> Result<Span> {
-        self.step(|cursor| match cursor.reserved()? {
-            Some((shown, rest)) if shown == word => Ok((cursor.cur_span(), rest)),
-            _ => Err(cursor.error(expected)),
+        self.take(expected, |cursor| {
+            let taken = cursor.reserved()?.filter(|(shown, _)| *shown == word);
+            Ok(taken.map(|(_, rest)| (cursor.cur_span(), rest)))
         })
     }
 
     /// Consumes the annotation of this name and returns its offset.
     #[doc(hidden)]
     pub fn this_annotation(self, name: &str, expected: &'static str) -> Result<Span> {
-        self.step(|cursor| match cursor.annotation()? {
-            Some((shown, rest)) if shown == name => Ok((cursor.cur_span(), rest)),
-            _ => Err(cursor.error(expected)),
+        self.take(expected, |cursor| {
+            let taken = cursor.annotation()?.filter(|(shown, _)| *shown == name);
+            Ok(taken.map(|(_, rest)| (cursor.cur_span(), rest)))
         })
     }
 
@@ -593,7 +603,7 @@ impl<'a> Parser<'a> {
     #[cold]
     pub fn error_at(self, span: Span, message: impl fmt::Display) -> Error {
         match message.to_string_in(Global) {
-            Ok(message) => self.buffer.source().error_at(span, &message).into(),
+            Ok(message) => proved::Error::parse(Global, span, self.cursor().text(), message).into(),
             Err(refused) => proved::Error::from(refused).into(),
         }
     }
@@ -665,7 +675,7 @@ impl<'a> Parser<'a> {
     /// ```
     #[must_use]
     pub fn track_instr_spans(&self) -> bool {
-        self.buffer.text.tracks()
+        self.buffer.track
     }
 }
 

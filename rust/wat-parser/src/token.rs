@@ -83,9 +83,9 @@ impl fmt::Debug for Id<'_> {
 
 impl<'a> Parse<'a> for Id<'a> {
     fn parse(parser: Parser<'a>) -> Result<Self> {
-        parser.step(|cursor| match cursor.id()? {
-            Some((name, rest)) => Ok((Id::new(name, cursor.cur_span()), rest)),
-            None => Err(cursor.error("expected an identifier")),
+        parser.take("expected an identifier", |cursor| {
+            let taken = cursor.id()?;
+            Ok(taken.map(|(name, rest)| (Id::new(name, cursor.cur_span()), rest)))
         })
     }
 }
@@ -242,7 +242,7 @@ impl<'a> Parse<'a> for Option<NameAnnotation<'a>> {
 }
 
 macro_rules! integers {
-    ($($value:ident: $($integer:ident $bound:expr),*;)*) => {
+    ($($value:ident $more:literal: $($integer:ident)*;)*) => {
         $($(
             impl<'a> Parse<'a> for ($integer, Span) {
                 fn parse(parser: Parser<'a>) -> Result<Self> {
@@ -250,7 +250,7 @@ macro_rules! integers {
                         let Some(((token, kind), rest)) = cursor.integer_token()? else {
                             return Err(cursor.error(concat!("expected a ", stringify!($integer))));
                         };
-                        match $value(cursor.text(), &token, kind, $bound) {
+                        match $value(cursor.text(), &token, kind, $integer::MAX as u64 + $more) {
                             Some(value) => {
                                 let span = Span::from_offset(token.offset);
                                 Ok(((value as $integer, span), rest))
@@ -287,20 +287,16 @@ macro_rules! integers {
     };
 }
 
-// The bound of an unsigned type is its greatest value. That of a signed type is the number of its negative values, which is also the number of its
-// other values.
+// The bound of an unsigned type is its greatest value. That of a signed type is the number of its negative values, which is 1 more.
 integers! {
-    unsigned_value: u8 u8::MAX.into(), u16 u16::MAX.into(), u32 u32::MAX.into(), u64 u64::MAX;
-    signed_value: i8 1 << 7, i16 1 << 15, i32 1 << 31, i64 1 << 63;
+    unsigned_value 0: u8 u16 u32 u64;
+    signed_value 1: i8 i16 i32 i64;
 }
 
 /// Parses a string of arbitrary bytes.
 impl<'a> Parse<'a> for &'a [u8] {
     fn parse(parser: Parser<'a>) -> Result<Self> {
-        parser.step(|cursor| match cursor.string()? {
-            Some(taken) => Ok(taken),
-            None => Err(cursor.error("expected a string")),
-        })
+        parser.take("expected a string", Cursor::string)
     }
 }
 

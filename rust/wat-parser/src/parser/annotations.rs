@@ -1,5 +1,6 @@
 use super::{ParseBuffer, Parser, Result};
 use crate::proved::parser::names::{Names, RegisterError};
+use crate::words::{StdAnnotation, Word};
 use core::cell::RefCell;
 use wat_lex::shim::alloc::{Global, granted};
 
@@ -103,11 +104,11 @@ impl<'a> Parser<'a> {
         inside: impl FnOnce(Self) -> Result<R>,
     ) -> Result<R> {
         let _registered = [
-            "custom",
-            "producers",
-            "name",
-            "dylink.0",
-            "metadata.code.branch_hint",
+            StdAnnotation::<0>::word(),
+            StdAnnotation::<1>::word(),
+            StdAnnotation::<2>::word(),
+            StdAnnotation::<3>::word(),
+            StdAnnotation::<4>::word(),
         ]
         .map(|name| self.register_annotation(name));
         inside(self)

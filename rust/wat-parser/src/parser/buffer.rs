@@ -17,8 +17,8 @@ use wat_lex::shim::alloc::Global;
 
 /// A source text for one parser, which lexes it on demand, some tokens at a time. Creating it does not allocate.
 pub struct ParseBuffer<'a> {
-    lexer: proved::lexer::Lexer<'a>,
-    pub(super) text: TextRef<'a>,
+    pub(super) lexer: proved::lexer::Lexer<'a>,
+    pub(super) track: bool,
     // The rest of the verified parser's state is in cells, so that all copies of a `Parser` share it.
     pub(super) position: Cell<Position>,
     pub(super) depth: Cell<usize>,
@@ -109,10 +109,9 @@ impl<'a> ParseBuffer<'a> {
     ///
     /// Returns an error if the text has more than `u32::MAX` bytes.
     pub fn new_with_lexer(lexer: Lexer<'a>) -> Result<ParseBuffer<'a>> {
-        let lexer = lexer.proved()?.clone();
         Ok(ParseBuffer {
-            text: TextRef::new(lexer.input(), lexer.settings(), false, Global),
-            lexer,
+            lexer: lexer.proved()?.clone(),
+            track: false,
             position: Cell::new(Position::new(0, 0)),
             rows: NO_ROWS,
             kept: RefCell::default(),
@@ -126,7 +125,7 @@ impl<'a> ParseBuffer<'a> {
     /// Sets the value that [`Parser::track_instr_spans`](super::Parser::track_instr_spans) returns. Types that record offsets of instructions only on
     /// request check it.
     pub fn track_instr_spans(&mut self, track: bool) -> &mut Self {
-        self.text = self.text_ref(track);
+        self.track = track;
         self
     }
 
@@ -169,18 +168,13 @@ impl<'a> ParseBuffer<'a> {
 
     /// Returns the token that is visible at a byte offset under the registered names.
     pub(super) fn shown_at(&self, byte: usize) -> Result<Option<Token>, Fault> {
-        match self.text_from(byte).look(0, 0, &self.names.borrow()) {
-            Ok(found) => Ok(found.map(|(token, _)| moved(token, byte))),
-            Err(fault) => Err(moved_fault(fault, byte)),
-        }
+        let names = self.names.borrow();
+        moved(byte, self.text_from(byte).look(0, 0, &names))
     }
 
     /// Returns the comment at a byte offset, or after whitespace there.
     pub(super) fn comment_at(&self, byte: usize) -> Result<Option<Token>, Fault> {
-        match self.text_from(byte).comment_at(0, 0) {
-            Ok(found) => Ok(found.map(|(token, _)| moved(token, byte))),
-            Err(fault) => Err(moved_fault(fault, byte)),
-        }
+        moved(byte, self.text_from(byte).comment_at(0, 0))
     }
 
     /// Returns the position after a move that ends at offset `byte`, and keeps the token that is visible there if `keep_shown` is on.
@@ -213,27 +207,18 @@ impl<'a> ParseBuffer<'a> {
         Some(self.kept.borrow().tokens[index])
     }
 
-    fn text_ref(&self, track: bool) -> TextRef<'a> {
-        TextRef::new(self.lexer.input(), self.lexer.settings(), track, Global)
-    }
-
     /// Returns the text from the end of a token, or from the start. A theorem (`Cuts`) states that this suffix has the same tokens as the whole text,
     /// so a parser need not count tokens.
     #[inline(always)]
-    fn text_from(&self, byte: usize) -> TextRef<'a> {
+    pub(super) fn text_from(&self, byte: usize) -> TextRef<'a> {
         let text = &self.lexer.input()[byte..];
         TextRef::new(text, self.lexer.settings(), false, Global)
-    }
-
-    /// Returns the whole text, for creating errors.
-    pub(super) fn source(&self) -> SourceRef<'a> {
-        SourceRef::of_text(self.text_ref(self.text.tracks()))
     }
 
     /// Converts a lexical error to an [`Error`].
     #[cold]
     pub(super) fn error_of(&self, fault: Fault) -> Error {
-        self.source().error_of(fault).into()
+        SourceRef::of_text(self.text_from(0)).error_of(fault).into()
     }
 }
 
@@ -266,16 +251,21 @@ pub(super) fn token_of(row: Row) -> Token {
     }
 }
 
-/// Adds `bytes` to the offset of a token.
-fn moved(token: Token, bytes: usize) -> Token {
-    let offset = token.offset + bytes;
-    Token { offset, ..token }
-}
-
-/// Adds `bytes` to the offset of a lexical error.
-fn moved_fault(fault: Fault, bytes: usize) -> Fault {
-    let offset = fault.offset + bytes;
-    Fault { offset, ..fault }
+/// Converts the result of a peek in the text from offset `byte` on to offsets in the whole text.
+fn moved(
+    byte: usize,
+    found: Result<Option<(Token, usize)>, Fault>,
+) -> Result<Option<Token>, Fault> {
+    match found {
+        Ok(found) => Ok(found.map(|(token, _)| Token {
+            offset: token.offset + byte,
+            ..token
+        })),
+        Err(fault) => Err(Fault {
+            offset: fault.offset + byte,
+            ..fault
+        }),
+    }
 }
 
 impl fmt::Debug for ParseBuffer<'_> {

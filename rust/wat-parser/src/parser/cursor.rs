@@ -41,7 +41,7 @@ impl<'a> Cursor<'a> {
 
     #[inline(always)]
     pub(crate) fn text(&self) -> &'a str {
-        self.parser.buffer.text.text()
+        self.parser.buffer.lexer.input()
     }
 
     /// Returns the row in the slot of this position, and `true` if its token is visible here.
@@ -124,13 +124,10 @@ impl<'a> Cursor<'a> {
     // Precondition of the verified accessors: the token is part of the text, and `kind` is its kind.
     #[inline(always)]
     pub(crate) fn integer_token(self) -> Result<Option<((Token, IntegerKind), Self)>> {
-        match self.take(|kind| matches!(kind, TokenKind::Integer(_)))? {
-            Some((token, rest)) => match token.kind {
-                TokenKind::Integer(kind) => Ok(Some(((token, kind), rest))),
-                _ => Ok(None),
-            },
-            None => Ok(None),
-        }
+        self.take_as(|token| match token.kind {
+            TokenKind::Integer(kind) => Some((token, kind)),
+            _ => None,
+        })
     }
 
     /// Consumes a float or an integer and returns its lexeme.
@@ -171,7 +168,10 @@ impl<'a> Cursor<'a> {
     fn is_annotation_by_look(self, name: &str) -> Result<bool> {
         match self.look()? {
             Some(token) if matches!(token.kind, TokenKind::Annotation) => {
-                Ok(self.name(token)? == name)
+                if token.name_fault(self.text()).is_some() {
+                    self.name(token)?;
+                }
+                Ok(token.has_name(self.text(), name))
             }
             _ => Ok(false),
         }
@@ -388,10 +388,11 @@ impl<'a> Cursor<'a> {
     ///
     /// Returns an error if lexing the next token fails, or if an allocation fails.
     pub fn float(self) -> Result<Option<(Float<'a>, Self)>> {
-        let Some((token, rest)) = self.take(|kind| matches!(kind, TokenKind::Float(_)))? else {
-            return Ok(None);
-        };
-        let TokenKind::Float(kind) = token.kind else {
+        let float = self.take_as(|token| match token.kind {
+            TokenKind::Float(kind) => Some((token, kind)),
+            _ => None,
+        });
+        let Some(((token, kind), rest)) = float? else {
             return Ok(None);
         };
         let float = unless_refused(token.float(Global, self.text(), kind))?;

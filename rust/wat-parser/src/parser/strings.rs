@@ -34,27 +34,41 @@ fn known(bytes: &[u8]) -> Option<&'static [u8]> {
     }
 }
 
-/// The cells by their capacity in bytes. Each has 1 more byte that records if the cell is set.
-#[derive(Default)]
-struct Sizes {
-    of_2: Cells<[u8; 2]>,
-    of_3: Cells<[u8; 3]>,
-    of_4: Cells<[u8; 4]>,
-    of_5: Cells<[u8; 5]>,
-    of_6: Cells<[u8; 6]>,
-    of_7: Cells<[u8; 7]>,
-    of_8: Cells<[u8; 8]>,
-    of_9: Cells<[u8; 9]>,
-    of_10: Cells<[u8; 10]>,
-    of_11: Cells<[u8; 11]>,
-    of_15: Cells<[u8; 15]>,
-    of_19: Cells<[u8; 19]>,
-    of_23: Cells<[u8; 23]>,
-    of_31: Cells<[u8; 31]>,
-    of_39: Cells<[u8; 39]>,
-    of_47: Cells<[u8; 47]>,
-    of_63: Cells<[u8; 63]>,
-    longer: Cells<Box<[u8]>>,
+/// Defines the cells by their capacity in bytes. Each cell has 1 more byte that records if it is set.
+macro_rules! sizes {
+    ($($cells:ident $capacity:literal,)*) => {
+        #[derive(Default)]
+        struct Sizes {
+            $($cells: Cells<[u8; $capacity]>,)*
+            longer: Cells<Box<[u8]>>,
+        }
+
+        impl Sizes {
+            /// Stores a copy of the bytes in the smallest cell that has the capacity.
+            fn keep(&self, bytes: &[u8]) -> Result<&[u8], AllocError> {
+                match bytes.len() {
+                    $(..=$capacity => self.$cells.keep_padded(bytes),)*
+                    _ => self.keep_longer(bytes),
+                }
+            }
+        }
+    };
+}
+
+sizes! {
+    of_2 2, of_3 3, of_4 4, of_5 5, of_6 6, of_7 7, of_8 8, of_9 9, of_10 10, of_11 11,
+    of_15 15, of_19 19, of_23 23, of_31 31, of_39 39, of_47 47, of_63 63,
+}
+
+impl Sizes {
+    fn keep_longer(&self, bytes: &[u8]) -> Result<&[u8], AllocError> {
+        let mut exact = Vec::new();
+        exact
+            .try_reserve_exact(bytes.len())
+            .map_err(|_| AllocError)?;
+        exact.extend_from_slice(bytes);
+        Ok(self.longer.keep(exact.into_boxed_slice())?)
+    }
 }
 
 impl Strings {
@@ -63,34 +77,7 @@ impl Strings {
         if let Some(known) = known(bytes) {
             return Ok(known);
         }
-        let sizes = self.sizes()?;
-        match bytes.len() {
-            0..=2 => sizes.of_2.keep_padded(bytes),
-            3 => sizes.of_3.keep_padded(bytes),
-            4 => sizes.of_4.keep_padded(bytes),
-            5 => sizes.of_5.keep_padded(bytes),
-            6 => sizes.of_6.keep_padded(bytes),
-            7 => sizes.of_7.keep_padded(bytes),
-            8 => sizes.of_8.keep_padded(bytes),
-            9 => sizes.of_9.keep_padded(bytes),
-            10 => sizes.of_10.keep_padded(bytes),
-            11 => sizes.of_11.keep_padded(bytes),
-            12..=15 => sizes.of_15.keep_padded(bytes),
-            16..=19 => sizes.of_19.keep_padded(bytes),
-            20..=23 => sizes.of_23.keep_padded(bytes),
-            24..=31 => sizes.of_31.keep_padded(bytes),
-            32..=39 => sizes.of_39.keep_padded(bytes),
-            40..=47 => sizes.of_47.keep_padded(bytes),
-            48..=63 => sizes.of_63.keep_padded(bytes),
-            _ => {
-                let mut exact = Vec::new();
-                exact
-                    .try_reserve_exact(bytes.len())
-                    .map_err(|_| AllocError)?;
-                exact.extend_from_slice(bytes);
-                Ok(sizes.longer.keep(exact.into_boxed_slice())?)
-            }
-        }
+        self.sizes()?.keep(bytes)
     }
 
     /// Stores a copy of a string.
