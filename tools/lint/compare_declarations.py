@@ -15,7 +15,7 @@ RUST = sorted((PROJECT / "rust/wat-c/src").rglob("*.rs"))
 RATTLE = sorted(path for name in ("wat_c", "wat_c_records") for path in (PROJECT / "crates" / name / "src").rglob("*.rt"))
 NUMBERS = {"uint8_t": "u8", "uint32_t": "u32", "uint64_t": "u64", "size_t": "usize", "bool": "bool"}
 # Structs whose name in the library is not the C name without `wat_`.
-STRUCTS = {"wat_token": "TokenRow", "wat_kind": "KindRow"}
+STRUCTS = {"wat_token": "TokenRow", "wat_kind": "KindRow", "wat_range": "Word"}
 # The C name of a slice's length, if it is not the slice's name followed by `_len`.
 LENGTHS = {"text": "len", "out": "room", "rows": "count", "ends": "names_count", "feeds": "feeds_count"}
 

@@ -187,8 +187,8 @@ suite() {
         say "$name: valgrind is left out, as it is not here"
     fi
     if has "$cpp"; then
-        "$cpp" -std=c++11 "${strict[@]}" -o "$room/alone" "$room/alone.cc" "$@"
-        "$room/alone"
+        "$cpp" -std=c++11 "${strict[@]}" -Wshadow -o "$room/names" -x c++ tools/test/c/names.cc -x none "$@"
+        "$room/names" || fail "$name, $cpp: names.cc: status $?"
         say "$name: a program in C++11"
         said_by "$cpp -x c++ -std=c++11 -O2" "$name" tokens "$@"
     fi
@@ -263,7 +263,6 @@ fi
 c=${compilers[0]}
 printf '#include "wat.h"\n' > "$room/alone.c"
 "$c" -std=c99 "${strict[@]}" -c -o "$room/alone.o" "$room/alone.c"
-printf '#include "wat.h"\nint main() { return wat_is_text(reinterpret_cast<const uint8_t *>("("), 1) ? 0 : 1; }\n' > "$room/alone.cc"
 extract_example
 has "$cpp" || say "the header as C++ is left out, as no C++ compiler $cpp is here"
 "$c" -O1 -fPIC -shared -nostdlib -o "$room/refuse.so" tools/lib/fail_allocations.c

@@ -97,7 +97,7 @@ static uint64_t parts(const uint8_t *text, size_t len, const struct wat_row *row
 
 /* Returns the checksum of the value of a row's token: of its length and of its first and last byte. */
 static uint64_t value(const uint8_t *text, size_t len, const struct wat_row *row, uint8_t *out) {
-    struct wat_word word;
+    struct wat_range word;
     switch (row->kind.code) {
     case WAT_STRING:
     case WAT_ID:
@@ -183,7 +183,7 @@ uint64_t library_comments(const uint8_t *text, size_t len) {
     uint64_t sum = 0;
     size_t at = 0;
     while (at < len) {
-        struct wat_word comment = wat_comment(text, len, at, false, false);
+        struct wat_range comment = wat_comment(text, len, at, false, false);
         if (comment.status == WAT_GIVEN) {
             sum += ends(text + comment.start, comment.len);
             at = (size_t)comment.start + comment.len;

@@ -208,10 +208,11 @@ static void shown(void) {
     expect(wat_after(rows, 13, 0) == 0 && wat_after(rows, 13, 2) == 2, "wat_after", text);
 }
 
-static bool is_word(struct wat_word word, uint32_t start, uint32_t len, uint32_t status) {
+static bool is_word(struct wat_range word, uint32_t start, uint32_t len, uint32_t status) {
     return word.start == start && word.len == len && word.status == status;
 }
 
+/* Returns the range of a token's value, by the other name of its type in C. */
 static struct wat_word word_of(const char *text) {
     struct wat_row row = first_row(text);
     return wat_word(bytes_of(text), strlen(text), &row);

@@ -105,7 +105,7 @@ static void compare_readers(unsigned reader, struct setting s, const struct wat_
 /* Checks that the bytes at the offset of a value are those that the readers write, if the value has no escape. */
 static void compare_word(struct setting s, const struct wat_row *row) {
     unsigned reader = row->kind.code == WAT_STRING ? 1 : 2;
-    struct wat_word word = wat_word(s.text, s.len, row);
+    struct wat_range word = wat_word(s.text, s.len, row);
     uint8_t *value = block_of(row->len);
     struct wat_answer given = read_row(reader, s, row, value, row->len);
     switch (word.status) {
@@ -174,7 +174,7 @@ static void look_by_row(struct setting s, struct wat_found found) {
 
 /* Checks that the comment at an offset is the token there, or the one after whitespace. */
 static void look_for_comment(struct setting s, size_t pos, struct wat_found found) {
-    struct wat_word word = wat_comment(s.text, s.len, pos, s.allow, s.strict);
+    struct wat_range word = wat_comment(s.text, s.len, pos, s.allow, s.strict);
     if (found.token.kind.code == WAT_WHITESPACE) {
         found = wat_scan(s.text, s.len, pos + found.token.len, s.allow, s.strict);
     }

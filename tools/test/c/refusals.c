@@ -75,7 +75,7 @@ static struct wat_answer without_buffer(const char *f, const uint8_t *text, size
         answer.needed = number.value;
         answer.status = number.status;
     } else {
-        struct wat_word word = is_call(f, "wat_word") ? wat_word(text, len, rows) : wat_comment(text, len, 0, false, false);
+        struct wat_range word = is_call(f, "wat_word") ? wat_word(text, len, rows) : wat_comment(text, len, 0, false, false);
         answer.needed = word.start;
         answer.status = word.status;
     }
