@@ -1,7 +1,8 @@
 # Functions that find the crates cargo builds with. Sourced by run and .ci/run, from the top of the repository.
 #
-# The packages below `rust` use memchr, smallvec and unicode-width, in the versions of rust/Cargo.lock. The crates come from the folder that
-# CRATES_FOLDER names, from cargo's cache or its registry, or from the folder ../shared/vendor, in this order.
+# The packages below `rust` use memchr, smallvec and unicode-width, and the language server serde_json, with serde, itoa and ryu, in the versions of
+# rust/Cargo.lock. cargo must find all of them. They come from the folder that CRATES_FOLDER names, from cargo's cache or its registry, or from the
+# folder ../shared/vendor, in this order.
 
 # The minor version of the oldest cargo that builds every package: 1.OLDEST.
 OLDEST=87

@@ -3,7 +3,7 @@
 # empty folder, the packages' own tests, C programs, the program with its manual page and completions, a Node project, and the page in a browser. A
 # part that can't be run here is skipped and reported.
 #
-#   CRATES_FOLDER=FOLDER  memchr, smallvec and unicode-width, one folder each: the Rust commands also run with these as the registry
+#   CRATES_FOLDER=FOLDER  the crates of rust/Cargo.lock, one folder each: the Rust commands also run with these as the registry
 #   CHROMIUM=PROGRAM      the browser; default: `chromium`
 #
 # usage: tools/release/clean_install.sh DIST

@@ -281,8 +281,8 @@ third_parties() {
     cp LICENSE "$made/"
     {
         echo 'What the program, the libraries for C and the module for JavaScript contain in addition to the code of this project. The files of `crates`'
-        echo 'contain none of it; rust/vendor has the three crates whole.'
-        for file in "$work"/crates/{memchr,smallvec,unicode-width}-*/{LICENSE*,COPYING,COPYRIGHT,UNLICENSE}; do
+        echo 'contain none of it; rust/vendor has the crates whole. Only the language server contains serde_json, serde, itoa and ryu.'
+        for file in "$work"/crates/{memchr,smallvec,unicode-width,serde_json,serde,itoa,ryu}-*/{LICENSE*,COPYING,COPYRIGHT,UNLICENSE}; do
             [ ! -e "$file" ] || { printf '\n==== %s\n\n' "${file#"$work/crates/"}" && cat "$file"; }
         done
         printf '\n==== The standard library of Rust\n\nMIT or Apache-2.0; COPYRIGHT-library.html of the release, or of Rust, lists its parts.\n'

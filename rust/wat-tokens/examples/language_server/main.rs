@@ -3,7 +3,8 @@
 //!
 //! An editor runs it without arguments as the server of `.wat` and `.wast` files.
 
-mod json;
+mod document;
+mod messages;
 mod server;
 
 use std::io;

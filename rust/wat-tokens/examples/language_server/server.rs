@@ -1,253 +1,192 @@
 //! The server's responses to messages of the Language Server Protocol.
 
-use crate::json::{Json, quoted};
+use crate::document::{OpenDocument, TOKEN_TYPES};
+use crate::messages::{self, Error, Message};
+use serde_json::{Value, json};
 use std::collections::HashMap;
 use std::io::{self, BufRead, Write};
-use wat_lex::{Document, Fault, Span, Token, TokenKind};
 
-/// The result of `initialize`: positions count UTF-16 code units, changes are incremental, and a semantic token's type is an index into `tokenTypes`.
-const CAPABILITIES: &str = r#"{"capabilities":{"positionEncoding":"utf-16","textDocumentSync":2,
-"semanticTokensProvider":{"legend":{"tokenTypes":["comment","string","keyword","number","variable","decorator","operator"],
-"tokenModifiers":[]},"full":true},"foldingRangeProvider":true,"documentFormattingProvider":true}}"#;
-
-/// Responds to messages until `exit` or the end of the input. Returns `true` if the client sent `shutdown` before.
+/// Responds to messages until `exit` or the end of the input. Returns `true` if the client sent `shutdown` before. No message ends the server: it
+/// responds to a malformed one with an error, and logs a notification that it cannot handle.
 ///
 /// # Errors
 ///
-/// Returns an error if a read or write fails, if the header, the UTF-8 or the JSON of a message is not valid, if a changed document is not open or
-/// the range of the change is reversed, or if a document is too long.
+/// Returns an error if a read or write fails.
 pub fn serve(mut input: impl BufRead, output: impl Write) -> io::Result<bool> {
     let mut server = Server {
         output,
         documents: HashMap::new(),
-        has_shut_down: false,
+        phase: Phase::Starting,
     };
-    while let Some(message) = read_message(&mut input)? {
-        if message.get("method").text() == "exit" {
-            break;
+    while let Some(message) = messages::read(&mut input)? {
+        match message {
+            Ok(message) if is_exit(&message.json) => break,
+            Ok(message) => server.handle(&message)?,
+            Err(error) => server.report_lost(&error)?,
         }
-        server.take(&message)?;
     }
-    Ok(server.has_shut_down)
+    Ok(server.phase == Phase::ShutDown)
 }
 
-/// Reads the next message. Returns `None` at the end of the input.
-fn read_message(input: &mut impl BufRead) -> io::Result<Option<Json>> {
-    let (mut length, mut line) = (0, String::new());
-    while line != "\r\n" {
-        line.clear();
-        if input.read_line(&mut line)? == 0 {
-            return Ok(None);
-        }
-        if let Some(count) = line.strip_prefix("Content-Length: ") {
-            length = count.trim_end().parse().map_err(io::Error::other)?;
-        }
-    }
-    let mut body = vec![0; length];
-    input.read_exact(&mut body)?;
-    let message = str::from_utf8(&body).ok().and_then(Json::read);
-    message.map(Some).ok_or(io::ErrorKind::InvalidData.into())
+fn is_exit(message: &Value) -> bool {
+    message["method"] == "exit" && message.get("id").is_none()
+}
+
+/// The phase of a session.
+#[derive(Clone, Copy, PartialEq, Eq)]
+enum Phase {
+    /// Before `initialize`.
+    Starting,
+    Running,
+    /// After `shutdown`.
+    ShutDown,
 }
 
 /// A connection to a client, and the state of the server.
 struct Server<W> {
     output: W,
     /// The open documents, by their URIs.
-    documents: HashMap<String, Document>,
-    has_shut_down: bool,
+    documents: HashMap<String, OpenDocument>,
+    phase: Phase,
 }
 
 impl<W: Write> Server<W> {
-    /// Sends a message with these members of its JSON object.
-    fn send(&mut self, members: &str) -> io::Result<()> {
-        let body = format!(r#"{{"jsonrpc":"2.0",{members}}}"#);
-        write!(self.output, "Content-Length: {}\r\n\r\n{body}", body.len())?;
-        self.output.flush()
+    fn send(&mut self, message: Value) -> io::Result<()> {
+        messages::write(&mut self.output, message)
     }
 
-    /// Responds to a request, or handles a notification, which has no `id`.
-    fn take(&mut self, message: &Json) -> io::Result<()> {
-        let method = message.get("method").text();
-        let params = message.get("params");
-        let id = match message.get("id") {
-            Json::Number(number) => number.to_string(),
-            Json::String(text) => quoted(text),
-            _ => return self.notice(method, params),
-        };
-        let answer = match self.answer(method, params) {
-            Some(result) => format!(r#""result":{result}"#),
-            None => r#""error":{"code":-32601,"message":"method not found"}"#.to_owned(),
-        };
-        self.send(&format!(r#""id":{id},{answer}"#))
+    fn send_error(&mut self, id: &Value, error: &Error) -> io::Result<()> {
+        let error = json!({ "code": error.code, "message": error.message });
+        self.send(json!({ "id": id, "error": error }))
     }
 
-    /// Returns the result of a request, or `None` if the server has no method of this name.
-    fn answer(&mut self, method: &str, params: &Json) -> Option<String> {
-        let document = self.documents.get(uri(params));
-        let of = |answer: fn(&Document) -> String| document.map_or("null".to_owned(), answer);
-        match method {
-            "initialize" => Some(CAPABILITIES.to_owned()),
-            "shutdown" => {
-                self.has_shut_down = true;
-                Some("null".to_owned())
+    /// Sends the error of a message that could not be read. It may have been a change of any document.
+    fn report_lost(&mut self, error: &Error) -> io::Result<()> {
+        let documents = self.documents.values_mut();
+        documents.for_each(OpenDocument::lose_change);
+        self.send_error(&Value::Null, error)
+    }
+
+    /// Responds to a request, or handles a notification, which has no `id`. Ignores responses, because the server sends no requests.
+    fn handle(&mut self, message: &Message) -> io::Result<()> {
+        let json = &message.json;
+        let params = &json["params"];
+        match (json["method"].as_str(), json.get("id")) {
+            (Some(method), None) => self.handle_notification(method, params, message.is_lossy),
+            (Some(method), Some(id)) if id.is_number() || id.is_string() => {
+                match self.result(method, params) {
+                    Ok(result) => self.send(json!({ "id": id, "result": result })),
+                    Err(error) => self.send_error(id, &error),
+                }
             }
-            "textDocument/semanticTokens/full" => Some(of(semantic_tokens)),
-            "textDocument/foldingRange" => Some(of(folds)),
-            "textDocument/formatting" => Some(of(layout)),
-            _ => None,
+            (None, Some(_)) if json.get("result").or(json.get("error")).is_some() => Ok(()),
+            _ => {
+                let error = Error::invalid_request("neither a request nor a notification");
+                self.send_error(&Value::Null, &error)
+            }
         }
     }
 
-    fn notice(&mut self, method: &str, params: &Json) -> io::Result<()> {
-        let uri = uri(params);
-        match (method, params.get("contentChanges")) {
-            ("textDocument/didOpen", _) => {
-                let text = params.get("textDocument").get("text").text();
-                let document = Document::new(text).map_err(io::Error::other)?;
-                self.documents.insert(uri.to_owned(), document);
+    /// Returns the result of a request.
+    fn result(&mut self, method: &str, params: &Value) -> Result<Value, Error> {
+        match (self.phase, method) {
+            (Phase::Starting, "initialize") => {
+                self.phase = Phase::Running;
+                Ok(capabilities())
             }
-            ("textDocument/didChange", Json::Array(changes)) => {
-                let document = self.documents.get_mut(uri);
-                let document = document.ok_or(io::ErrorKind::NotFound)?;
-                changes.iter().try_for_each(|it| change(document, it))?;
+            (Phase::Starting, _) => Err(Error::not_initialized()),
+            (Phase::Running, "shutdown") => {
+                self.phase = Phase::ShutDown;
+                Ok(Value::Null)
             }
-            ("textDocument/didClose", _) => drop(self.documents.remove(uri)),
+            (Phase::ShutDown, _) => Err(Error::invalid_request("a request after `shutdown`")),
+            (Phase::Running, "initialize") => Err(Error::invalid_request("a second `initialize`")),
+            (Phase::Running, _) => self.document_result(method, params),
+        }
+    }
+
+    /// Returns the result of a request about a document, which is `null` if the document is not open.
+    fn document_result(&self, method: &str, params: &Value) -> Result<Value, Error> {
+        let result = match method {
+            "textDocument/semanticTokens/full" => OpenDocument::semantic_tokens,
+            "textDocument/foldingRange" => OpenDocument::folding_ranges,
+            "textDocument/formatting" => OpenDocument::formatting,
+            _ => return Err(Error::method_not_found()),
+        };
+        let uri = params["textDocument"]["uri"].as_str();
+        let document = uri.and_then(|uri| self.documents.get(uri));
+        Ok(document.map_or(Value::Null, result))
+    }
+
+    /// Handles a notification: updates a document and sends its lexical errors. Ignores other notifications, and all before `initialize`.
+    fn handle_notification(
+        &mut self,
+        method: &str,
+        params: &Value,
+        is_lossy: bool,
+    ) -> io::Result<()> {
+        let update = match method {
+            _ if self.phase != Phase::Running => return Ok(()),
+            "textDocument/didOpen" => Self::open,
+            "textDocument/didChange" => Self::change,
+            "textDocument/didClose" => Self::close,
             _ => return Ok(()),
+        };
+        let uri = params["textDocument"]["uri"].as_str();
+        let result = uri.ok_or_else(|| "no URI".to_owned());
+        match result.and_then(|uri| update(self, uri, params, is_lossy).map(|()| uri)) {
+            Ok(uri) => self.publish(uri),
+            Err(message) => self.log(&format!("{method}: {message}")),
         }
-        self.publish(uri)
+    }
+
+    fn open(&mut self, uri: &str, params: &Value, is_lossy: bool) -> Result<(), String> {
+        let text = params["textDocument"]["text"].as_str().ok_or("no text")?;
+        let document = OpenDocument::new(text, is_lossy)?;
+        self.documents.insert(uri.to_owned(), document);
+        Ok(())
+    }
+
+    fn change(&mut self, uri: &str, params: &Value, is_lossy: bool) -> Result<(), String> {
+        let document = self
+            .documents
+            .get_mut(uri)
+            .ok_or("the document is not open")?;
+        let changes = params["contentChanges"].as_array().ok_or("no changes")?;
+        document.apply(changes, is_lossy)
+    }
+
+    fn close(&mut self, uri: &str, _: &Value, _: bool) -> Result<(), String> {
+        self.documents
+            .remove(uri)
+            .map(drop)
+            .ok_or_else(|| "the document is not open".to_owned())
     }
 
     /// Sends the lexical errors of a document, or an empty list if it is closed.
     fn publish(&mut self, uri: &str) -> io::Result<()> {
-        let faults = self.documents.get(uri).map(diagnostics);
-        let (uri, faults) = (quoted(uri), faults.unwrap_or_default());
-        self.send(&format!(
-            r#""method":"textDocument/publishDiagnostics","params":{{"uri":{uri},"diagnostics":[{faults}]}}"#
-        ))
+        let document = self.documents.get(uri);
+        let diagnostics = document.map_or(json!([]), OpenDocument::diagnostics);
+        let params = json!({ "uri": uri, "diagnostics": diagnostics });
+        self.send(json!({ "method": "textDocument/publishDiagnostics", "params": params }))
+    }
+
+    /// Sends an error for the client's log.
+    fn log(&mut self, message: &str) -> io::Result<()> {
+        let params = json!({ "type": 1, "message": message });
+        self.send(json!({ "method": "window/logMessage", "params": params }))
     }
 }
 
-fn uri(params: &Json) -> &str {
-    params.get("textDocument").get("uri").text()
-}
-
-/// Applies a change to a document: to its range, or to the whole text if it has no range.
-fn change(document: &mut Document, change: &Json) -> io::Result<()> {
-    let offset = |place: &Json| {
-        let (line, column) = (place.get("line").count(), place.get("character").count());
-        document.utf16_place(line, column).offset()
-    };
-    let range = match change.get("range") {
-        Json::Word => 0..document.text().len(),
-        range => offset(range.get("start"))..offset(range.get("end")),
-    };
-    if range.start > range.end {
-        return Err(io::ErrorKind::InvalidData.into());
-    }
-    let changed = document.replace(range, change.get("text").text());
-    changed.map(drop).map_err(io::Error::other)
-}
-
-/// Returns a range of a document, from one byte offset to another, as JSON of the protocol.
-fn range(document: &Document, from: usize, to: usize) -> String {
-    let place = |offset| {
-        let (line, column) = document.utf16_linecol(Span::from_offset(offset));
-        format!(r#"{{"line":{line},"character":{column}}}"#)
-    };
-    format!(r#"{{"start":{},"end":{}}}"#, place(from), place(to))
-}
-
-fn diagnostics(document: &Document) -> String {
-    let diagnostic = |fault: Fault| {
-        let range = range(document, fault.offset, fault.end());
-        let message = quoted(&fault.to_string());
-        format!(r#"{{"range":{range},"severity":1,"source":"wat","message":{message}}}"#)
-    };
-    document
-        .faults()
-        .map(diagnostic)
-        .collect::<Vec<_>>()
-        .join(",")
-}
-
-/// Returns the index of a token's type in `tokenTypes`, or `None` for whitespace and parentheses.
-fn type_of(token: Token) -> Option<usize> {
-    match token.kind {
-        TokenKind::LineComment | TokenKind::BlockComment => Some(0),
-        TokenKind::String => Some(1),
-        TokenKind::Keyword => Some(2),
-        TokenKind::Integer(_) | TokenKind::Float(_) => Some(3),
-        TokenKind::Id => Some(4),
-        TokenKind::Annotation => Some(5),
-        TokenKind::Reserved => Some(6),
-        TokenKind::Whitespace | TokenKind::LParen | TokenKind::RParen => None,
-    }
-}
-
-/// The encoding of semantic tokens: five integers for each. A token of several lines is encoded as one per line.
-#[derive(Default)]
-struct Numbers {
-    all: Vec<String>,
-    /// Line and column of the current position in the text.
-    at: (usize, usize),
-    /// Line and column of the last encoded token, to which the next one is relative.
-    sent: (usize, usize),
-}
-
-impl Numbers {
-    fn add(&mut self, text: &str, type_number: Option<usize>) {
-        for (i, line) in text.split('\n').enumerate() {
-            self.at = if i > 0 { (self.at.0 + 1, 0) } else { self.at };
-            let units = line.encode_utf16().count();
-            if let Some(number) = type_number.filter(|_| units > 0) {
-                let lines = self.at.0 - self.sent.0;
-                let column = self.at.1 - if lines > 0 { 0 } else { self.sent.1 };
-                self.all
-                    .push(format!("{lines},{column},{units},{number},0"));
-                self.sent = self.at;
-            }
-            self.at.1 += units;
-        }
-    }
-}
-
-fn semantic_tokens(document: &Document) -> String {
-    let mut numbers = Numbers::default();
-    for piece in document.pieces() {
-        let text = &document.text()[piece.range()];
-        numbers.add(text, piece.token().and_then(type_of));
-    }
-    format!(r#"{{"data":[{}]}}"#, numbers.all.join(","))
-}
-
-/// Returns the folding ranges of a document: its groups and block comments that span several lines.
-fn folds(document: &Document) -> String {
-    let line = |offset| document.linecol(Span::from_offset(offset)).0;
-    let (mut open, mut folds) = (Vec::new(), Vec::new());
-    for token in document.tokens() {
-        let from = match token.kind {
-            TokenKind::LParen => {
-                open.push(token.offset);
-                continue;
-            }
-            TokenKind::RParen => open.pop(),
-            TokenKind::BlockComment => Some(token.offset),
-            _ => continue,
-        };
-        let (from, to) = (from.map_or(usize::MAX, line), line(token.end()));
-        if from < to {
-            folds.push(format!(r#"{{"startLine":{from},"endLine":{to}}}"#));
-        }
-    }
-    format!("[{}]", folds.join(","))
-}
-
-/// Returns the edit that formats the document, or `null` if the formatter returns an error.
-fn layout(document: &Document) -> String {
-    let text = document.text();
-    let Ok(laid_out) = wat_format::format(text) else {
-        return "null".to_owned();
-    };
-    let (range, text) = (range(document, 0, text.len()), quoted(&laid_out));
-    format!(r#"[{{"range":{range},"newText":{text}}}]"#)
+/// Returns the result of `initialize`: positions count UTF-16 code units, changes are incremental, and a semantic token's type is an index into
+/// `tokenTypes`.
+fn capabilities() -> Value {
+    let legend = json!({ "tokenTypes": TOKEN_TYPES, "tokenModifiers": [] });
+    json!({ "capabilities": {
+        "positionEncoding": "utf-16",
+        "textDocumentSync": 2,
+        "semanticTokensProvider": { "legend": legend, "full": true },
+        "foldingRangeProvider": true,
+        "documentFormattingProvider": true,
+    }})
 }
