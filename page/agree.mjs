@@ -174,6 +174,7 @@ compareParts(text, {}, 0, editing);
 seen.stretches += readAhead(reader, lexer, text, {}, editing, 200_000);
 for (let at = 0; at < 20; at += 1) compareParts(text.subarray(at * 400_000, at * 400_000 + (at % 4 === 0 ? 300_000 : 20_000)), {}, 2 * EDITS, editing);
 for (const names of [[], ['custom']]) compareCounts('generated', text, [], names);
+for (const name of ['a'.repeat(500_000), '\u6f22\\61\\u{1f600}'.repeat(50_000), '\\ff'.repeat(200_000)]) compareCounts('a long name', Buffer.from(`x (@"${name}" y) z`), [], []);
 compareLayouts(readdirSync(folder).filter((it) => existsSync(`${folder}${it}.stdout`)).map((it) => folder + it));
 for (const strict of [false, true]) {
   const times = [];
