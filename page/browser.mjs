@@ -7,6 +7,7 @@ import { createServer } from 'node:http';
 import { tmpdir } from 'node:os';
 import { extname, join } from 'node:path';
 import { fileURLToPath, pathToFileURL } from 'node:url';
+import { deflateRawSync } from 'node:zlib';
 import { Whole } from './wat-lex/whole.js';
 
 const [program, pictures] = process.argv.slice(2);
@@ -402,6 +403,16 @@ async function links() {
   await pause(200);
   assert.match(await ask("document.querySelector('#report').textContent"), /^The link could not be read/);
   assert.equal((await ask(SHOWN)).text, text);
+  await visit(origin);
+  // A page that opens with a link that it cannot read has the first example, and says so.
+  const example = (await ask(SHOWN)).text;
+  const long = deflateRawSync(Buffer.alloc(100_000_000)).toString('base64url');
+  for (const word of ['x', '%%%', long]) {
+    await visit(`${origin}#text=${word}`);
+    const { report, text: shown } = await ask(SHOWN);
+    assert.match(report, /^The link could not be read/, word.slice(0, 10));
+    assert.equal(shown, example);
+  }
   await visit(origin);
 }
 

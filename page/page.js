@@ -577,22 +577,24 @@ async function share() {
   return tell('shared', isCopied ? 'The link is copied.' : 'The link is the address of this page now.');
 }
 
-// Opens the text of the page's address. Returns `true` if there is one.
+const openExample = () => open(encoder.encode(EXAMPLES[$('example').selectedIndex].text));
+
+function openGiven(given) {
+  for (const id of ['allow', 'strict', 'counts']) $(id).checked = given[id];
+  $('names').value = given.names;
+  open(given.bytes);
+}
+
+// Opens the text of the page's address. If there is none or it cannot be read, keeps the page's text, or opens the first example.
 async function openLink() {
   try {
     const given = await givenBy(location.hash);
-    if (!given) return false;
-    for (const id of ['allow', 'strict', 'counts']) $(id).checked = given[id];
-    $('names').value = given.names;
-    open(given.bytes);
-    return true;
+    if (given) openGiven(given); else if (!bytes) openExample();
   } catch (error) {
+    if (!bytes) openExample();
     say(`The link could not be read: ${error}`, true);
-    return false;
   }
 }
-
-const openExample = () => open(encoder.encode(EXAMPLES[$('example').selectedIndex].text));
 
 function listen() {
   $('text').addEventListener('input', onInput);
@@ -638,7 +640,7 @@ async function start() {
   list = new Sight([$('list')], $('list').querySelector('.seen'), drawList);
   $('example').append(...EXAMPLES.map(({ name }) => element('option', '', name)));
   listen();
-  if (!(await openLink())) openExample();
+  await openLink();
   document.body.dataset.ready = 'yes';
 }
 
