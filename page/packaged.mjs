@@ -1,5 +1,5 @@
 // Compares the results of the npm package, whose offsets are in UTF-16 code units, with the program on all golden texts; and, after each of many
-// random edits, with its results for the whole text.
+// random edits, with its results for the whole text. Checks that wrong arguments are rejected, and leave a document unchanged.
 // usage: node packaged.mjs PROGRAM, once build.sh has made the package
 import assert from 'node:assert/strict';
 import { spawnSync } from 'node:child_process';
@@ -14,12 +14,13 @@ const program = process.argv[2];
 if (!program) throw new Error('usage: node packaged.mjs PROGRAM');
 const folder = fileURLToPath(new URL('../crates/wat_tokens/agreement/', import.meta.url));
 const EDITS = 40;
+const HALVES = 2000;
 // Whether the module allocates, as formatted texts and binary modules need.
 const { isServed } = new Whole(new WebAssembly.Module(readFileSync(fileURLToPath(new URL('out/wat-lex/wat_lex.wasm', import.meta.url)))));
 const wat = loadSync();
 assert.deepEqual((await load()).lex('(a)'), wat.lex('(a)'));
 const document = wat.open();
-const seen = { texts: 0, tokens: 0, faults: 0, layouts: 0, types: 0, edits: 0 };
+const seen = { texts: 0, tokens: 0, faults: 0, layouts: 0, types: 0, edits: 0, halves: 0, rejected: 0 };
 
 // Returns the program's output for a text.
 function ran(words, input) {
@@ -80,6 +81,53 @@ function compareEdited(given, flags, chance) {
   seen.edits += EDITS;
 }
 
+const isWithinPair = (text, at) => /^[\ud800-\udbff][\udc00-\udfff]$/.test(text.slice(Math.max(0, at - 1), at + 1));
+
+// Edits a text at random, with halves of surrogate pairs, which may meet. The document must have the string of an editor, which keeps them.
+function compareHalves(chance) {
+  let text = 'a\ud83d"';
+  document.replace(text);
+  for (let i = 0; i < HALVES; i += 1) {
+    const offsets = Array.from({ length: text.length + 1 }, (_, at) => at).filter((at) => !isWithinPair(text, at));
+    const first = chance.below(offsets.length);
+    const from = offsets[first], to = offsets[Math.min(offsets.length - 1, first + chance.below(4))];
+    const piece = Array.from({ length: chance.below(4) }, () => chance.oneOf(['\ud83d', '\ude00', '\u{1f600}', 'a', '"', '\n'])).join('');
+    document.change(from, to, piece);
+    text = text.slice(0, from) + piece + text.slice(to);
+    assert.equal(document.text, text.toWellFormed());
+    assert.deepEqual({ tokens: document.tokens, fault: document.fault }, wat.lex(text));
+  }
+  seen.halves += HALVES;
+}
+
+// The arguments of `change` that it must reject, and those of the methods with one offset or index, for a text of five code units, of which the second
+// and the third are a surrogate pair.
+const WRONG_CHANGES = [
+  [TypeError, ['1', '1', 'x'], ['1', 1, 'x'], [1, '1', 'x'], [1n, 1n, 'x'], [undefined, 1, 'x'], [1, null, 'x'], [1, 1], [1, 1, 5], [1, 1, null], [1, 1, ['x']]],
+  [RangeError, [0.5, 1, 'x'], [3.5, 4.7, 'x'], [NaN, 1, 'x'], [0, Infinity, 'x'], [-1, 1, 'x'], [3, 1, 'x'], [0, 6, 'x'], [6, 6, 'x'], [2, 2, 'x'], [0, 2, 'x'], [2, 3, 'x']],
+];
+const WRONG_NUMBERS = [[TypeError, '0', 0n, null, undefined, [0]], [RangeError, 0.5, NaN, -1, 6, Infinity]];
+
+function compareRejected() {
+  document.replace('a\u{1f600} b');
+  const state = () => ({ text: document.text, tokens: document.tokens, fault: document.fault });
+  const before = state();
+  const reject = (error, call, given) => {
+    assert.throws(call, error, given);
+    assert.deepEqual(state(), before, given);
+    seen.rejected += 1;
+  };
+  for (const [error, ...all] of WRONG_CHANGES) for (const given of all) reject(error, () => document.change(...given), given.map(String).join());
+  for (const method of ['kind', 'start', 'end', 'token', 'at']) {
+    for (const [error, ...all] of WRONG_NUMBERS) for (const given of all) reject(error, () => document[method](given), `${method} ${given}`);
+  }
+  for (const given of [5, null, ['x']]) reject(TypeError, () => document.replace(given), `replace ${given}`);
+  const { grow } = WebAssembly.Memory.prototype;
+  WebAssembly.Memory.prototype.grow = () => { throw new RangeError('refused'); };
+  for (const call of [() => document.change(0, 0, ' '.repeat(3e6)), () => document.replace(' '.repeat(3e6))]) reject(RangeError, call, 'no memory');
+  WebAssembly.Memory.prototype.grow = grow;
+}
+
 const FLAGS = { '--allow-confusing': 'allowConfusingUnicode', '--strict-underscores': 'strictUnderscores' };
 const chance = new Chance(3);
 for (const name of readdirSync(folder).filter((it) => existsSync(`${folder}${it}.stdout`))) {
@@ -105,9 +153,7 @@ const after = wat.lex(growing.text);
 assert.deepEqual([growing.count, growing.fault, growing.end(growing.count - 1)], [after.tokens.length, after.fault, after.tokens.at(-1).end]);
 for (let i = 0; i < growing.count; i += 997) assert.deepEqual(growing.token(i), after.tokens[i]);
 if (isServed) assert.deepEqual(wat.types('(module (type (func (param i32))))'), Uint8Array.of(0, 97, 115, 109, 1, 0, 0, 0, 1, 5, 1, 96, 1, 127, 0));
-document.replace('a\u{1f600}b');
-assert.throws(() => document.change(2, 2, 'x'), RangeError);
-assert.throws(() => document.change(5, 5, 'x'), RangeError);
-assert.throws(() => document.token(9), RangeError);
+compareHalves(chance);
+compareRejected();
 console.log(`packaged.mjs: ${Object.entries(seen).map(([what, count]) => `${what} ${count}`).join(', ')}; none differ`);
 process.exit(seen.texts > 0 && seen.edits > 0 ? 0 : 1);

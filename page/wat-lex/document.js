@@ -1,4 +1,5 @@
 // A source text that is edited, and its tokens. Offsets are in UTF-16 code units, like those of JavaScript's strings.
+import { Halves } from './halves.js';
 import { KINDS, Lexer, decoder } from './lexer.js';
 import { Reader } from './reader.js';
 import { Tokens } from './tokens.js';
@@ -7,9 +8,20 @@ import { Whole } from './whole.js';
 
 const encoder = new TextEncoder();
 
+// Throws a `TypeError` unless an argument is a number, and a `RangeError` unless it is an integer.
+function checkInteger(given) {
+  if (typeof given !== 'number') throw new TypeError(`a number was expected, not ${typeof given}`);
+  if (!Number.isInteger(given)) throw new RangeError(`${given} is not an integer`);
+}
+
+function checkString(given) {
+  if (typeof given !== 'string') throw new TypeError(`a string was expected, not ${typeof given}`);
+}
+
 export class Document {
   #reader;
   #units;
+  #halves;
   #flags;
   #whole;
 
@@ -21,17 +33,25 @@ export class Document {
 
   // Replaces the text and the flags, and lexes all of it.
   replace(text, flags = {}) {
-    this.#flags = { allow: flags.allowConfusingUnicode, strict: flags.strictUnderscores };
-    this.#reader.open(encoder.encode(text), this.#flags);
+    checkString(text);
+    const settings = { allow: flags.allowConfusingUnicode, strict: flags.strictUnderscores };
+    this.#reader.open(encoder.encode(text), settings);
+    this.#flags = settings;
+    this.#halves = new Halves(text);
     this.#read();
     this.#units = new Units(this.#reader.bytes);
     this.#reader.measures.push(this.#units);
   }
 
-  // Replaces the text from `start` to `end` by `piece`, and lexes again only what the change affects.
+  // Replaces the text from `start` to `end` by `piece`, and lexes again only what the change affects. Checks its arguments before it writes.
   change(start, end, piece) {
-    if (end < start) throw new RangeError(`from ${start} to ${end} nothing lies`);
-    this.#reader.change(this.#units.byteAt(start), this.#units.byteAt(end), encoder.encode(piece));
+    checkInteger(start);
+    checkInteger(end);
+    checkString(piece);
+    if (end < start) throw new RangeError(`the range from ${start} to ${end} ends before it begins`);
+    const wide = this.#halves.widened(start, end, piece);
+    this.#reader.change(this.#units.byteAt(wide.start), this.#units.byteAt(wide.end), encoder.encode(wide.piece));
+    this.#halves.change(wide.start, wide.end, wide.piece);
     this.#read();
   }
 
@@ -51,12 +71,16 @@ export class Document {
   token(i) { return { kind: this.kind(i), start: this.start(i), end: this.end(i) }; }
 
   #checked(i) {
+    checkInteger(i);
     if (!(i >= 0 && i < this.count)) throw new RangeError(`there is no token ${i}`);
     return i;
   }
 
   // Returns the index of the token that contains an offset, or `count` after the last.
-  at(place) { return new Tokens(this.#reader).at(this.#units.byteAt(place)); }
+  at(place) {
+    checkInteger(place);
+    return new Tokens(this.#reader).at(this.#units.byteAt(place));
+  }
 
   * [Symbol.iterator]() {
     for (let i = 0, start = 0; i < this.count; i += 1) {

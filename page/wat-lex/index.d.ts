@@ -33,11 +33,14 @@ export interface Flags {
   strictUnderscores?: boolean;
 }
 
-/** A source text that is edited. Its tokens, which include whitespace and comments, cover the text from 0 to its end or its error without gaps. */
+/**
+ * A source text that is edited. Its tokens, which include whitespace and comments, cover the text from 0 to its end or its error without gaps. The
+ * methods throw a `TypeError` for an argument of another type, and a `RangeError` for a number that is not an integer.
+ */
 export declare class Document implements Iterable<Token> {
   /** Opens a text over a new instance of the module. Throws a `RangeError` if the text is too long. */
   constructor(module: WebAssembly.Module, text?: string, flags?: Flags);
-  /** The current text. */
+  /** The current text, with U+FFFD for each lone surrogate. */
   readonly text: string;
   /** The number of tokens. */
   readonly count: number;
@@ -53,11 +56,15 @@ export declare class Document implements Iterable<Token> {
   end(i: number): number;
   /** Returns a token. Throws a `RangeError` if there is no token `i`. */
   token(i: number): Token;
-  /** Returns the index of the token that contains an offset, or `count` after the last. */
+  /**
+   * Returns the index of the token that contains an offset, or `count` after the last. Throws a `RangeError` if the offset is past the end of the text
+   * or inside a character.
+   */
   at(place: number): number;
   /**
-   * Replaces the text from `start` to `end`, and lexes again only what the change affects. Throws a `RangeError` if `end` is less than `start`, if an
-   * offset is past the end of the text or inside a character, or if the text becomes too long.
+   * Replaces the text from `start` to `end`, and lexes again only what the change affects. A lone surrogate becomes a character once a change puts the
+   * other half of its pair next to it. Throws a `RangeError` if `end` is less than `start`, if an offset is past the end of the text or inside a
+   * character, or if the text becomes too long. The document is unchanged if the method throws.
    */
   change(start: number, end: number, piece: string): void;
   /** Replaces the text and the flags. Throws a `RangeError` if the text is too long. */
@@ -74,7 +81,7 @@ export declare class Document implements Iterable<Token> {
 export declare class WatLex {
   /** Creates a lexer over a module, such as the package's `wat_lex.wasm`. */
   constructor(module: WebAssembly.Module);
-  /** Opens a text for editing. Each document has its own memory, of about 20 MB, or of 11 times the text if that is more. */
+  /** Opens a text for editing. Each document has its own memory, of about 25 MB, or of 11 times the text if that is more. */
   open(text?: string, flags?: Flags): Document;
   /** Returns the tokens of a text, and its lexical error or null. */
   lex(text: string, flags?: Flags): { tokens: Token[]; fault: Fault | null };
