@@ -174,6 +174,31 @@ chmod 424 fixed
 run 0 fmt --write fixed
 expect 'one that some may write is written' '(a) 424' "$(cat fixed) $(stat -c %a fixed)"
 
+# state FILE..: prints the type, inode, owner, group, permissions, length, time and a hash of the text of files
+state() {
+    stat -c '%F %i %u:%g %a %s %y' "$@" 2>&1 || true
+    cat "$@" 2>&1 | md5sum || true
+}
+
+# Files of more than 1 MB.
+seq -f '( a %.0f )' 300000 > large
+seq -f '(a %.0f)' 300000 > large_layout
+before=$(state large)
+run 0 fmt large
+expect 'a large text' "$(md5sum < large_layout)" "$(md5sum < out)"
+run 1 fmt --check large
+expect '--check of a large text' large "$(cat out)"
+run 1 fmt --diff large
+expect 'a diff of a large text' 600003 "$(wc -l < out)"
+expect 'a large file that is not written' "$before" "$(state large)"
+run 0 fmt --write large
+expect 'a large file that is written' "$(md5sum < large_layout)" "$(md5sum < large)"
+before=$(state large)
+run 0 fmt --check large
+run 0 fmt --write large
+expect 'a large neat file is not touched' "$before" "$(state large)"
+rm large large_layout
+
 # One report for each of several files.
 printf '( c )' > third
 printf '( d )' > busy
