@@ -11,9 +11,10 @@ use wat_tokens_run::run::RunFailure;
 pub enum Kind {
     /// A folder, but not a symbolic link to one.
     Folder,
-    /// A file with the extension `.wat` or `.wast`, or a symbolic link to one.
+    /// A regular file with the extension `.wat` or `.wast`.
     Text,
-    /// Any other entry, which `fmt` ignores.
+    /// Any other entry, which `fmt` ignores. A symbolic link is one, so that no file outside the
+    /// folder is read or replaced.
     Other,
 }
 
@@ -22,19 +23,15 @@ fn is_text_name(name: &str) -> bool {
     name.ends_with(".wat") || name.ends_with(".wast")
 }
 
-/// Returns the kind of an entry. A broken symbolic link is `Kind::Other`.
+/// Returns the kind of an entry.
 pub fn kind_of(rt: &HostRuntime, entry: &str) -> io::Result<Kind> {
-    if fs::symlink_metadata(rt, entry)?.is_dir() {
-        return Ok(Kind::Folder);
-    }
-    if !is_text_name(entry) {
-        return Ok(Kind::Other);
-    }
-    match fs::metadata(rt, entry) {
-        Ok(metadata) if metadata.is_file() => Ok(Kind::Text),
-        Ok(_) => Ok(Kind::Other),
-        Err(error) if error.kind() == io::ErrorKind::NotFound => Ok(Kind::Other),
-        Err(error) => Err(error),
+    let metadata = fs::symlink_metadata(rt, entry)?;
+    if metadata.is_dir() {
+        Ok(Kind::Folder)
+    } else if metadata.is_file() && is_text_name(entry) {
+        Ok(Kind::Text)
+    } else {
+        Ok(Kind::Other)
     }
 }
 
