@@ -23,7 +23,7 @@ CLOSING = (")", "]", "}", ">")
 NO_CALLS = ("as", "break", "else", "if", "in", "let", "match", "mut", "ref", "return", "while")
 SAME_IN_CORE = ("cmp", "fmt", "hash", "marker", "mem", "result", "str", "{")
 # Modules of `std` that `core` does not have: the sources of the formatter and of the program use them.
-STREAMS = ("env", "fs", "io", "path", "process", "rt")
+STREAMS = ("env", "fs", "io", "os", "path", "process", "rt")
 
 # The closed list of rewritten tokens: those of the source, and those that must replace them.
 WRITTEN = [

@@ -3,6 +3,7 @@
 #
 # usage: tools/test/fmt.sh PROGRAM
 set -euo pipefail
+umask 022
 program=$(realpath "${1:?usage: tools/test/fmt.sh PROGRAM}")
 tools=$(realpath "$(dirname "$0")/..")
 room=$(mktemp -d)
@@ -179,6 +180,61 @@ state() {
     stat -c '%F %i %u:%g %a %s %y' "$@" 2>&1 || true
     cat "$@" 2>&1 | md5sum || true
 }
+
+# Owners and groups.
+if [ "$(id -u)" = 0 ]; then
+    for mode in 600 664 4755 2755 6711; do
+        printf '( a )' > owned
+        chown 1000:3000 owned
+        chmod "$mode" owned
+        run 0 fmt --write owned
+        expect "owner and group of a file with permissions $mode" "(a) 1000:3000 $mode" "$(cat owned) $(stat -c '%u:%g %a' owned)"
+    done
+    mkdir of_group
+    chown :2000 of_group
+    chmod 2775 of_group
+    printf '( a )' > of_group/a.wat
+    chown 1000:3000 of_group/a.wat
+    run 0 fmt --write of_group
+    expect 'owner and group in a set-group-ID folder' '(a) 1000:3000' "$(cat of_group/a.wat) $(stat -c %u:%g of_group/a.wat)"
+fi
+if [ "$(id -u)" = 0 ] && can_be_plain; then
+    mkdir plain
+    printf '( a )' | tee plain/of_root plain/of_group > plain/all_own
+    cp plain/of_root plain/set_id
+    chown 65534:65534 plain plain/all_own
+    chown 65534:0 plain/of_group
+    chmod 4755 plain/set_id
+    for file in of_root of_group set_id; do
+        before=$(state "plain/$file")
+        run_plain 2 fmt --write "plain/$file"
+        expect "report of $file" "wat_tokens: plain/$file: its owner or group cannot be kept, left as it is" "$(cat err)"
+        expect "$file stays" "$before" "$(state "plain/$file")"
+    done
+    run_plain 0 fmt --write plain/all_own
+    expect 'a file whose owner and group stay is written' '(a) 65534:65534' "$(cat plain/all_own) $(stat -c %u:%g plain/all_own)"
+    expect 'and nothing is left beside them' 'plain/all_own plain/of_group plain/of_root plain/set_id' "$(echo plain/*)"
+fi
+
+# A private file: another user opens its temporary file as often as possible; if no other user can run Python, this one does.
+watch=(python3)
+for python in $(type -ap python3); do
+    ! "${plain_user[@]}" "$python" -c '' 2> /dev/null || watch=("${plain_user[@]}" "$python")
+done
+printf '( a )' > private
+chmod 600 private
+"${watch[@]}" - private.wat_tokens < "$tools/test/fmt/open_often.py" > watched &
+watcher=$!
+until [ -s watched ] || ! kill -0 "$watcher"; do sleep 0.1; done
+for ((i = 0; i < 300; i++)); do
+    kill -0 "$watcher" 2> /dev/null || break
+    printf '( a )' > private
+    "$program" fmt --write private || expect 'status of a private file' 0 $?
+done
+kill "$watcher" 2> /dev/null || true
+wait "$watcher" || true
+expect 'a private file is written' '(a) 600' "$(cat private) $(stat -c %a private)"
+expect 'its temporary file is not open to others' $'ready\n0 opened, 0 read' "$(cat watched)"
 
 # Files of more than 1 MB.
 seq -f '( a %.0f )' 300000 > large

@@ -4,6 +4,7 @@
 pub mod env;
 pub mod fs;
 mod macros;
+pub mod os;
 pub mod path;
 mod print;
 pub mod rt;

@@ -7,7 +7,7 @@ use refusing::granting;
 use std::fs as system;
 use std::io::{Error, ErrorKind, Read, Result, Write};
 use std::path::{Path, PathBuf};
-use wat_tokens::shim::fs::{self, File};
+use wat_tokens::shim::fs::{self, File, OpenOptions};
 use wat_tokens::shim::rt::HostRuntime;
 
 /// A temporary directory of a test, which is removed when it is dropped.
@@ -38,6 +38,13 @@ impl Drop for Folder {
 
 fn rt() -> HostRuntime {
     HostRuntime::of_process()
+}
+
+fn create_new(path: &str) -> Result<File> {
+    OpenOptions::new()
+        .write(true)
+        .create_new(true)
+        .open(&rt(), path)
 }
 
 fn kind<T>(answer: Result<T>) -> ErrorKind {
@@ -80,7 +87,7 @@ fn a_path_that_leads_nowhere_is_an_error_of_the_system() {
     assert_eq!(code(fs::remove_file(&rt(), &missing)), Some(2));
     assert_eq!(code(fs::rename(&rt(), &missing, &missing)), Some(2));
     assert_eq!(code(fs::read_dir(&rt(), &missing)), Some(2));
-    assert_eq!(code(File::create_new(&rt(), &beyond)), Some(20));
+    assert_eq!(code(create_new(&beyond)), Some(20));
     assert_eq!(
         kind(File::open(&rt(), "a\0b")),
         ErrorKind::InvalidInput,
@@ -99,14 +106,11 @@ fn a_folder_is_no_text() {
 fn a_new_file_takes_no_place_of_another() {
     let folder = Folder::new("new");
     let old = folder.file("old", "kept");
-    assert_eq!(
-        kind(File::create_new(&rt(), &old)),
-        ErrorKind::AlreadyExists
-    );
+    assert_eq!(kind(create_new(&old)), ErrorKind::AlreadyExists);
     assert_eq!(system::read_to_string(&old).unwrap(), "kept");
 
     let new = folder.path("new");
-    let mut file = File::create_new(&rt(), &new).unwrap();
+    let mut file = create_new(&new).unwrap();
     file.write_all(b"abc").unwrap();
     file.write_all(b"").unwrap();
     file.flush().unwrap();
@@ -127,6 +131,7 @@ mod of_unix {
     use std::ffi::OsStr;
     use std::os::unix::ffi::OsStrExt;
     use std::os::unix::fs::{PermissionsExt, symlink};
+    use wat_tokens::shim::os::unix::fs::{MetadataExt, OpenOptionsExt, fchown};
 
     #[test]
     fn permissions_are_those_of_the_file_that_they_are_of() {
@@ -135,7 +140,7 @@ mod of_unix {
         system::set_permissions(&old, system::Permissions::from_mode(0o440)).unwrap();
         let permissions = fs::metadata(&rt(), &old).unwrap().permissions();
         assert!(permissions.readonly());
-        let file = File::create_new(&rt(), &new).unwrap();
+        let file = create_new(&new).unwrap();
         file.set_permissions(permissions).unwrap();
         assert_eq!(
             system::metadata(&new).unwrap().permissions().mode() & 0o7777,
@@ -144,6 +149,53 @@ mod of_unix {
         system::set_permissions(&old, system::Permissions::from_mode(0o424)).unwrap();
         let permissions = fs::metadata(&rt(), &old).unwrap().permissions();
         assert!(!permissions.readonly(), "some may write it");
+    }
+
+    #[test]
+    fn a_new_file_has_the_permissions_of_its_options() {
+        let folder = Folder::new("mode");
+        let mut options = OpenOptions::new();
+        options.write(true).create_new(true);
+        for mode in [0o600, 0o400] {
+            let path = folder.path(&format!("{mode:o}"));
+            let file = options.mode(mode).open(&rt(), &path).unwrap();
+            assert_eq!(file.metadata().unwrap().mode() & 0o7777, mode);
+        }
+    }
+
+    #[test]
+    fn metadata_tell_files_apart_and_a_file_before_and_after_a_change() {
+        let folder = Folder::new("metadata");
+        let numbers = |metadata: &fs::Metadata| (metadata.dev(), metadata.ino());
+        let (one, other) = (folder.file("one", ""), folder.file("other", ""));
+        let opened = File::open(&rt(), &one).unwrap().metadata().unwrap();
+        let found = fs::symlink_metadata(&rt(), &one).unwrap();
+        assert_eq!(numbers(&opened), numbers(&found));
+        assert_eq!(opened.modified().unwrap(), found.modified().unwrap());
+        let other = fs::symlink_metadata(&rt(), &other).unwrap();
+        assert_ne!(numbers(&opened), numbers(&other));
+        let changed = |metadata: &fs::Metadata| (metadata.ctime(), metadata.ctime_nsec());
+        std::thread::sleep(std::time::Duration::from_millis(20));
+        system::set_permissions(&one, system::Permissions::from_mode(0o600)).unwrap();
+        let later = fs::symlink_metadata(&rt(), &one).unwrap();
+        assert_ne!(changed(&opened), changed(&later));
+    }
+
+    #[test]
+    fn the_owner_and_the_group_of_a_file_are_set_or_it_is_an_error() {
+        let folder = Folder::new("owner");
+        let file = create_new(&folder.path("a")).unwrap();
+        let owned = || {
+            let metadata = file.metadata().unwrap();
+            (metadata.uid(), metadata.gid())
+        };
+        let (uid, gid) = owned();
+        fchown(&file, Some(uid), Some(gid)).unwrap();
+        assert_eq!(owned(), (uid, gid));
+        match fchown(&file, Some(uid + 1), Some(gid + 1)) {
+            Ok(()) => assert_eq!(owned(), (uid + 1, gid + 1)),
+            Err(error) => assert_eq!(error.kind(), ErrorKind::PermissionDenied),
+        }
     }
 
     #[test]

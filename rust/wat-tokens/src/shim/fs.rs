@@ -10,7 +10,7 @@ pub use std::fs::{Metadata, Permissions};
 
 /// An open file, which is closed when it is dropped.
 #[derive(Debug)]
-pub struct File(fs::File);
+pub struct File(pub(super) fs::File);
 
 impl File {
     /// Opens an existing file for reading.
@@ -23,9 +23,9 @@ impl File {
         fs::File::create(path).map(File)
     }
 
-    /// Creates a file for reading and writing. If it exists, it is not changed, and the error is of the kind `AlreadyExists`.
-    pub fn create_new(_: &HostRuntime, path: &str) -> Result<File> {
-        fs::File::create_new(path).map(File)
+    /// Returns the metadata of the file.
+    pub fn metadata(&self) -> Result<Metadata> {
+        self.0.metadata()
     }
 
     /// Sets the permissions of the file.
@@ -36,6 +36,35 @@ impl File {
     /// Writes all data and metadata of the file to the disk before it returns.
     pub fn sync_all(&self) -> Result<()> {
         self.0.sync_all()
+    }
+}
+
+/// How a file is opened.
+#[derive(Clone, Debug)]
+pub struct OpenOptions(pub(super) fs::OpenOptions);
+
+impl OpenOptions {
+    /// Returns options of which none is set.
+    #[allow(clippy::new_without_default)]
+    pub fn new() -> OpenOptions {
+        OpenOptions(fs::OpenOptions::new())
+    }
+
+    /// Sets whether the file is opened for writing.
+    pub fn write(&mut self, write: bool) -> &mut OpenOptions {
+        self.0.write(write);
+        self
+    }
+
+    /// Sets whether the file is created. If it exists, it is not changed, and the error is of the kind `AlreadyExists`.
+    pub fn create_new(&mut self, create_new: bool) -> &mut OpenOptions {
+        self.0.create_new(create_new);
+        self
+    }
+
+    /// Opens a file.
+    pub fn open(&self, _: &HostRuntime, path: &str) -> Result<File> {
+        self.0.open(path).map(File)
     }
 }
 

@@ -3,8 +3,9 @@
 use crate::shim::prelude::*;
 use crate::program::report::Failure;
 use crate::shim::alloc::AllocError;
-use crate::shim::fs::{File, Permissions};
+use crate::shim::fs::{File, Metadata, OpenOptions};
 use crate::shim::io::Write;
+use crate::shim::os::unix::fs::{MetadataExt, OpenOptionsExt, fchown};
 use crate::shim::path::PathBuf;
 use crate::shim::{fmt, fs, io};
 use crate::commands::named::Shown;
@@ -17,6 +18,8 @@ pub enum Kept {
     Busy(String),
     /// The temporary file with this name can't be created.
     NotCreated(String, io::Error),
+    /// The owner or the group of the file can't be given to the temporary file.
+    Owner,
     /// A system call or an allocation failed.
     Unwritten(io::Error),
 }
@@ -45,14 +48,15 @@ impl fmt::Display for Kept {
             Kept::NotCreated(name, error) => {
                 write!(f, "{}: {}", Shown(name), Failure("open", error))
             }
+            Kept::Owner => write!(f, "its owner or group cannot be kept, left as it is"),
             Kept::Unwritten(error) => write!(f, "{}", Failure("write", error)),
         }
     }
 }
 
-/// Replaces the contents of a file by `text`. Writes a temporary file next to it, with the
-/// permissions of the file, and renames that file. If `file` is a symbolic link, the file at its
-/// end is replaced.
+/// Replaces the contents of a file by `text`. Writes a temporary file next to it, with its owner,
+/// group and permissions, and renames that file. If `file` is a symbolic link, the file at its end
+/// is replaced.
 ///
 /// # Errors
 ///
@@ -74,36 +78,66 @@ fn target_of(rt: &HostRuntime, file: &str) -> io::Result<Option<PathBuf>> {
 
 /// Replaces the contents of a file that is not a symbolic link.
 fn replace_target(rt: &HostRuntime, target: &str, text: &str) -> Result<(), Kept> {
-    let permissions = fs::metadata(rt, target)?.permissions();
-    if permissions.readonly() {
+    let original = fs::metadata(rt, target)?;
+    if original.permissions().readonly() {
         return Err(Kept::ReadOnly);
     }
     let temporary = try_format!(rt.alloc(); "{target}.wat_tokens")?;
-    let mut beside = match File::create_new(rt, temporary.as_str()) {
-        Ok(beside) => beside,
-        Err(error) => return Err(not_made(temporary, error)),
+    let file = match create_private(rt, temporary.as_str()) {
+        Ok(file) => file,
+        Err(error) => return Err(not_created(temporary, error)),
     };
-    let mut done = fill(&mut beside, permissions, text);
+    let mut done = fill(file, &original, text);
     if done.is_ok() {
-        done = fs::rename(rt, temporary.as_str(), target);
+        done = rename(rt, temporary.as_str(), target);
     }
     if done.is_err() {
         let _ = fs::remove_file(rt, temporary.as_str());
     }
-    Ok(done?)
+    done
+}
+
+/// Creates a file that only its owner can open.
+fn create_private(rt: &HostRuntime, path: &str) -> io::Result<File> {
+    OpenOptions::new()
+        .write(true)
+        .create_new(true)
+        .mode(0o600)
+        .open(rt, path)
 }
 
 /// Returns the reason that a temporary file was not created.
-fn not_made(temporary: String, error: io::Error) -> Kept {
+fn not_created(temporary: String, error: io::Error) -> Kept {
     match error.kind() {
         io::ErrorKind::AlreadyExists => Kept::Busy(temporary),
         _ => Kept::NotCreated(temporary, error),
     }
 }
 
-/// Sets the permissions of a temporary file, writes its contents, and syncs it to the disk.
-fn fill(file: &mut File, permissions: Permissions, text: &str) -> io::Result<()> {
-    file.set_permissions(permissions)?;
+/// Gives a temporary file the owner, the group and the permissions of the original, then writes its
+/// contents, and syncs it to the disk.
+fn fill(mut file: File, original: &Metadata, text: &str) -> Result<(), Kept> {
+    give_access(&file, original)?;
     file.write_all(text.as_bytes())?;
-    file.sync_all()
+    file.sync_all()?;
+    Ok(())
+}
+
+/// Gives a new file the owner, the group and the permissions of the original, in this order, so
+/// that no one gets a permission that the original does not grant.
+fn give_access(file: &File, original: &Metadata) -> Result<(), Kept> {
+    let created = file.metadata()?;
+    let (owner, group) = (original.uid(), original.gid());
+    let is_given = created.uid() == owner && created.gid() == group;
+    if !is_given && fchown(file, Some(owner), Some(group)).is_err() {
+        return Err(Kept::Owner);
+    }
+    file.set_permissions(original.permissions())?;
+    Ok(())
+}
+
+/// Renames a temporary file to the path of the file that it replaces.
+fn rename(rt: &HostRuntime, temporary: &str, target: &str) -> Result<(), Kept> {
+    fs::rename(rt, temporary, target)?;
+    Ok(())
 }
