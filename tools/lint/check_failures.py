@@ -132,7 +132,7 @@ FAILURES = [
         "of what the run ended in",
     ),
     ("wat_tokens_run/src/outcome.rt", "Outcome<'a>::exit", "Exit { code }", "of what the run ended in"),
-    ("wat_tokens/src/replace.rt", "From<AllocError> for Kept::from", "Kept::Unwritten(io::Error::from(refused))", "of the refused request"),
+    ("wat_tokens/src/kept.rt", "From<AllocError> for Kept::from", "Kept::Unwritten(io::Error::from(refused))", "of the refused request"),
     ("wat_tokens_run/src/respond.rt", "respond", "reported(alloc, &Outcome::Wrong(complaint), None, errors) }", "of words that ask for nothing, by the contract of `respond`"),
     ("wat_tokens_run/src/respond.rt", "respond", "return reported(alloc, &Outcome::Wrong(complaint), None, errors)", "of a word that names no file, by the same"),
     (

@@ -175,6 +175,20 @@ chmod 424 fixed
 run 0 fmt --write fixed
 expect 'one that some may write is written' '(a) 424' "$(cat fixed) $(stat -c %a fixed)"
 
+# What is not a regular file. Something writes to the FIFO, since otherwise a program that opens it would wait.
+mkfifo pipe
+ln -s pipe to_pipe
+for file in pipe to_pipe /dev/null; do
+    (printf '( a )' > pipe) &
+    writer=$!
+    run 2 fmt --write "$file"
+    expect "report of $file" "wat_tokens: $file: not a regular file, left as it is" "$(cat err)"
+    kill "$writer" 2> /dev/null || true
+    wait "$writer" 2> /dev/null || true
+done
+expect 'a FIFO stays one' 'fifo character special file' "$(stat -c %F pipe /dev/null | tr '\n' ' ' | sed 's/ $//')"
+rm pipe to_pipe
+
 # state FILE..: prints the type, inode, owner, group, permissions, length, time and a hash of the text of files
 state() {
     stat -c '%F %i %u:%g %a %s %y' "$@" 2>&1 || true
@@ -235,6 +249,64 @@ kill "$watcher" 2> /dev/null || true
 wait "$watcher" || true
 expect 'a private file is written' '(a) 600' "$(cat private) $(stat -c %a private)"
 expect 'its temporary file is not open to others' $'ready\n0 opened, 0 read' "$(cat watched)"
+
+# process_state PID: prints the letter of a process's state, or nothing if there is no such process
+process_state() {
+    local letter=
+    { read -r _ _ letter _ < "/proc/$1/stat"; } 2> /dev/null || true
+    echo "$letter"
+}
+
+# stop_midway: starts `fmt --write changing` as process `pid`, and stops it while it writes the 20 MB of its temporary file
+stop_midway() {
+    local try
+    for try in {1..20}; do
+        rm -f changing
+        cp long changing
+        "$program" fmt --write changing < /dev/null > out 2> err &
+        pid=$!
+        until [ -e changing.wat_tokens ] || [[ $(process_state "$pid") != [RSD] ]]; do :; done
+        kill -STOP "$pid" 2> /dev/null || true
+        while [[ $(process_state "$pid") = [RSD] ]]; do :; done
+        [ "$(process_state "$pid")" != T ] || [ ! -e changing.wat_tokens ] || return 0
+        kill -CONT "$pid" 2> /dev/null || true
+        wait "$pid" || true
+    done
+    echo "fmt.sh: the program ended $try times before it was stopped"
+    return 1
+}
+
+# change NAME COMMAND: runs a command while the program is stopped, and checks that the program leaves what the command left
+change() {
+    local before status=0
+    stop_midway || {
+        faults=$((faults + 1))
+        return
+    }
+    eval "$2"
+    before=$(state changing)
+    kill -CONT "$pid"
+    wait "$pid" || status=$?
+    expect "status: $1" 2 "$status"
+    expect "report: $1" 'wat_tokens: changing: changed or removed meanwhile, left as it is' "$(cat err)"
+    expect "the file: $1" "$before" "$(state changing)"
+    expect "nothing is left beside it: $1" 'changing.*' "$(echo changing.*)"
+}
+
+# Files that change after they were opened.
+if [ -e /proc/self/stat ]; then
+    { printf '( a )\n;; '; head -c 20000000 /dev/zero | tr '\0' x; } > long
+    change 'another text' "printf '(other work)' > changing"
+    change 'another text of this length and time' \
+        'touch -r changing time; printf b | dd of=changing bs=1 seek=2 conv=notrunc status=none; touch -r time changing'
+    change 'another file' 'cp long other; mv other changing'
+    change 'no file' 'rm changing'
+    change 'a link' 'rm changing; ln -s neat changing'
+    change 'other permissions' 'chmod 600 changing'
+    rm -f changing long time
+else
+    echo 'fmt.sh: what happens if a file changes is left out, as there is no /proc here'
+fi
 
 # Files of more than 1 MB.
 seq -f '( a %.0f )' 300000 > large

@@ -1,12 +1,9 @@
 //! The command `fmt` for files and folders.
-ghost use Rattle.std.specs.Prelude.{◌≡◌, None};
-ghost use Rattle.wat_tokens_io.specs.Plain.{plain_failure};
-
 use crate::folders::{Kind, kind_of, push_entries};
-use crate::input::{Input, open};
+use crate::input::open;
 use crate::patch::{Unwritten, write_patch};
-use crate::replace::replace;
 use crate::report::{complain, name, not_opened, not_written, report};
+use crate::rewrite::{rewrite, rewrite_named};
 use std::fs;
 use wat_tokens_output::input::read_whole;
 use wat_tokens_run::Settings;
@@ -16,31 +13,28 @@ use wat_tokens_run::options::Mode;
 use wat_tokens_run::outcome::{Exit, Outcome};
 use wat_tokens_run::run::RunFailure;
 
-/// Replaces a file by its formatted text, and returns the exit status.
-fn write(rt: &HostRuntime, file: &str, text: &str) -> Exit {
-    match replace(rt, file, text) {
-        Ok(()) => Exit::idle(),
-        Err(kept) => complain(rt, file, &kept),
-    }
+/// Writes the formatted text of a file to standard output, and returns the exit status.
+fn print_formatted(rt: &HostRuntime, settings: Settings, file: &str) -> Exit {
+    let mut input = match open(rt, file) {
+        Ok(input) => input,
+        Err(failed) => return report(rt, file, &Outcome::Unopened(failed)),
+    };
+    let mut output = Plain::new(rt.stdout());
+    let run = run_fmt(rt.alloc(), &mut input, &mut output, settings);
+    report(rt, file, &Outcome::of_run(run))
 }
 
-/// Compares the text of a file with its formatted text, and returns the exit status. If they
-/// differ, replaces the file if `writes` is set, and prints its name otherwise.
-fn compare(
-    rt: &HostRuntime,
-    settings: Settings,
-    writes: bool,
-    file: &str,
-    input: &mut Plain<Input>,
-) -> Exit
-    requires { plain_failure input.old ≡ None }
-{
-    match run_compare(rt.alloc(), input, settings) {
+/// Compares the text of a file with its formatted text, prints the name of the file if they differ,
+/// and returns the exit status.
+fn check(rt: &HostRuntime, settings: Settings, file: &str) -> Exit {
+    let mut input = match open(rt, file) {
+        Ok(input) => input,
+        Err(failed) => return report(rt, file, &Outcome::Unopened(failed)),
+    };
+    match run_compare(rt.alloc(), &mut input, settings) {
         Ok(Compared::Same) => Exit::idle(),
-        Ok(Compared::Faulty(error)) => report(rt, file, &Outcome::Faulty(error)),
-        Ok(Compared::Other(text)) if writes => write(rt, file, text.as_str()),
-        Ok(Compared::Longer) if writes => complain(rt, file, &"its layout is too long"),
         Ok(Compared::Other(_) | Compared::Longer) => name(rt, file),
+        Ok(Compared::Faulty(error)) => report(rt, file, &Outcome::Faulty(error)),
         Err(error) => report(rt, file, &Outcome::Refused(error)),
     }
 }
@@ -59,15 +53,12 @@ fn write_difference(rt: &HostRuntime, file: &str, text: &[u8], layout: &[u8]) ->
 
 /// Compares the text of a file with its formatted text, writes the unified diff if they differ, and
 /// returns the exit status.
-fn show_difference(
-    rt: &HostRuntime,
-    settings: Settings,
-    file: &str,
-    input: &mut Plain<Input>,
-) -> Exit
-    requires { plain_failure input.old ≡ None }
-{
-    let bytes = match read_whole(rt.alloc(), input) {
+fn show_difference(rt: &HostRuntime, settings: Settings, file: &str) -> Exit {
+    let mut input = match open(rt, file) {
+        Ok(input) => input,
+        Err(failed) => return report(rt, file, &Outcome::Unopened(failed)),
+    };
+    let bytes = match read_whole(rt.alloc(), &mut input) {
         Ok(bytes) => bytes,
         Err(error) => return report(rt, file, &Outcome::Refused(error)),
     };
@@ -81,24 +72,13 @@ fn show_difference(
 }
 
 /// Runs `fmt` on a file in one of its modes, and returns the exit status. The name `-` is standard
-/// input, which `Mode::Write` rejects.
+/// input, except in `Mode::Write`, which does not follow a symbolic link either.
 fn format_file(rt: &HostRuntime, settings: Settings, mode: Mode, file: &str) -> Exit {
-    if mode == Mode::Write && file == "-" {
-        return complain(rt, file, &"no file to write");
-    }
-    let mut input = match open(rt, file) {
-        Ok(input) => input,
-        Err(failed) => return report(rt, file, &Outcome::Unopened(failed)),
-    };
     match mode {
-        Mode::Print => {
-            let mut output = Plain::new(rt.stdout());
-            let run = run_fmt(rt.alloc(), &mut input, &mut output, settings);
-            report(rt, file, &Outcome::of_run(run))
-        }
-        Mode::Check => compare(rt, settings, false, file, &mut input),
-        Mode::Diff => show_difference(rt, settings, file, &mut input),
-        Mode::Write => compare(rt, settings, true, file, &mut input),
+        Mode::Print => print_formatted(rt, settings, file),
+        Mode::Check => check(rt, settings, file),
+        Mode::Diff => show_difference(rt, settings, file),
+        Mode::Write => rewrite(rt, settings, file, file),
     }
 }
 
@@ -145,6 +125,9 @@ fn is_folder(rt: &HostRuntime, file: &str) -> bool {
 pub fn lay_out(rt: &HostRuntime, settings: Settings, mode: Mode, file: &str) -> Exit {
     if file != "-" && is_folder(rt, file) {
         return format_folder(rt, settings, mode, file);
+    }
+    if mode == Mode::Write {
+        return rewrite_named(rt, settings, file);
     }
     format_file(rt, settings, mode, file)
 }

@@ -5,10 +5,13 @@ use crate::shim::prelude::*;
 mod diff;
 mod folders;
 mod input;
+mod kept;
 mod layout;
+mod original;
 mod patch;
 mod replace;
 mod report;
+mod rewrite;
 mod target;
 
 use input::{Input, open};
