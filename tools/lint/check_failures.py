@@ -34,8 +34,12 @@ REFUSALS = [
         "Err(EncodeError::Memory) => Err(Error::out_of_memory())",
         "of a variant that holds nothing, and is made of a refusal",
     ),
-    ("wat_module_encoder/src/bytes.rt", "refused", "{ AllocError }", "of a variant that holds nothing, and is made of a refusal"),
-    ("wat_module_encoder/src/bytes.rt", "sum", "None => Err(AllocError)", "of a size that no number says: a request for as many bytes is refused"),
+    (
+        "wat_module_encoder/src/bytes.rt",
+        "refused",
+        "let _ = error; AllocError",
+        "of a variant that holds nothing, and is made of a refusal; the `requires` of `refused` states which",
+    ),
     ("wat_module_ast/src/fields.rt", "len_of", "return Err(AllocError)", "of more bytes than a `Vec` has: a request for them is refused"),
     (
         "wat_tokens/src/main.rt",

@@ -1,5 +1,5 @@
 //! Appends integers, byte strings and sections to the bytes of a module.
-ghost use Rattle.std.specs.Prelude.{◌≡◌, ◌<◌, ◌≤◌, pos, ◌+◌, ◌++◌, ◌^◌, ◌∷◌, [], OnOk, IfErr, IfOk};
+ghost use Rattle.std.specs.Prelude.{◌≡◌, ◌<◌, pos, ◌++◌, ◌^◌, ◌∷◌, [], OnOk};
 ghost use Rattle.wat_lex.specs.binary.Encoding.{text_encoding};
 ghost use Rattle.wat_lex.specs.binary.Leb128.{signed_leb128, unsigned_leb128};
 ghost use Rattle.wat_module_encoder.specs.Views.{counted_section, section_head};
@@ -7,8 +7,11 @@ ghost use Rattle.wat_module_encoder.specs.Views.{counted_section, section_head};
 use std::alloc::{AllocError, Global};
 use wat_lex::encode::{Encode, EncodeError};
 
-/// Converts the error of encoding an integer, which fails only if an allocation fails.
-fn refused(_: EncodeError) -> AllocError {
+/// Converts the error of encoding an integer, which must be an allocation failure.
+fn refused(error: EncodeError) -> AllocError
+    requires { error ≡ EncodeError.Memory }
+{
+    let _ = error;
     AllocError
 }
 
@@ -94,7 +97,8 @@ pub(crate) fn put_section(
 }
 
 /// Appends the id `number` of a section, its size, and its count of items. The size is that of the
-/// count and of the `len` bytes of items, which the caller appends.
+/// count and of the `len` bytes of items, which the caller appends. If `len` is 2^63 or more, the
+/// size is unspecified: no `Vec` can hold that many bytes.
 pub(crate) fn put_head(
     alloc: Global,
     out: &mut Vec<u8>,
@@ -102,23 +106,13 @@ pub(crate) fn put_head(
     count: usize,
     len: usize,
 ) -> Result<(), AllocError>
-    ensures { OnOk result (out.new.items ≡ out.old.items ++ section_head number count len) }
+    ensures { OnOk result (len < 2 ^ 63 →
+        out.new.items ≡ out.old.items ++ section_head number count len) }
 {
     let mut counted = Vec::new(alloc);
     put(&mut counted, count)?;
     out.push(number)?;
-    put(out, sum(counted.len(), len)?)?;
+    put(out, counted.len().saturating_add(len))?;
     out.extend_from_slice(&counted)?;
     Ok(())
-}
-
-/// Returns the sum of two sizes, or an allocation failure if it is 2^64 or more.
-pub(crate) fn sum(one: usize, other: usize) -> Result<usize, AllocError>
-    ensures is { IfOk result (λ n. n ≡ one + other) }
-    ensures refused { IfErr result (λ e. 2 ^ 64 ≤ one + other) }
-{
-    match one.checked_add(other) {
-        Some(sum) => Ok(sum),
-        None => Err(AllocError),
-    }
 }

@@ -1,5 +1,5 @@
 //! Encodes the data section and the data count section.
-ghost use Rattle.std.specs.Prelude.{◌≡◌, ◌+◌, ◌++◌, OnOk, IfOk, length, map};
+ghost use Rattle.std.specs.Prelude.{◌≡◌, ◌+◌, ◌-◌, ◌^◌, ◌++◌, OnOk, IfOk, length, map, min};
 ghost use Rattle.std.specs.List.{flat_map, list_any};
 ghost use Rattle.wat_module_ast.specs.Fields as grammar;
 ghost use Rattle.wat_module_ast.specs.Views.{field_of, fields_of, together};
@@ -7,7 +7,7 @@ ghost use Rattle.wat_module_encoder.specs.Binary as binary;
 ghost use Rattle.wat_module_encoder.specs.Views.{counts_of, data_by, data_target_of, segment_head};
 ghost use Rattle.wat_module_encoder.specs.Views.{segment_of};
 
-use crate::bytes::{put, put_head, put_sized, sum};
+use crate::bytes::{put, put_head, put_sized};
 use crate::indices::{Counts, NO_ITEMS, counted};
 use crate::instructions::{put_instructions, zero};
 use std::alloc::{AllocError, Global};
@@ -163,20 +163,21 @@ fn put_segment_head(
     Ok(len)
 }
 
-/// Returns the total size of the encoded data segments, in bytes.
+/// Returns the total size of the encoded data segments, in bytes, or `usize::MAX` if it is greater.
 fn segments_len(
     alloc: Global,
     types: &IndexedTypes,
     segments: &[Segment<'_>],
 ) -> Result<usize, AllocError>
     ensures { IfOk result (λ len. len ≡
-        length (flat_map (binary.data_bytes types.now) (map segment_of segments.now))) }
+        min (length (flat_map (binary.data_bytes types.now) (map segment_of segments.now)))
+        (2 ^ 64 - 1)) }
 {
-    let mut all = 0;
+    let mut all: usize = 0;
     for segment in segments {
         let mut head = Vec::new(alloc);
         let len = put_segment_head(&mut head, types, *segment)?;
-        all = sum(all, sum(head.len(), len)?)?;
+        all = all.saturating_add(head.len()).saturating_add(len);
     }
     Ok(all)
 }

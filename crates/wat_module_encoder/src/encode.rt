@@ -27,7 +27,7 @@ const HEADER: [u8; 8] = [0x00, 0x61, 0x73, 0x6D, 0x01, 0x00, 0x00, 0x00];
 ///
 /// # Errors
 ///
-/// Fails if an allocation fails, or if the size of a section is 2^64 or more.
+/// Fails if an allocation fails, or if the strings of a data segment have 2^63 bytes or more.
 #[tactic(auto, unfolding(crate::specs::Binary::module_bytes))]
 pub fn module_bytes(alloc: Global, fields: &[Field<'_>]) -> Result<Vec<u8>, AllocError>
     ensures { IfOk result (λ bytes. bytes.items ≡ binary.module_bytes (fields_of fields.now)) }

@@ -5,8 +5,15 @@ use wat_lex::shim::prelude::*;
 use wat_lex::shim::alloc::{AllocError, Global};
 use wat_lex::proved::encode::{Encode, EncodeError};
 
-/// Converts the error of encoding an integer, which fails only if an allocation fails.
-fn refused(_: EncodeError) -> AllocError {
+/// Converts the error of encoding an integer, which must be an allocation failure.
+///
+/// # Proved
+///
+/// ```text
+/// requires { error ≡ EncodeError.Memory }
+/// ```
+fn refused(error: EncodeError) -> AllocError {
+    let _ = error;
     AllocError
 }
 
@@ -124,12 +131,14 @@ pub(crate) fn put_section(
 }
 
 /// Appends the id `number` of a section, its size, and its count of items. The size is that of the
-/// count and of the `len` bytes of items, which the caller appends.
+/// count and of the `len` bytes of items, which the caller appends. If `len` is 2^63 or more, the
+/// size is unspecified: no `Vec` can hold that many bytes.
 ///
 /// # Proved
 ///
 /// ```text
-/// ensures { OnOk result (out.new.items ≡ out.old.items ++ section_head number count len) }
+/// ensures { OnOk result (len < 2 ^ 63 →
+/// out.new.items ≡ out.old.items ++ section_head number count len) }
 /// ```
 pub(crate) fn put_head(
     alloc: Global,
@@ -141,22 +150,7 @@ pub(crate) fn put_head(
     let mut counted = Vec::new(alloc);
     put(&mut counted, count)?;
     out.push(number)?;
-    put(out, sum(counted.len(), len)?)?;
+    put(out, counted.len().saturating_add(len))?;
     out.extend_from_slice(&counted)?;
     Ok(())
-}
-
-/// Returns the sum of two sizes, or an allocation failure if it is 2^64 or more.
-///
-/// # Proved
-///
-/// ```text
-/// ensures is { IfOk result (λ n. n ≡ one + other) }
-/// ensures refused { IfErr result (λ e. 2 ^ 64 ≤ one + other) }
-/// ```
-pub(crate) fn sum(one: usize, other: usize) -> Result<usize, AllocError> {
-    match one.checked_add(other) {
-        Some(sum) => Ok(sum),
-        None => Err(AllocError),
-    }
 }

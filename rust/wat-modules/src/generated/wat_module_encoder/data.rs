@@ -2,7 +2,7 @@
 //! Encodes the data section and the data count section.
 
 use wat_lex::shim::prelude::*;
-use crate::encoder::bytes::{put, put_head, put_sized, sum};
+use crate::encoder::bytes::{put, put_head, put_sized};
 use crate::encoder::indices::{Counts, NO_ITEMS, counted};
 use crate::encoder::instructions::{put_instructions, zero};
 use wat_lex::shim::alloc::{AllocError, Global};
@@ -181,24 +181,25 @@ fn put_segment_head(
     Ok(len)
 }
 
-/// Returns the total size of the encoded data segments, in bytes.
+/// Returns the total size of the encoded data segments, in bytes, or `usize::MAX` if it is greater.
 ///
 /// # Proved
 ///
 /// ```text
 /// ensures { IfOk result (λ len. len ≡
-/// length (flat_map (binary.data_bytes types.now) (map segment_of segments.now))) }
+/// min (length (flat_map (binary.data_bytes types.now) (map segment_of segments.now)))
+/// (2 ^ 64 - 1)) }
 /// ```
 fn segments_len(
     alloc: Global,
     types: &IndexedTypes,
     segments: &[Segment<'_>],
 ) -> Result<usize, AllocError> {
-    let mut all = 0;
+    let mut all: usize = 0;
     for segment in segments {
         let mut head = Vec::new(alloc);
         let len = put_segment_head(&mut head, types, *segment)?;
-        all = sum(all, sum(head.len(), len)?)?;
+        all = all.saturating_add(head.len()).saturating_add(len);
     }
     Ok(all)
 }
