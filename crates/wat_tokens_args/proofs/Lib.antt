@@ -1,4 +1,5 @@
 mod ArgumentLaws
 mod CallLaws
+mod ComplaintLaws
 mod LineLaws
 mod OptionLaws

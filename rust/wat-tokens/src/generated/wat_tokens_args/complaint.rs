@@ -164,7 +164,14 @@ fn goes_beyond(words: &[String], there: bool) -> bool {
 
 /// Returns the first of four options that is given more than once: `--allow-confusing`,
 /// `--strict-underscores`, `--json` and `-o`.
-fn twice(line: Line<'_>) -> Option<&'static str> {
+///
+/// # Proved
+///
+/// ```text
+/// ensures { option_map (λ option. option.now) result
+/// ≡ repeated (all_args (line_parts line.entry)) }
+/// ```
+fn repeated(line: Line<'_>) -> Option<&'static str> {
     if line.times(Kind::Allow) > 1 {
         return Some("--allow-confusing");
     }
@@ -180,79 +187,206 @@ fn twice(line: Line<'_>) -> Option<&'static str> {
     None
 }
 
+/// Returns `true` if a word is `--check`, `--write` or `--diff`.
+///
+/// # Proved
+///
+/// ```text
+/// ensures { result ≡ is_mode word.now }
+/// ```
+fn is_mode(word: &String) -> bool {
+    matches!(word.as_str(), "--check" | "--write" | "--diff")
+}
+
 /// Returns the complaint about a word that is neither an accepted option nor a file.
-fn wrong_argument(word: &String) -> Complaint<'_> {
+///
+/// # Proved
+///
+/// ```text
+/// ensures { reason_of result ≡ wrong_word word.now }
+/// ```
+fn wrong_word(word: &String) -> Complaint<'_> {
     if is_name_option(word) {
         Complaint::Nameless(word.as_str())
     } else if asks_for_words(word) {
         Complaint::Late(word.as_str())
-    } else if matches!(word.as_str(), "--check" | "--write" | "--diff") {
+    } else if is_mode(word) {
         Complaint::NoMode
     } else {
         Complaint::Unknown(word.as_str())
     }
 }
 
-/// Returns `true` if `--check`, `--write` or `--diff` is given.
-fn has_mode(line: Line<'_>) -> bool {
-    line.times(Kind::Check) > 0 || line.times(Kind::Write) > 0 || line.times(Kind::Diff) > 0
+/// Returns the complaint about the first word after the leading options, or `None` if it is a
+/// command or a file. `there` must be as for `complaint_of`.
+///
+/// # Proved
+///
+/// ```text
+/// ensures { option_map reason_of result ≡ wrong_start there words.now }
+/// ```
+fn wrong_start(words: &[String], there: bool) -> Option<Complaint<'_>> {
+    let Some((word, _)) = words.split_first() else {
+        return None;
+    };
+    if is_own_option(word) || !is_file(word) {
+        return Some(wrong_word(word));
+    }
+    if verb_named(word).is_some() || looks_like_file(word) || there {
+        return None;
+    }
+    Some(Complaint::Nothing(word.as_str()))
+}
+
+/// Returns `true` if an argument of this kind is given, and the command does not accept it.
+///
+/// # Proved
+///
+/// ```text
+/// ensures { result ≡ rejects (line_parts line.entry) kind }
+/// ```
+fn rejects(line: Line<'_>, kind: Kind) -> bool {
+    line.times(kind) > 0 && !line.verb.takes(kind)
+}
+
+/// Returns `true` if a lexer flag is given, and the command does not accept it.
+///
+/// # Proved
+///
+/// ```text
+/// ensures { result ≡ (rejects (line_parts line.entry) Kind.Allow
+/// || rejects (line_parts line.entry) Kind.Strict) }
+/// ```
+fn rejects_flags(line: Line<'_>) -> bool {
+    rejects(line, Kind::Allow) || rejects(line, Kind::Strict)
+}
+
+/// Returns `true` if `--check`, `--write` or `--diff` is given, and the command is not `fmt`.
+///
+/// # Proved
+///
+/// ```text
+/// ensures { result ≡ (rejects (line_parts line.entry) Kind.Check
+/// || (rejects (line_parts line.entry) Kind.Write
+/// || rejects (line_parts line.entry) Kind.Diff)) }
+/// ```
+fn rejects_mode(line: Line<'_>) -> bool {
+    rejects(line, Kind::Check) || rejects(line, Kind::Write) || rejects(line, Kind::Diff)
 }
 
 /// Returns the complaint about an option that the command does not accept, if there is one.
-fn wrong_options(line: Line<'_>) -> Option<Complaint<'_>> {
-    if !line.verb.takes(Kind::Json) && line.wants_json() {
+///
+/// # Proved
+///
+/// ```text
+/// ensures { option_map reason_of result ≡ wrong_option (line_parts line.entry) }
+/// ```
+fn wrong_option(line: Line<'_>) -> Option<Complaint<'_>> {
+    if rejects(line, Kind::Json) {
         return Some(Complaint::NoJson);
     }
-    if !line.verb.takes(Kind::Allow)
-        && (line.times(Kind::Allow) > 0 || line.times(Kind::Strict) > 0)
-    {
+    if rejects_flags(line) {
         return Some(Complaint::NoFlags);
     }
-    if !line.verb.takes(Kind::Output) && line.times(Kind::Output) > 0 {
+    if rejects(line, Kind::Output) {
         return Some(Complaint::NoOutput);
     }
-    if !line.verb.takes(Kind::Check) && has_mode(line) {
+    if rejects_mode(line) {
         return Some(Complaint::NoMode);
     }
     None
 }
 
-/// Returns the complaint about a command and its arguments.
-fn wrong_command(line: Line<'_>) -> Complaint<'_> {
-    if let Some(complaint) = wrong_options(line) {
-        return complaint;
-    }
-    if let Some(word) = first(Kind::Wrong, line.args) {
-        return wrong_argument(word);
-    }
-    match line.verb {
-        Verb::Fmt if line.mode().is_none() => Complaint::Modes,
-        Verb::Play if !line.files().are_several() => Complaint::NoCall,
-        _ if line.times(Kind::File) > 0 && !line.last.is_empty() => Complaint::Mixed,
-        _ => Complaint::TooMany,
+/// Returns `true` if the command is `fmt`, and `--check`, `--write` and `--diff` are together given
+/// more than once.
+///
+/// # Proved
+///
+/// ```text
+/// ensures { result ≡ (formats line.entry.verb
+/// && nat_lt 1 (modes_in (all_args (line_parts line.entry)))) }
+/// ```
+fn has_several_modes(line: Line<'_>) -> bool {
+    line.verb == Verb::Fmt && line.mode().is_none()
+}
+
+/// Returns `true` if the command is `play`, with at most one file.
+///
+/// # Proved
+///
+/// ```text
+/// ensures { result ≡ (plays line.entry.verb
+/// && not (nat_lt 1 (length (files_of (line_parts line.entry))))) }
+/// ```
+fn plays_one(line: Line<'_>) -> bool {
+    line.verb == Verb::Play && !line.files().are_several()
+}
+
+/// Returns `true` if there are files both before and after `--`.
+///
+/// # Proved
+///
+/// ```text
+/// ensures { result ≡ (nat_lt 0 (times Kind.File (all_args (line_parts line.entry)))
+/// && nat_lt 0 (length line.entry.last.now)) }
+/// ```
+fn has_mixed_files(line: Line<'_>) -> bool {
+    line.times(Kind::File) > 0 && !line.last.is_empty()
+}
+
+/// Returns the complaint about a command that accepts each of its arguments.
+///
+/// # Proved
+///
+/// ```text
+/// ensures { reason_of result ≡ wrong_number (line_parts line.entry) }
+/// ```
+fn wrong_number(line: Line<'_>) -> Complaint<'_> {
+    if has_several_modes(line) {
+        Complaint::Modes
+    } else if plays_one(line) {
+        Complaint::NoCall
+    } else if has_mixed_files(line) {
+        Complaint::Mixed
+    } else {
+        Complaint::TooMany
     }
 }
 
-/// Returns the complaint about a command line that goes beyond the usage line.
+/// Returns the complaint about a command and its arguments.
+///
+/// # Proved
+///
+/// ```text
+/// ensures { reason_of result ≡ wrong_command (line_parts line.entry) }
+/// ```
+fn wrong_command(line: Line<'_>) -> Complaint<'_> {
+    if let Some(complaint) = wrong_option(line) {
+        return complaint;
+    }
+    match first(Kind::Wrong, line.args) {
+        Some(word) => wrong_word(word),
+        None => wrong_number(line),
+    }
+}
+
+/// Returns the complaint about a command line that goes beyond the usage line. `there` must be as
+/// for `complaint_of`.
+///
+/// # Proved
+///
+/// ```text
+/// ensures { reason_of result ≡ reason_beyond there words.now }
+/// ```
 fn wrong_beyond(words: &[String], there: bool) -> Complaint<'_> {
     let line = Line::of(words);
-    if let Some(flag) = twice(line) {
-        return Complaint::Twice(flag);
+    if let Some(option) = repeated(line) {
+        return Complaint::Twice(option);
     }
-    let Some((word, _)) = after_front(words).split_first() else {
-        return wrong_command(line);
-    };
-    if is_own_option(word) {
-        return wrong_argument(word);
+    if let Some(complaint) = wrong_start(after_front(words), there) {
+        return complaint;
     }
-    if verb_named(word).is_some() || looks_like_file(word) || (there && is_file(word)) {
-        return wrong_command(line);
-    }
-    if is_file(word) {
-        Complaint::Nothing(word.as_str())
-    } else {
-        wrong_argument(word)
-    }
+    wrong_command(line)
 }
 
 /// Returns the complaint about an invalid command line. `there` must be `false` if the word of
@@ -262,14 +396,14 @@ fn wrong_beyond(words: &[String], there: bool) -> Complaint<'_> {
 /// # Proved
 ///
 /// ```text
-/// ensures { (result ≡ Complaint.Usage) ↔ (goes_beyond there words.now ≡ false) }
+/// ensures usage { (result ≡ Complaint.Usage) ↔ (goes_beyond there words.now ≡ false) }
+///
+/// // The first rule that applies determines the complaint and its word.
+/// ensures reason { reason_of result ≡ reason_in there words.now }
 /// ```
 pub fn complaint_of(words: &[String], there: bool) -> Complaint<'_> {
     if !goes_beyond(words, there) {
         return Complaint::Usage;
     }
-    match wrong_beyond(words, there) {
-        Complaint::Usage => Complaint::TooMany,
-        complaint => complaint,
-    }
+    wrong_beyond(words, there)
 }
