@@ -1,6 +1,5 @@
 // The names of identifiers and annotations. The lexer has accepted their tokens, so each escape is valid.
 const LETTERS = { t: 9, n: 10, r: 13, '"': 34, "'": 39, '\\': 92 };
-const encoder = new TextEncoder();
 const strict = new TextDecoder('utf-8', { fatal: true, ignoreBOM: true });
 
 // Returns the value of the escape at the backslash at an offset, a byte or a character, and the offset after the escape.
@@ -15,6 +14,7 @@ function escapeAt(elements, at) {
 
 // Returns the bytes of a string's elements.
 function unescaped(elements) {
+  const encoder = new TextEncoder();
   // A UTF-16 code unit has at most three bytes, and an escape has fewer bytes than code units.
   const bytes = new Uint8Array(3 * elements.length);
   let length = 0, at = 0;
