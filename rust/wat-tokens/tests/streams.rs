@@ -4,7 +4,9 @@
 use std::ffi::OsStr;
 use std::fs::{self, File};
 use std::io::{Read, Seek, Write};
+use std::os::fd::OwnedFd;
 use std::os::unix::ffi::OsStrExt;
+use std::os::unix::net::UnixDatagram;
 use std::path::PathBuf;
 use std::process::{Command, Output, Stdio};
 use std::thread::spawn;
@@ -157,4 +159,37 @@ fn a_long_name_is_printed_whole() {
         ended(&mut program(&["fmt", "--check", &missing])),
         refused(&report)
     );
+}
+
+/// Runs a command, and returns each of its writes to standard error.
+fn reports(command: &mut Command) -> Vec<Vec<u8>> {
+    let (reader, writer) = UnixDatagram::pair().unwrap();
+    let ends = writer.try_clone().unwrap();
+    let read = spawn(move || {
+        let mut block = vec![0; 1 << 16];
+        let mut blocks = Vec::new();
+        loop {
+            match reader.recv(&mut block).unwrap() {
+                0 => return blocks,
+                len => blocks.push(block[..len].to_vec()),
+            }
+        }
+    });
+    command.stderr(OwnedFd::from(writer)).status().unwrap();
+    ends.send(&[]).unwrap();
+    read.join().unwrap()
+}
+
+#[test]
+fn a_report_is_written_in_blocks() {
+    // The report has four spaces for each tab, and formats them one by one.
+    let text = Kept::new("tabs", format!("\u{e9}{}", "\t".repeat(10_000)).as_bytes());
+    for words in [&["-"][..], &["list"], &["module"], &["fmt"]] {
+        let mut command = program(words);
+        command.stdin(File::open(&text.0).unwrap());
+        let writes = reports(command.stdout(Stdio::null()));
+        let report = String::from_utf8(writes.concat()).unwrap();
+        assert!(report.contains(":1:1\n"), "{words:?}: {report:.100}");
+        assert_eq!(writes.len(), report.len().div_ceil(8192), "{words:?}");
+    }
 }

@@ -5,8 +5,8 @@ use core::fmt;
 #[cfg(test)]
 mod tests;
 
-/// Capacity of the buffer, in bytes: a line of at most this length is written in a single call.
-const ROOM: usize = 1024;
+/// Capacity of the buffer, in bytes: a text of at most this length is written in a single call.
+const ROOM: usize = 8192;
 
 /// A [`fmt::Write`] that buffers text and writes it to a stream.
 struct Printer<W> {
@@ -46,19 +46,24 @@ impl<W: Write> fmt::Write for Printer<W> {
     }
 }
 
-/// Prints a value and a line feed. If the value's `Display` fails, the text that it printed before is still written.
+/// Prints a value and a line feed, like [`print`].
+pub fn println<W: Write>(output: W, value: impl fmt::Display) -> Result<()> {
+    print(output, format_args!("{value}\n"))
+}
+
+/// Prints a text. If the `Display` of one of its values fails, the text that was printed before is still written.
 ///
 /// # Errors
 ///
-/// Returns the error of the write that failed, or an error of the kind `Other` if the value's `Display` failed.
-pub fn println<W: Write>(output: W, value: impl fmt::Display) -> Result<()> {
+/// Returns the error of the write that failed, or an error of the kind `Other` if a `Display` failed.
+pub fn print<W: Write>(output: W, text: fmt::Arguments<'_>) -> Result<()> {
     let mut printer = Printer {
         output,
         bytes: [0; ROOM],
         used: 0,
         error: None,
     };
-    let printed = fmt::Write::write_fmt(&mut printer, format_args!("{value}\n"));
+    let printed = fmt::Write::write_fmt(&mut printer, text);
     let flushed = printer.flush();
     match printer.error {
         Some(error) => Err(error),

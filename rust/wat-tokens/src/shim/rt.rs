@@ -2,8 +2,7 @@
 use crate::shim::alloc::Global;
 use crate::shim::io::{self, IsTerminal, Read, Write};
 use crate::shim::print;
-use core::fmt::Display;
-pub use std::io::Stderr;
+use core::fmt::{Arguments, Display};
 
 /// A handle of the process, which every function that accesses the process or the system has as a parameter.
 #[derive(Clone, Copy, Debug)]
@@ -32,9 +31,9 @@ impl HostRuntime {
         Stdout
     }
 
-    /// Returns standard error, which is unbuffered.
+    /// Returns standard error.
     pub fn stderr(&self) -> Stderr {
-        io::stderr()
+        Stderr
     }
 
     /// Prints a line to standard output.
@@ -44,7 +43,7 @@ impl HostRuntime {
 
     /// Prints a line to standard error.
     pub fn eprintln(&self, value: impl Display) -> io::Result<()> {
-        print::println(io::stderr(), value)
+        print::println(Stderr, value)
     }
 }
 
@@ -55,6 +54,10 @@ pub struct Stdin;
 /// Standard output. On Unix it is unbuffered: each write is a single system call.
 #[derive(Clone, Copy, Debug)]
 pub struct Stdout;
+
+/// Standard error. A text that is formatted, such as the report of an error, is buffered and written in blocks; a `write` is a single system call.
+#[derive(Clone, Copy, Debug)]
+pub struct Stderr;
 
 impl Stdout {
     /// Returns `true` if standard output is a terminal.
@@ -76,6 +79,20 @@ impl Write for Stdout {
 
     fn flush(&mut self) -> io::Result<()> {
         streams::output()?.flush()
+    }
+}
+
+impl Write for Stderr {
+    fn write(&mut self, bytes: &[u8]) -> io::Result<usize> {
+        io::stderr().write(bytes)
+    }
+
+    fn flush(&mut self) -> io::Result<()> {
+        io::stderr().flush()
+    }
+
+    fn write_fmt(&mut self, text: Arguments<'_>) -> io::Result<()> {
+        print::print(Stderr, text)
     }
 }
 
