@@ -190,6 +190,7 @@ fn a_report_is_written_in_blocks() {
         let writes = reports(command.stdout(Stdio::null()));
         let report = String::from_utf8(writes.concat()).unwrap();
         assert!(report.contains(":1:1\n"), "{words:?}: {report:.100}");
-        assert_eq!(writes.len(), report.len().div_ceil(8192), "{words:?}");
+        let blocks = report.len().div_ceil(8192);
+        assert!(writes.len() <= blocks, "{words:?}: {} writes", writes.len());
     }
 }
