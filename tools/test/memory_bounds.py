@@ -206,6 +206,39 @@ def files(room):
     stay("fmt --write, five files", laid)
 
 
+def modules(room):
+    """Compiles modules of more than a megabyte."""
+    text, wanted = module(36_000)
+    room.check("module, types", ["module"], text, times=35, writes=1, wanted=wanted)
+    text = b"(module\n" + b"".join(b"(func $f%d (result i32) i32.const %d call $f%d)\n" % (i, i, i) for i in range(24_000)) + b")"
+    compiled = room.check("module, functions", ["module"], text, times=24, writes=1)
+    if not compiled.startswith(b"\0asm\x01\0\0\0"):
+        room.faults.append("module, functions: it wrote no module")
+    room.file("long.wat", text)
+    room.check("module -o", ["module", "long.wat", "-o", "made"], size=len(text), times=24, writes=0, opens=2, wanted=b"")
+    if (room.folder / "made").read_bytes() != compiled:
+        room.faults.append("module -o: the file is not the module")
+
+
+def long_files(room):
+    """Formats files of more than a megabyte: --check leaves them, and --write replaces them by the whole text that `fmt` writes."""
+    text = "".join(lines(40_000)).encode().replace(b" (param", b"\n\n   (param")
+    room.file("long.wat", text)
+    laid = room.check("fmt, 2 MB", ["fmt", "long.wat"], size=len(text), times=1.6, writes=60, opens=1)
+    for option, left, writes, status in (("--check", text, 1, 1), ("--write", laid, 0, 0), ("--check", laid, 0, 0)):
+        room.check(f"fmt {option}, 2 MB", ["fmt", option, "long.wat"], size=len(text), times=3.1, writes=writes, opens=3, status=status)
+        if (room.folder / "long.wat").read_bytes() != left:
+            room.faults.append(f"fmt {option}, 2 MB: the file is not as it must be")
+
+
+def reports(room):
+    """Reports an error in a line of a megabyte, which the report contains: with four spaces for a tab, and three bytes for a NUL."""
+    for name, text, times in (("letters", b"a", 11), ("tabs", b"\t", 24), ("NULs", b"\0", 15)):
+        room.file("line.wat", "é".encode() + 1_000_000 * text)
+        for words in (["list"], ["--json", "list"], ["blank"], ["types"], ["module"], ["fmt"], ["fmt", "--check"]):
+            room.check(f"{name}, {' '.join(words)}", [*words, "line.wat"], size=1_000_002, times=times, writes=1, opens=1, status=1)
+
+
 def main():
     if len(sys.argv) != 2:
         print(__doc__.split("\n\n")[1], file=sys.stderr)
@@ -213,7 +246,7 @@ def main():
     with tempfile.TemporaryDirectory() as folder:
         room = Room(sys.argv[1], folder)
         print(f"{'run':34} {'bytes':>9} {'asked':>10} {'each':>6} {'bound':>6} {'held':>5} {'writes':>6} {'bound':>6}")
-        for part in (lists, groups, plays, types, layouts, files):
+        for part in (lists, groups, plays, types, layouts, files, modules, long_files, reports):
             part(room)
     for fault in room.faults:
         print(f"memory_bounds.py: {fault}")
