@@ -1,7 +1,8 @@
 #!/usr/bin/env python3
 """Compares the declarations of the C header with those of the library, both in Rattle and in the Rust that tools/erase generates from it. It compares
-the names and types of parameters and of struct fields, in order, the return types, and the codes of lexical errors and of token kinds. A slice of
-Rattle is a pointer and a length in C and in Rust, and an allocator parameter of Rattle does not occur there.
+the names and types of parameters and of struct fields, in order, the return types, and the codes of lexical errors, token kinds, signs, and the
+reasons why a reader or `wat_shown` has no result. A slice of Rattle is a pointer and a length in C and in Rust, and an allocator parameter of Rattle
+does not occur there.
 
 usage: compare_declarations.py
 """
@@ -16,6 +17,8 @@ RATTLE = sorted(path for name in ("wat_c", "wat_c_records") for path in (PROJECT
 NUMBERS = {"uint8_t": "u8", "uint32_t": "u32", "uint64_t": "u64", "size_t": "usize", "bool": "bool"}
 # Structs whose name in the library is not the C name without `wat_`.
 STRUCTS = {"wat_token": "TokenRow", "wat_kind": "KindRow", "wat_range": "Word"}
+# The C name of a variant's code, without `WAT_` and underscores, if it is not the variant's name.
+CODES = {"Refusal::Memory": "NOMEMORY", "NotVisible::Memory": "LOOKNOMEMORY"}
 # The C name of a slice's length, if it is not the slice's name followed by `_len`.
 LENGTHS = {"text": "len", "out": "room", "rows": "count", "ends": "names_count", "feeds": "feeds_count"}
 
@@ -75,7 +78,10 @@ def read_library(text):
     structs = re.findall(r"#\[repr\(C\)\]\n(?:#.*\n)*pub struct (\w+) \{([^}]*)\}", text)
     numbers = {name.upper(): int(code) for name, code in re.findall(r"LexError::(\w+).* => (\d+),", text)}
     tags = re.findall(r"TokenKind::(\w+) => (\d),", text)
-    return functions, {name: listed(fields) for name, fields in structs}, numbers | {name.upper(): int(tag) + 1 for name, tag in tags}
+    numbers |= {name.upper(): int(tag) + 1 for name, tag in tags}
+    codes = re.findall(r"\b((?:Refusal|NotVisible|SignToken)::(\w+)).*=> (?:\(\w+, )?(\d+)\b", text)
+    numbers |= {CODES.get(path, name.upper()): int(code) for path, name, code in codes}
+    return functions, {name: listed(fields) for name, fields in structs}, numbers
 
 
 def compare(language, library, header):
