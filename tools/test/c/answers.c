@@ -29,6 +29,12 @@ static struct wat_row first_row(const char *text) {
     return row;
 }
 
+/* Returns the part of a float with this index, or an unknown part if there is none. */
+static uint32_t part_of(char digit) {
+    static const uint32_t parts[] = {WAT_INTEGRAL, WAT_FRACTIONAL, WAT_EXPONENT, WAT_PAYLOAD};
+    return digit < '4' ? parts[digit - '0'] : UINT32_MAX;
+}
+
 /* Returns the result of a reader at the start of a text. `reader` is a letter, in uppercase for a reader by row, and the index of a float's part. */
 static struct wat_answer answer(const char *reader, const char *text, uint8_t *out, size_t capacity) {
     const uint8_t *bytes = bytes_of(text);
@@ -53,9 +59,9 @@ static struct wat_answer answer(const char *reader, const char *text, uint8_t *o
     case 'I':
         return wat_digits_of(bytes, len, &row, out, capacity);
     case 'p':
-        return wat_float(bytes, len, 0, false, false, (uint32_t)(reader[1] - '0'), out, capacity);
+        return wat_float(bytes, len, 0, false, false, part_of(reader[1]), out, capacity);
     case 'P':
-        return wat_float_of(bytes, len, &row, (uint32_t)(reader[1] - '0'), out, capacity);
+        return wat_float_of(bytes, len, &row, part_of(reader[1]), out, capacity);
     default:
         return none;
     }
@@ -208,6 +214,27 @@ static void shown(void) {
     expect(wat_after(rows, 13, 0) == 0 && wat_after(rows, 13, 2) == 2, "wat_after", text);
 }
 
+/* Checks why no row is visible in the group of an unregistered name that is not closed, or that ends at a lexical error. */
+static void hidden(void) {
+    static const struct {
+        const char *text;
+        uint32_t row, status;
+    } rows_of[] = {{"(@a (b)", 0, WAT_UNCLOSED}, {"(@a (;", 2, WAT_TEXT_FAULT}};
+    static const size_t end = 1;
+    size_t i;
+    for (i = 0; i < sizeof rows_of / sizeof *rows_of; i++) {
+        const char *text = rows_of[i].text;
+        struct wat_row rows[8];
+        struct wat_filled filled;
+        struct wat_look look;
+        memset(rows, 0, sizeof rows);
+        filled = wat_rows(bytes_of(text), strlen(text), 0, false, false, rows, 8);
+        wat_links(rows, filled.count);
+        look = wat_shown(bytes_of(text), strlen(text), rows, filled.count, filled.why, 0, bytes_of(""), 0, &end, 0);
+        expect(looks(look, rows_of[i].row, rows_of[i].status), "wat_shown", text);
+    }
+}
+
 static bool is_word(struct wat_range word, uint32_t start, uint32_t len, uint32_t status) {
     return word.start == start && word.len == len && word.status == status;
 }
@@ -252,9 +279,30 @@ static void messages(void) {
     expect(prints("x.wat", "no such word\n     --> x.wat:1:3\n      |\n    1 | a b\n      |   ^"), "wat_print", "a b");
     expect(given.needed == 29 && memcmp(out, "unexpected character '\\u{80}'", 29) == 0, "wat_message", "102");
     expect(wat_message(0, 0, 0, out, CAPACITY).status == WAT_OTHER, "wat_message", "0");
-    expect(strcmp(wat_kind_name(WAT_NAN), "Float") == 0 && wat_kind_name(WAT_OPENS_AT)[0] == '\0', "wat_kind_name", "13, 16");
-    expect(strcmp(wat_fault_name(WAT_EMPTY_ID), "EmptyId") == 0 && wat_fault_name(100)[0] == '\0', "wat_fault_name", "114, 100");
     expect(wat_version() == WAT_VERSION, "wat_version", WAT_VERSION_TEXT);
+}
+
+/* Checks that each kind and each error has its name, and that no other number has one. */
+static void names(void) {
+    static const char *const kinds[UINT8_MAX + 1] = {
+        [WAT_LINE_COMMENT] = "LineComment", [WAT_BLOCK_COMMENT] = "BlockComment", [WAT_WHITESPACE] = "Whitespace", [WAT_LPAREN] = "LParen",
+        [WAT_RPAREN] = "RParen", [WAT_STRING] = "String", [WAT_ID] = "Id", [WAT_KEYWORD] = "Keyword", [WAT_ANNOTATION] = "Annotation",
+        [WAT_RESERVED] = "Reserved", [WAT_INTEGER] = "Integer", [WAT_INF] = "Float", [WAT_NAN] = "Float", [WAT_NAN_PAYLOAD] = "Float",
+        [WAT_FLOAT] = "Float"};
+    static const char *const faults[UINT8_MAX + 1] = {
+        [WAT_DANGLING_BLOCK_COMMENT] = "DanglingBlockComment", [WAT_UNEXPECTED] = "Unexpected",
+        [WAT_INVALID_STRING_ELEMENT] = "InvalidStringElement", [WAT_INVALID_STRING_ESCAPE] = "InvalidStringEscape",
+        [WAT_INVALID_HEX_DIGIT] = "InvalidHexDigit", [WAT_INVALID_DIGIT] = "InvalidDigit", [WAT_EXPECTED] = "Expected",
+        [WAT_UNEXPECTED_EOF] = "UnexpectedEof", [WAT_NUMBER_TOO_BIG] = "NumberTooBig", [WAT_INVALID_UNICODE_VALUE] = "InvalidUnicodeValue",
+        [WAT_LONE_UNDERSCORE] = "LoneUnderscore", [WAT_CONFUSING_UNICODE] = "ConfusingUnicode", [WAT_INVALID_UTF8_ID] = "InvalidUtf8Id",
+        [WAT_EMPTY_ID] = "EmptyId", [WAT_EMPTY_ANNOTATION] = "EmptyAnnotation"};
+    uint32_t code;
+    for (code = 0; code <= UINT8_MAX; code++) {
+        const char *kind = kinds[code] != NULL ? kinds[code] : "", *fault = faults[code] != NULL ? faults[code] : "";
+        expect(strcmp(wat_kind_name((uint8_t)code), kind) == 0, "wat_kind_name", kind);
+        expect(strcmp(wat_fault_name(code), fault) == 0, "wat_fault_name", fault);
+    }
+    expect(wat_fault_name(UINT32_MAX)[0] == '\0', "wat_fault_name", "UINT32_MAX");
 }
 
 int main(void) {
@@ -263,8 +311,10 @@ int main(void) {
     covers();
     lines();
     shown();
+    hidden();
     values();
     messages();
+    names();
     printf("answers: %u results compared, %u wrong\n", compared, wrong);
     return wrong == 0 ? 0 : 1;
 }
