@@ -72,6 +72,23 @@ fn a_file_is_read_in_order_up_to_its_end() {
     );
 }
 
+/// Writes and reads two megabytes: a call returns the number of bytes that it moved, which for a regular file are all.
+#[test]
+fn a_call_moves_as_many_bytes_as_it_says() {
+    let folder = Folder::new("long");
+    let path = folder.path("new");
+    let bytes: Vec<u8> = (0..=u8::MAX).cycle().take(2_000_000).collect();
+    let mut file = File::create(&rt(), &path).unwrap();
+    assert_eq!(file.write(&bytes).unwrap(), bytes.len());
+    assert!(system::read(&path).unwrap() == bytes);
+    let mut buffer = vec![0; bytes.len() + 1];
+    let count = File::open(&rt(), &path).unwrap().read(&mut buffer).unwrap();
+    assert_eq!(count, bytes.len());
+    assert!(buffer[..count] == bytes);
+    File::create(&rt(), &path).unwrap();
+    assert_eq!(system::read(&path).unwrap(), b"", "the file is emptied");
+}
+
 #[test]
 fn a_path_that_leads_nowhere_is_an_error_of_the_system() {
     let folder = Folder::new("nowhere");

@@ -127,6 +127,17 @@ fn standard_output_that_can_not_be_written_is_an_error_of_the_system() {
     }
 }
 
+/// Limits the process to four descriptors, so that no duplicate of standard output can be made: its error is that of the first write.
+#[test]
+fn standard_output_that_can_not_be_duplicated_is_an_error_of_the_system() {
+    let mut command = Command::new("sh");
+    let limited = "ulimit -n 4; exec \"$0\" -";
+    let program = env!("CARGO_BIN_EXE_wat_tokens");
+    command.args(["-c", limited, program]).stdin(Stdio::piped());
+    let report = "wat_tokens: <stdin>: write failed: too many open files\n";
+    assert_eq!(ended(&mut command), refused(report));
+}
+
 #[test]
 fn a_pipe_that_nobody_reads_is_an_error_of_the_system() {
     let (reader, writer) = std::io::pipe().unwrap();
