@@ -144,5 +144,18 @@ fn whole_texts() {
     let types = made(b"(module (type (func (param i32))))", || wat_page_types());
     assert_eq!(types.as_deref(), Some(bytes.as_slice()));
     assert_eq!(made(b"(module (func))", || wat_page_types()), None);
+    assert_eq!(wat_page_answer_len(), 0);
+    assert!(made(b"(a)", plain).is_some());
     assert_eq!(wat_page_room(usize::MAX), std::ptr::null_mut());
+    assert_eq!(wat_page_answer_len(), 0, "the result is freed");
+    assert_eq!(cleared(b"(a)", 64), [0; 64]);
+}
+
+/// Returns the contents of a new buffer of `len` bytes, after one with a text.
+#[allow(unsafe_code)]
+fn cleared(text: &[u8], len: usize) -> Vec<u8> {
+    made(text, || true);
+    let buffer = wat_page_room(len);
+    // SAFETY: the buffer has `len` bytes.
+    unsafe { std::slice::from_raw_parts(buffer, len).to_vec() }
 }

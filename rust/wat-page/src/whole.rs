@@ -46,7 +46,7 @@ fn copied(bytes: &[u8]) -> Option<Vec<u8>> {
     Some(copy)
 }
 
-/// Returns a buffer for a text of `len` bytes, or null if the allocation fails. Frees the previous buffer and result.
+/// Returns a buffer of zeros for a text of `len` bytes, or null if the allocation fails. Frees the previous buffer and result.
 #[unsafe(no_mangle)]
 pub extern "C" fn wat_page_room(len: usize) -> *mut u8 {
     #[cfg(target_family = "wasm")]
