@@ -257,16 +257,28 @@ const DIFFS: &[(&str, &str)] = &[
         "( a )",
         "@@ -1 +1 @@\n-( a )\n\\ No newline at end of file\n+(a)\n",
     ),
-    // Tabs and blanks, and a carriage return.
+    // A tab or a carriage return that goes, before a line that stays.
+    ("(\ta )\nb\n", "@@ -1,2 +1,2 @@\n-(\ta )\n+(a)\n b\n"),
+    ("( a )\r\nb\n", "@@ -1,2 +1,2 @@\n-( a )\r\n+(a)\n b\n"),
     (
         "(\ta\n\r\nb\t)\n",
         "@@ -1,3 +1,3 @@\n-(\ta\n-\r\n-b\t)\n+(a\n+\n+  b)\n",
+    ),
+    // A line that becomes two, as a carriage return ends it.
+    (
+        "( a\r b )\nd\n",
+        "@@ -1,2 +1,3 @@\n-( a\r b )\n+(a\n+  b)\n d\n",
     ),
     // Changes six lines apart belong to one hunk, and changes seven apart to two.
     (
         "0\n1\n2\n3\n( a )\n1\n2\n3\n4\n5\n6\n( b )\n1\n2\n3\n4\n5\n6\n7\n( c )\n1\n2\n3\n4\n",
         "@@ -2,14 +2,14 @@\n 1\n 2\n 3\n-( a )\n+(a)\n 1\n 2\n 3\n 4\n 5\n 6\n-( b )\n+(b)\n 1\n 2\n 3\n\
          @@ -17,7 +17,7 @@\n 5\n 6\n 7\n-( c )\n+(c)\n 1\n 2\n 3\n",
+    ),
+    // A blank line as the first line of the context.
+    (
+        "0\n\n2\n3\n( a )\n",
+        "@@ -2,4 +2,4 @@\n \n 2\n 3\n-( a )\n+(a)\n",
     ),
     // Blank lines that go.
     ("1\n\n\n\n2\n", "@@ -1,5 +1,3 @@\n 1\n \n-\n-\n 2\n"),
@@ -408,4 +420,27 @@ fn a_temporary_file_that_can_not_be_written_leaves_the_file() {
     assert_eq!(report, "wat_tokens: deep: write failed: file too large\n");
     assert_eq!(folder.read("deep"), text);
     assert!(!folder.0.join("deep.wat_tokens").exists());
+}
+
+#[test]
+fn a_pipe_that_nobody_reads_is_not_an_error() {
+    let folder = Folder::new();
+    folder.add(("messy", "( a )"));
+    for mode in [&["fmt"][..], &["fmt", "--check"], &["fmt", "--diff"]] {
+        let (reader, writer) = std::io::pipe().unwrap();
+        drop(reader);
+        let done = Command::new(env!("CARGO_BIN_EXE_wat_tokens"))
+            .args(mode)
+            .arg("messy")
+            .current_dir(&folder.0)
+            .stdout(writer)
+            .output()
+            .unwrap();
+        let report = String::from_utf8(done.stderr).unwrap();
+        assert_eq!(
+            (done.status.code(), report.as_str()),
+            (Some(0), ""),
+            "{mode:?}"
+        );
+    }
 }
