@@ -1,9 +1,14 @@
 //! Tests of the exported functions: reports with the caller's rows and message, and results over whole texts.
 
+#[allow(unsafe_code)]
+#[path = "../../wat-lex/tests/refusing/mod.rs"]
+mod refusing;
+
 use crate::page::{Report, Row, wat_page_read};
 use crate::whole::{
     wat_page_answer, wat_page_answer_len, wat_page_lay_out, wat_page_room, wat_page_types,
 };
+use refusing::granting;
 
 const EMPTY: Row = Row { end: 0, kind: 99 };
 const UNWRITTEN: Report = Report {
@@ -149,6 +154,22 @@ fn whole_texts() {
     assert_eq!(wat_page_room(usize::MAX), std::ptr::null_mut());
     assert_eq!(wat_page_answer_len(), 0, "the result is freed");
     assert_eq!(cleared(b"(a)", 64), [0; 64]);
+    for call in [plain, || wat_page_types()] {
+        made(b"(module (type (func (param i32))))", || true);
+        fail_each_allocation(call);
+    }
+    assert!(granting(0, || wat_page_room(1)).0.is_null());
+}
+
+/// Fails each allocation of a function over the text in the buffer in turn, after which it has no result.
+fn fail_each_allocation(call: fn() -> bool) {
+    let (_, count) = granting(usize::MAX, call);
+    assert!(count > 0);
+    for granted in 0..count {
+        let (is_made, _) = granting(granted, call);
+        assert_eq!((is_made, wat_page_answer_len()), (false, 0), "{granted}");
+    }
+    assert!(call());
 }
 
 /// Returns the contents of a new buffer of `len` bytes, after one with a text.
