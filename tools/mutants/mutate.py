@@ -54,7 +54,7 @@ SKIPPED = re.compile(r"generated/(?!wat_tokens(/|\.rs$))|(^|/)tests(/|\.rs$)|sim
 # The proved functions of the program's sources have `ensures` in their comments, so sites.py skips them.
 RUST = ("rust/wat-lex", "rust/wat-parser", "rust/wat-format", "rust/wat-modules", "rust/wat-c", "rust/wat-page", "rust/wat-tokens")
 # Scripts that test the program, after all tests of cargo.
-SCRIPTS = ("tools/test/fmt.sh", "tools/test/program.sh", "tools/test/fault_injection.sh")
+SCRIPTS = ("tools/test/fmt.sh", "tools/test/program.sh")
 MEMORY = 6 << 30
 FAILED = re.compile(rb"^test .*\.\.\. FAILED|^test result: FAILED", re.MULTILINE)
 

@@ -351,8 +351,9 @@ def results(returns):
 def replaced_bodies(text, tokens, function, is_rust):
     """Yields the constant bodies of a function."""
     start, end = tokens[function.open].start, tokens[function.close - 1].end
+    body = text[start + 1 : end - 1].strip().replace("Ok(())", "Ok(Default::default())")
     for value in results(function.returns) if is_rust else [""]:
-        if text[start + 1 : end - 1].strip() != value:
+        if body != value:
             yield start, end, f"{{ {value} }}" if value else "{}"
 
 
