@@ -282,6 +282,10 @@ const DIFFS: &[(&str, &str)] = &[
     ),
     // Blank lines that go.
     ("1\n\n\n\n2\n", "@@ -1,5 +1,3 @@\n 1\n \n-\n-\n 2\n"),
+    (
+        "\n\n\n b\n \n\n\na\n",
+        "@@ -1,8 +1,3 @@\n-\n-\n-\n- b\n- \n-\n-\n+b\n+\n a\n",
+    ),
     // Lines that become one.
     (
         "(\n\n(\na)\n  b)\n1\n",
