@@ -110,7 +110,9 @@ const fn case(
 fn check(files: Entries, input: &str, cases: &[Case]) {
     for case in cases {
         let folder = Folder::new();
-        files.iter().for_each(|file| folder.add(*file));
+        for file in files {
+            folder.add(*file);
+        }
         let result = folder.run(case.words, input);
         let wanted = (case.status, case.output.into(), case.report.into());
         assert_eq!(result, wanted, "{:?}", case.words);
@@ -322,7 +324,7 @@ fn a_long_diff_has_all_changes() {
     folder.add(("in", &text));
     let (status, diff, report) = folder.run(&["fmt", "--diff", "in"], "");
     assert_eq!((status, report.as_str()), (1, ""));
-    let (layout, _) = (folder.run(&["fmt", "in"], "").1, ());
+    let (_, layout, _) = folder.run(&["fmt", "in"], "");
     let lines = |mark: char| {
         diff.lines()
             .skip(2)
@@ -362,7 +364,7 @@ fn each_of_two_thousand_files_is_formatted() {
     folder.add(("neat", "(a)\n"));
     folder.add(("messy", "( a )\n"));
     let mut words = vec!["fmt", "--check"];
-    words.extend(["neat"; 2000]);
+    words.extend(std::iter::repeat_n("neat", 2000));
     words.push("messy");
     let result = folder.run(&words, "");
     assert_eq!(result, (1, "messy\n".into(), String::new()));
