@@ -219,15 +219,13 @@ fn the_texts_below_a_folder_are_formatted_in_order() {
     ];
     let fault =
         "unexpected end-of-file\n     --> tree/b/y.wast:1:4\n      |\n    1 | a \"\n      |    ^\n";
-    let listed =
-        "tree/.c/e.wat\ntree/a.wast\ntree/a.wat/in.wat\ntree/b/x.wat\ntree/link.wat\ntree/z.wat\n";
+    let listed = "tree/.c/e.wat\ntree/a.wast\ntree/a.wat/in.wat\ntree/b/x.wat\ntree/z.wat\n";
     let written: Entries = &[
         ("tree/.c/e.wat", "(e)\n"),
         ("tree/a.wast", "(a)\n"),
         ("tree/a.wat/in.wat", "(in)\n"),
         ("tree/b/x.wat", "(x)\n"),
         ("tree/z.wat", "(z)\n"),
-        ("outside.wat", "(o)\n"),
     ];
     let cases = [
         case(&["fmt", "--check", "tree"], 1, listed, fault, &[]),
@@ -243,7 +241,7 @@ fn the_texts_below_a_folder_are_formatted_in_order() {
         case(
             &["fmt", "tree"],
             1,
-            "(e)\n(a)\n(in)\n(x)\n(o)\n(z)\n",
+            "(e)\n(a)\n(in)\n(x)\n(z)\n",
             fault,
             &[],
         ),
