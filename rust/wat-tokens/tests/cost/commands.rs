@@ -71,17 +71,16 @@ impl<'a> Inputs for One<'a> {
 
     fn lay_out(&mut self, settings: Settings, mode: Mode, file: &str) -> Exit {
         let mut input = self.read();
-        let outcome = match mode {
-            Mode::Check => match run_compare(Global, &mut input, settings) {
+        let outcome = if mode == Mode::Check {
+            match run_compare(Global, &mut input, settings) {
                 Ok(Compared::Same) => Outcome::Listed,
                 Ok(Compared::Other(_) | Compared::Longer) => Outcome::Differs,
                 Ok(Compared::Faulty(error)) => Outcome::Faulty(error),
                 Err(failure) => Outcome::Refused(failure),
-            },
-            _ => {
-                let mut output = Plain::new(Counted::default());
-                Outcome::of_run(run_fmt(Global, &mut input, &mut output, settings))
             }
+        } else {
+            let mut output = Plain::new(Counted::default());
+            Outcome::of_run(run_fmt(Global, &mut input, &mut output, settings))
         };
         let reported = outcome.report(Global, Some(file), &mut Counted::default());
         reported.expect("no write fails");
