@@ -1,7 +1,7 @@
 use crate::error::Error;
 use crate::gap::Gap;
 use crate::lexer::{is_too_long, too_long};
-use crate::marks::{Mark, Marks, boundary};
+use crate::marks::{Mark, Marks, STEP, boundary};
 use crate::proved::lexer::{Lexer as ProvedLexer, Settings};
 use crate::recover::{Pieces, unclosed_comments};
 use crate::{Fault, Lexer, Piece, Span, Token};
@@ -253,9 +253,14 @@ impl Document {
         if column == 0 {
             return (line, 0);
         }
-        let before = |offset| count(self.marks.at(&self.text, offset));
         let offset = span.offset();
-        (line, before(offset) - before(offset - column))
+        let start = offset - column;
+        if column <= STEP {
+            let bytes = &self.text.as_bytes()[start..offset];
+            return (line, count(Mark::of(bytes)));
+        }
+        let before = |offset| count(self.marks.at(&self.text, offset));
+        (line, before(offset) - before(start))
     }
 
     /// Returns the offset of a line and a column in bytes, both from 0. A column inside a character is rounded down to its start; a column or line

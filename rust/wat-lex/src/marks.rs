@@ -15,13 +15,23 @@ pub(crate) struct Mark {
 }
 
 impl Mark {
+    /// Returns the mark at the end of `bytes`, which begin a text.
+    pub(crate) fn of(bytes: &[u8]) -> Mark {
+        Mark::default().after(bytes)
+    }
+
     /// Returns the mark at the end of `bytes`, which begin at this mark.
     fn after(self, bytes: &[u8]) -> Mark {
-        let begun = chars(bytes);
-        // Only a character of 4 bytes has 2 code units.
-        let pairs = bytes.iter().filter(|byte| **byte >= 0xf0).count();
+        let len = bytes.len();
+        let (begun, pairs) = if bytes.is_ascii() {
+            (len, 0)
+        } else {
+            // Only a character of 4 bytes has 2 code units.
+            let is_pair = |byte: &&u8| **byte >= 0xf0;
+            (chars(bytes), bytes.iter().filter(is_pair).count())
+        };
         Mark {
-            offset: self.offset + bytes.len(),
+            offset: self.offset + len,
             chars: self.chars + begun,
             units: self.units + begun + pairs,
         }
@@ -41,7 +51,7 @@ impl Placed for Mark {
 }
 
 /// Distance in bytes at which marks are set. Two neighbors are at most twice as far apart.
-const STEP: usize = 1024;
+pub(crate) const STEP: usize = 1024;
 
 /// The marks of a text that is edited, in a gap buffer whose gap is at the last edit.
 #[derive(Clone, Default)]
@@ -74,7 +84,7 @@ impl Marks {
         while self.marks.first_after(self.end).is_some_and(is_inside) {
             self.marks.drop_after();
         }
-        let removed = Mark::default().after(&text.as_bytes()[range.clone()]);
+        let removed = Mark::of(&text.as_bytes()[range.clone()]);
         self.end = removed.mirrored(self.end);
     }
 
