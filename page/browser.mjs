@@ -1,5 +1,6 @@
 // Drives a headless Chromium over its debugging pipe, and checks the page that build.sh built.
-// usage: node browser.mjs PROGRAM [FOLDER], where FOLDER is for pictures of the light and the dark page
+// usage: node browser.mjs PROGRAM [FOLDER], where FOLDER is for pictures of the light and the dark page. With QUICK=1, for tools/mutants/mutate.py, it
+// measures no times, checks one window, and waits for the browser at most 30 s at a time.
 import assert from 'node:assert/strict';
 import { spawn, spawnSync } from 'node:child_process';
 import { existsSync, mkdtempSync, readFileSync, readdirSync, rmSync, writeFileSync } from 'node:fs';
@@ -14,6 +15,8 @@ const [program, pictures] = process.argv.slice(2);
 if (!program) throw new Error('usage: node browser.mjs PROGRAM [FOLDER]');
 const here = (name) => fileURLToPath(new URL(name, import.meta.url));
 const TYPES = { '.html': 'text/html', '.js': 'text/javascript', '.css': 'text/css', '.wasm': 'application/wasm' };
+const isQuick = Boolean(process.env.QUICK);
+const PATIENCE = isQuick ? 30_000 : 1_800_000;
 const pause = (milliseconds) => new Promise((done) => setTimeout(done, milliseconds));
 
 // Whether the module allocates, as formatted texts and binary modules need.
@@ -49,8 +52,9 @@ browser.stdio[4].setEncoding('utf8').on('data', (piece) => {
 });
 let session;
 const send = (method, params = {}) => new Promise((done, fail) => {
+  const late = setTimeout(() => fail(new Error(`no answer to ${method}`)), PATIENCE);
   last += 1;
-  waiting.set(last, [done, fail]);
+  waiting.set(last, [(result) => { clearTimeout(late); done(result); }, fail]);
   browser.stdio[3].write(`${JSON.stringify({ id: last, method, params, sessionId: session })}\0`);
 });
 
@@ -747,10 +751,7 @@ try {
   for (const domain of ['Runtime', 'Log', 'Page', 'DOM', 'Accessibility']) await send(`${domain}.enable`);
   await visit(origin);
   await typedTexts();
-  console.log(await droppedTexts());
-  await retyping();
-  await longTexts();
-  for (const width of [1200, 360]) {
+  for (const width of isQuick ? [1200] : [1200, 360]) {
     await send('Emulation.setDeviceMetricsOverride', { width, height: 900, deviceScaleFactor: 1, mobile: false });
     const checks = [theCursor, theCursorOfShownTexts, scrolling, metrics, examples, theFault, whatCounts, links];
     for (const check of isServed ? [...checks, bytesOfTypes, formatting, byKeyboard] : checks) {
@@ -759,9 +760,14 @@ try {
     }
   }
   await send('Emulation.clearDeviceMetricsOverride');
+  console.log(await droppedTexts());
+  await retyping();
   await access();
-  await timesOfTyping();
-  await timesOfOpening();
+  await longTexts();
+  if (!isQuick) {
+    await timesOfTyping();
+    await timesOfOpening();
+  }
   if (pictures) await takePictures();
   await visit(pathToFileURL(here('out/wat.html')).href);
   await typedTexts();

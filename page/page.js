@@ -318,10 +318,9 @@ function say(text, isWrong = false) {
   $('state').className = isWrong ? 'wrong' : '';
 }
 
-// Prints the error with the location of its message: the column is that of the marker.
+// Prints the error with the location of its message: the column is that of the marker. A message with a column above 500 is one line.
 function sayFault() {
-  const [what, place] = reader.message.split('\n');
-  const [line, column] = place.split(':').slice(-2);
+  const [, what, line, column] = /^(.*?)(?:\n +-->| at) <anon>:(\d+):(\d+)/.exec(reader.message);
   tell('said', '');
   tell('go', `Line ${line}, column ${column}: ${what}`);
 }

@@ -97,7 +97,9 @@ export class Document {
     const { ending, offset, line, lines, message } = this.#reader;
     if (ending !== 'faulty') return null;
     const start = this.#units.at(offset);
-    return { start, line, column: start - this.#units.at(lines.start(line)), message: message.split('\n')[0], printed: message };
+    // Only the first line of a message with a column above 500 has the location.
+    const [what] = message.split('\n')[0].split(' at <anon>:');
+    return { start, line, column: start - this.#units.at(lines.start(line)), message: what, printed: message };
   }
 
   // Returns the formatted text, or null if the text has a lexical error or memory runs out.

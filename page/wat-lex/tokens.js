@@ -2,11 +2,9 @@
 import { KINDS } from './lexer.js';
 import { Rows } from './rows.js';
 
-export const LINE_COMMENT = 1;
 export const WHITE_SPACE = 3;
 export const OPENING = 4;
 export const CLOSING = 5;
-export const KEYWORD = 8;
 export const ANNOTATION = 9;
 export const AT_SIGN = 64;
 

@@ -79,7 +79,7 @@ def digest_of(chart, rows):
 def alt_of_lexing(ratios):
     sorted_texts = sorted(ratios, key=lambda text: float(ratios[text]["Lexer::parse"]))
     said = [f"{ratios[text]['Lexer::parse']} times on {LEXED[text]}" for text in ("real", "generated", sorted_texts[-1], sorted_texts[0])]
-    return f"Bar chart: lexing is faster than wast on each of {len(ratios)} kinds of text: {', '.join(said[:-1])}, and at worst {said[-1]}."
+    return f"Bar chart: lexing is faster than wast on each of its {len(ratios)} kinds of text: {', '.join(said[:-1])}, and at worst {said[-1]}."
 
 
 def alt_of_modules(ratios):

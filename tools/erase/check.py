@@ -41,8 +41,6 @@ WRITTEN = [
     (".join(alloc,", ".join_in(alloc,"),
     (".kind.clone()?", ".kind.clone()"),
     ("pub(crate) offset: usize", "#[doc(hidden)] pub offset: usize"),
-    ("println!(rt;", "try_println!(rt;"),
-    ("eprintln!(rt;", "try_eprintln!(rt;"),
     ("fn main(rt:", "pub fn main(rt:"),
     ("let text = unsafe { str::from_utf8_unchecked(text) };", "// SAFETY: rule 2 of wat.h.\nlet text = unsafe { str::from_utf8_unchecked(text) };"),
     # Tokens that are erased.
@@ -322,7 +320,7 @@ class Walk:
         """Skips an item that is erased. Returns `True` if there is one."""
         if self.at >= len(self.source):
             return False
-        rules = (self.documented, self.ghost, self.contract, self.model, self.tactic, self.derive)
+        rules = (self.documented, self.ghost, self.contract, self.model, self.erased_attribute, self.derive)
         return any(rule() for rule in rules)
 
     def documented(self):
@@ -397,8 +395,8 @@ class Walk:
             return bracket, self.after_group(bracket)
         return None
 
-    def tactic(self):
-        found = self.attribute("tactic")
+    def erased_attribute(self):
+        found = self.attribute("tactic") or self.attribute("rattlefmt")
         if found:
             self.at = found[1]
         return bool(found)
@@ -661,7 +659,7 @@ PLANTED = [
     ("an operator is another one", "wat_lex/src/token.rt", "self.name() == other.name() && self", "self.name() == other.name() || self"),
     ("a function is there twice", "wat_words/src/table.rt", "fn entry_at", "fn entry_at() {}\nfn entry_at"),
     ("a comment is dropped", "wat_lex/src/lexer/scan/starts.rt", "// Neighboring bytes are", "// Bytes are"),
-    ("a line goes out by Rust's macro", "wat_tokens/src/report.rt", "match try_println!(rt;", "match println!(rt;"),
+    ("a line goes to the other stream", "wat_tokens/src/report.rt", "match print(&mut rt.stdout(),", "match print(&mut rt.stderr(),"),
     ("files are Rust's own", "wat_tokens/src/replace.rt", "use crate::shim::fs::{File", "use std::fs::{File"),
     ("a bound is gained", "wat_tokens_run/src/respond.rt", "type Input: Source", "type Input: Source + Copy"),
     ("a block is smaller", "wat_tokens_io/src/block.rt", "const BLOCK: usize = 65_536;", "const BLOCK: usize = 65_535;"),

@@ -69,8 +69,6 @@ WRITTEN = {
     "<W: fmt::Write>": "",
     "fmt::Formatter<W>": "fmt::Formatter<'_>",
     # Effects outside of the process need a handle, which a program receives as an argument.
-    "println!(rt;": "try_println!(rt;",
-    "eprintln!(rt;": "try_eprintln!(rt;",
     "fn main(rt:": "pub fn main(rt:",
     # A caller from C must ensure what a caller from Rattle has proved: the text is valid UTF-8.
     "let text = unsafe { str::from_utf8_unchecked(text) };": "// SAFETY: rule 2 of wat.h.\nlet text = unsafe { str::from_utf8_unchecked(text) };",
@@ -316,7 +314,7 @@ class Eraser:
             return None
         end, name = self.source.group(inner), self.source.next(inner)
         line = end + (self.source.tokens[end][0] == "space")
-        if self.source.is_token(name, "tactic"):
+        if self.source.is_token(name, "tactic") or self.source.is_token(name, "rattlefmt"):
             return line
         if self.source.is_token(name, "derive"):
             kept = [text for kind, text in self.source.tokens[name + 1 : end] if kind == "word" and text != "Drop"]

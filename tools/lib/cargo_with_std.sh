@@ -1,7 +1,7 @@
 #!/usr/bin/env bash
 # Runs a cargo that builds the standard library from source, for targets for which Debian has no binary of it. The default is Debian's cargo:
 # cargo-web, rustc-web and rust-web-src. The targets also need: i686-unknown-linux-gnu gcc-multilib, wasm32-unknown-unknown lld-22, wasm32-wasip1
-# lld-22 and wasi-libc.
+# lld-22 and wasi-libc, aarch64-unknown-linux-gnu lld-22, libc6-dev-arm64-cross and libgcc-12-dev-arm64-cross.
 #
 #   RUST_BIN=FOLDER       the folder of cargo and rustc; default: /usr/bin
 #   CRATES_FOLDER=FOLDER  the crates that cargo builds with, one folder each, if no registry is reachable and cargo's configuration names none
@@ -49,13 +49,26 @@ joined() {
     echo "$folder"
 }
 
-# linkers: sets the variables that name the linkers of WebAssembly
+# linkers: sets the variables that name the linkers of WebAssembly and AArch64
 linkers() {
-    local linker
-    linker=wasm-ld-$("$bin/rustc" -vV | sed -n 's/^LLVM version: \([0-9]*\).*/\1/p')
-    command -v "$linker" > /dev/null || return 0
-    : "${CARGO_TARGET_WASM32_UNKNOWN_UNKNOWN_LINKER:=$linker}" "${CARGO_TARGET_WASM32_WASIP1_LINKER:=$linker}"
-    export CARGO_TARGET_WASM32_UNKNOWN_UNKNOWN_LINKER CARGO_TARGET_WASM32_WASIP1_LINKER
+    local version
+    version=$("$bin/rustc" -vV | sed -n 's/^LLVM version: \([0-9]*\).*/\1/p')
+    command -v "wasm-ld-$version" > /dev/null || return 0
+    : "${CARGO_TARGET_WASM32_UNKNOWN_UNKNOWN_LINKER:=wasm-ld-$version}" "${CARGO_TARGET_WASM32_WASIP1_LINKER:=wasm-ld-$version}"
+    : "${CARGO_TARGET_AARCH64_UNKNOWN_LINUX_GNU_LINKER:=ld.lld-$version}"
+    export CARGO_TARGET_WASM32_UNKNOWN_UNKNOWN_LINKER CARGO_TARGET_WASM32_WASIP1_LINKER CARGO_TARGET_AARCH64_UNKNOWN_LINUX_GNU_LINKER
+}
+
+# aarch64_flags: prints the flags with which rustc links Debian's libraries for AArch64 without its C compiler, which excludes gcc-multilib. Prints
+# nothing if another linker is chosen.
+aarch64_flags() {
+    local folder=/usr/aarch64-linux-gnu/lib file
+    [[ ${CARGO_TARGET_AARCH64_UNKNOWN_LINUX_GNU_LINKER:-} == ld.lld-* ]] || return 0
+    printf ' -C linker-flavor=ld -C link-arg=--dynamic-linker=/lib/ld-linux-aarch64.so.1'
+    for file in Scrt1.o crti.o crtn.o; do
+        printf ' -C link-arg=%s' "$folder/$file"
+    done
+    echo " -L native=$folder -L native=$(compgen -G '/usr/lib/gcc-cross/aarch64-linux-gnu/*' | tail -n 1)"
 }
 
 # wasi_flags: prints the flags with which rustc links Debian's wasi-libc. That library lacks pthread_join and pthread_detach; std refers to them but
@@ -71,6 +84,7 @@ wasi_flags() {
 linkers
 options=() flags=${RUSTFLAGS:-}
 [[ " $* " != *' wasm32-wasip1 '* ]] || flags+=$(wasi_flags)
+[[ " $* " != *' aarch64-unknown-linux-gnu '* ]] || flags+=$(aarch64_flags)
 crates=$(crates_folder)
 if [ -n "$crates" ]; then
     crates=$(joined "$crates")

@@ -9,8 +9,9 @@
  *   TELL         counts are written to the file descriptor N when the program ends.
  *
  * A reallocation that does not grow a block is not counted and does not fail; the sizes of all blocks are recorded to decide this. The counts are
- * those of allocations, opened files, reads and writes; the bytes allocated, to which a growing block adds the bytes that it grows by; the maximum of
- * the bytes held at a time; and the bytes held at the end. The library includes no header, so that a compiler alone builds it. */
+ * those of allocations, opened files, reads, writes and writes to standard error; the bytes allocated, to which a growing block adds the bytes that it
+ * grows by; the maximum of the bytes held at a time; and the bytes held at the end. The library includes no header, so that a compiler alone builds
+ * it. */
 
 typedef unsigned long size;
 
@@ -28,7 +29,7 @@ extern char *getenv(const char *name);
 extern long atol(const char *text);
 extern int dprintf(int file, const char *format, ...);
 
-static long requests, opens, reads, writes;
+static long requests, opens, reads, writes, reports;
 static size asked, held, most;
 
 static long number(const char *name)
@@ -201,6 +202,7 @@ long read(int file, void *bytes, size count)
 long write(int file, const void *bytes, size count)
 {
     if (file != 1 && file != copies[1]) {
+        reports += file == 2;
         return __write(file, bytes, count);
     }
     writes += 1;
@@ -210,7 +212,7 @@ long write(int file, const void *bytes, size count)
 __attribute__((destructor)) static void tell(void)
 {
     if (number("TELL")) {
-        dprintf(number("TELL"), "requests=%ld opens=%ld reads=%ld writes=%ld asked=%lu most=%lu held=%lu\n", requests, opens, reads, writes, asked,
-            most, held);
+        dprintf(number("TELL"), "requests=%ld opens=%ld reads=%ld writes=%ld reports=%ld asked=%lu most=%lu held=%lu\n", requests, opens, reads,
+            writes, reports, asked, most, held);
     }
 }

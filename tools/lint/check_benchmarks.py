@@ -1,7 +1,7 @@
 #!/usr/bin/env python3
 """Checks docs/speed/calls.txt. It must have a row for each public call of Rattle (tools/lint/public_names.txt, and the libraries' sources), of the
 Rust crates and of C, and each row must have a figure from the data of docs/speed, or the reason why there is none. The ratios in the first table
-of docs/benchmarks.md must occur in the data.
+of docs/benchmarks.md must occur in the data, and the page must name each kind of text that is lexed with more instructions than by `wast`.
 
 usage: tools/lint/check_benchmarks.py [--write | --self-test]
 
@@ -104,7 +104,7 @@ def figures(folder):
     for file in sorted(folder.glob("*.tsv")):
         for line in file.read_text(encoding="utf-8").split("\n"):
             if line and not line.startswith("#"):
-                suite, text, call, ours, _, ratio = line.split("\t")
+                suite, text, call, ours, _, ratio, *_ = line.split("\t")
                 found[f"{file.name}: {suite}; {text}; {call}"] = f"{ours} ms" + ("" if ratio == "-" else f", {ratio}")
     return found
 
@@ -137,6 +137,12 @@ def unknown_ratios(page, found):
     return [f"docs/benchmarks.md: {ratio} is in no data" for ratio in re.findall(r"\b\d+\.\d\d\b", table) if ratio not in known]
 
 
+def missing_kinds(page, found):
+    """Returns a fault for each kind whose ratio of `Lexer::parse` by instructions is below 1, unless docs/benchmarks.md has both."""
+    lexed = [(where.split("; ")[1], figure.split(", ")[-1]) for where, figure in found.items() if re.match("kinds.tsv: .*; Lexer::parse$", where)]
+    return [f"docs/benchmarks.md: lacks `{kind}` {ratio}" for kind, ratio in lexed if float(ratio) < 1 and f"`{kind}` {ratio}" not in page]
+
+
 def wanted_calls():
     return list(dict.fromkeys([*calls_of_asked(), *calls_of_libraries(), *calls_of_rust(), *calls_of_c()]))
 
@@ -150,7 +156,9 @@ def self_test():
     missed = [name for name, text in planted.items() if bool(checked(text, ["C f", "C g"], found)[1]) != (name != "none")]
     page = "\n|---|\n| a | 2.00, 4 kB |\n\n| b | 9.00 |"
     missed += [ratio for ratio in ("2.00", "3.00") if bool(unknown_ratios(page.replace("2.00", ratio), found)) != (ratio == "3.00")]
-    print("".join(f"not as wanted: {name}\n" for name in missed) + f"check_benchmarks.py --self-test: {len(planted) + 2} tables, {len(missed)} not as wanted")
+    kinds = {"kinds.tsv: kinds; a; Lexer::parse": "3 ms, 0.90", "kinds.tsv: kinds; b; Lexer::parse": "3 ms, 1.00"}
+    missed += [text for text in ("`a` 0.90", "`a` 0.80", "`b` 0.90") if bool(missing_kinds(text, kinds)) != (text != "`a` 0.90")]
+    print("".join(f"not as wanted: {name}\n" for name in missed) + f"check_benchmarks.py --self-test: {len(planted) + 5} tables, {len(missed)} not as wanted")
     return missed
 
 
@@ -162,7 +170,8 @@ def main():
     if sys.argv[1:] == ["--write"]:
         CALLS.write_text(table, encoding="utf-8")
         faults = checked(table, wanted, figures(DATA))[1]
-    faults += unknown_ratios(SPEED.read_text(encoding="utf-8"), figures(DATA))
+    page = SPEED.read_text(encoding="utf-8")
+    faults += unknown_ratios(page, figures(DATA)) + missing_kinds(page, figures(DATA))
     measured = sum(" | not measured" not in line and " | " in line for line in table.split("\n"))
     print("".join(f"{fault}\n" for fault in faults) + f"check_benchmarks.py: {len(wanted)} calls, {measured} with a figure, {len(faults)} faults")
     sys.exit(bool(faults))

@@ -20,7 +20,7 @@ STRUCTS = {"wat_token": "TokenRow", "wat_kind": "KindRow", "wat_range": "Word"}
 # The C name of a variant's code, without `WAT_` and underscores, if it is not the variant's name.
 CODES = {"Refusal::Memory": "NOMEMORY", "NotVisible::Memory": "LOOKNOMEMORY"}
 # The C name of a slice's length, if it is not the slice's name followed by `_len`.
-LENGTHS = {"text": "len", "out": "room", "rows": "count", "ends": "names_count", "feeds": "feeds_count"}
+LENGTHS = {"text": "len", "out": "room", "rows": "count", "ends": "names_count", "marks": "marks_count", "feeds": "feeds_count"}
 
 
 def in_rust(c_type):

@@ -10,8 +10,8 @@
 
 A WORD is a crate, a record's name, CRATE/NAME, or the end of a function's path, such as `TableRef::look`.
 
-`try` uses the libraries that a crate depends on in crates/NAME/out, where `rt ci` without names leaves them. The first mutant of a crate takes 30 to
-90 seconds. Each later one takes half of that, as it reuses what they share.
+`try` uses the libraries that a crate depends on in crates/NAME/out, where `rt check` in a crate above them, `rt lib` and `rt ci` leave them. The first
+mutant of a crate takes 30 to 90 seconds. Each later one takes half of that, as it reuses what they share.
 """
 import argparse
 import collections
@@ -311,7 +311,7 @@ def libraries(crate):
     built = {it: ROOT / "crates" / it / "out" / "rlib" / f"{it}.rlib" if it in lines else KIT / "rlibs" / f"{it}.rlib" for it in below}
     missing = [str(path) for path in built.values() if not path.exists()]
     if missing:
-        raise Fault(f"run rt ci without names first, or rt lib in the crate: {missing[0]} is not there")
+        raise Fault(f"run rt check in crates/{crate} first, which makes its libraries: {missing[0]} is not there")
     words = ["--crate-type", "staticlib"] if kind else []
     words += [word for it, path in built.items() for word in ("--extern", f"{it}={path}")]
     return words + [word for it in lines for word in ("-L", f"dependency={ROOT / 'crates' / it / 'out' / 'rlib'}")]

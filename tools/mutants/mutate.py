@@ -4,32 +4,43 @@
 usage: mutate.py list [PREFIX..]
        mutate.py check
        mutate.py run [--sample N SEED] [--changed COMMIT] [--alone] [--least SCORE] [--jobs N] [--folder FOLDER] [--save FILE]
-                     [PREFIX..]
+                     [--again FILE] [--own] [--longest SECONDS] [--node] [PREFIX..]
+       mutate.py scores FILE..
        mutate.py self-test
 
-A PREFIX is the start of a file's name, such as rust/wat-page; without one, the Rust packages. `run page` needs the page built, `run include` a C
-compiler.
+A PREFIX is the start of a file's name, such as rust/wat-page; without one, the Rust packages. `run page` needs the page built and CHROMIUM, which
+opens only pages whose mutant passes in node; `run include` needs a C compiler.
 
-  list       prints file, line, function and change of each mutant, separated by tabs
-  check      checks that each row of mutants/survivors.tsv is a mutant of the sources as they are, or of a function of theirs, and has a reason
+  list       prints file, line, function and change of each mutant, separated by tabs: those that sites.py generates, and those of
+             mutants/seeded.tsv, which are hand-written
+  check      checks that each row of mutants/survivors.tsv is a mutant of the sources as they are, and has a reason, and that each row of
+             mutants/seeded.tsv applies to them
   run        runs the tests over each mutant; the status is 1 if one survives that mutants/survivors.tsv does not have, or with --least if the
              mutation score, the percentage of killed mutants without the accepted survivors, is lower
+  scores     writes mutants/scores.tsv from the files of --save; a later one replaces the outcomes of an earlier one, and the rows of packages, or
+             of the page, without any stay
   self-test  runs the tests of a package without one of them, and with it, and checks that `run` reports the mutants that only this one kills
 
   --sample N SEED   only N mutants; the seed chooses them
   --changed COMMIT  only mutants of functions with a line that differs from the commit
   --alone           also mutants that no switch can select, such as those of constants: each is built alone
   --save FILE       writes a line for each mutant: its outcome, the test that killed it, and its file, line, function and change
+  --own             only the tests of the mutated packages, not those of packages that depend on them
+  --longest SECONDS no test that takes longer on a processor: mutants that only such a test kills survive
+  --again FILE      only mutants that were not killed in an earlier run, which saved this file; nothing is compiled again that did not change since
+  --node            of the page, only the tests of parts, without packaged.mjs, agree.mjs and the browser
 
-All mutants of the Rust packages are compiled at once (schemata.py), and a test is run over a mutant only if it calls the mutated function. A test
-that takes more than eight times as long as without a mutant, and 5 s, kills it. Mutants of proved code are those of tools/mutants/mutants.py, which
-the prover must kill.
+All mutants of the Rust packages are compiled at once (schemata.py). A test is run over a mutant only if it calls the mutated function, up to the
+first that fails: first those that are fast, or killed many other mutants of the file. A test whose process takes four times as long on a processor as
+without a mutant, and 2 s, kills it. Mutants of proved code are those of tools/mutants/mutants.py, which the prover must kill.
 """
 import argparse
 import collections
 import concurrent.futures
 import dataclasses
 import hashlib
+import json
+import math
 import os
 import pathlib
 import re
@@ -47,36 +58,60 @@ import sites
 
 ROOT = pathlib.Path(__file__).resolve().parents[2]
 ACCEPTED = ROOT / "mutants/survivors.tsv"
-# The change of a survivor that was seeded by hand, and is not generated, begins with this.
+SEEDED = ROOT / "mutants/seeded.tsv"
+SCORES = ROOT / "mutants/scores.tsv"
+# The change of a mutant of `SEEDED` begins with this.
 BY_HAND = "by hand: "
 # Files of the Rust packages without mutants: tests, generated code that is proved, and code for other targets.
 SKIPPED = re.compile(r"generated/(?!wat_tokens(/|\.rs$))|(^|/)tests(/|\.rs$)|simd/(neon|wasm)\.rs$|wat-page/src/memory\.rs$")
 # The proved functions of the program's sources have `ensures` in their comments, so sites.py skips them.
 RUST = ("rust/wat-lex", "rust/wat-parser", "rust/wat-format", "rust/wat-modules", "rust/wat-c", "rust/wat-page", "rust/wat-tokens")
+PAGE = "page"
 # Scripts that test the program, after all tests of cargo.
 SCRIPTS = ("tools/test/fmt.sh", "tools/test/program.sh")
+# Tests of parts of the page and of the npm package, which take a second.
+PARTS = ("parts.mjs", "faked.mjs", "paged.mjs")
 MEMORY = 6 << 30
+KILLED, SURVIVED = ("failed", "timeout"), ("survived", "unreached")
+# A test that takes fewer seconds is run together with others of its program.
+SHORT = 0.3
 FAILED = re.compile(rb"^test .*\.\.\. FAILED|^test result: FAILED", re.MULTILINE)
 
 
 @dataclasses.dataclass
 class Suite:
-    """A program that tests: its command, its folder, the time that it takes without a mutant, and the functions that it calls, if that is known."""
+    """A test or a script: its command, its folder, the time that it takes without a mutant, by the clock and, if that is known, on a processor, and
+    what it calls, if that is known: the numbers of functions, or the names of files."""
 
     name: str
     command: list
     folder: pathlib.Path
     seconds: float = 0.0
+    processor: float | None = None
     called: frozenset | None = None
     is_limited: bool = True
 
+    def cost(self):
+        """Returns the time that a run takes, on a processor if that is known, since by the clock it depends on what else runs."""
+        return self.seconds if self.processor is None else self.processor
+
     def limit(self):
-        return 8 * self.seconds + 5
+        """Returns the time of a run by the clock. If the time on a processor is limited, this one only ends processes that wait."""
+        return 8 * self.seconds + 5 if self.processor is None else 20 * self.seconds + 60
+
+    def limit_process(self):
+        """Limits a process that the suite starts."""
+        if self.is_limited:
+            resource.setrlimit(resource.RLIMIT_AS, (MEMORY, MEMORY))
+            resource.setrlimit(resource.RLIMIT_CORE, (0, 0))
+        if self.processor is not None:
+            most = math.ceil(4 * self.processor + 2)
+            resource.setrlimit(resource.RLIMIT_CPU, (most, most + 1))
 
     def reaches(self, mutant, first):
         """Returns `True` if the suite may call the mutated function, whose first mutant has this number."""
         is_own = self.name not in SCRIPTS or mutant.file.startswith("rust/wat-tokens")
-        return is_own and (self.called is None or first in self.called)
+        return is_own and (self.called is None or first in self.called or mutant.file in self.called)
 
 
 # Mutants
@@ -93,9 +128,20 @@ def files_below(prefix):
     return [name for name in names if name.startswith(prefix) and not SKIPPED.search(name)]
 
 
+def rows_of(path):
+    """Returns the rows of a table, without its comment."""
+    return [line.split("\t") for line in read(path.relative_to(ROOT)).splitlines() if line and not line.startswith("#")]
+
+
+def seeded_in(name):
+    """Returns the hand-written mutants of a file."""
+    text = read(name)
+    return [sites.seeded(name, text, function, BY_HAND + what, *texts) for file, function, what, *texts in rows_of(SEEDED) if file == name]
+
+
 def mutants_of(name):
     make = {".rs": sites.rust_mutants, ".h": sites.header_mutants, ".js": sites.script_mutants}[pathlib.Path(name).suffix]
-    return make(name, read(name))
+    return [*make(name, read(name)), *filter(None, seeded_in(name))]
 
 
 def mutants_below(prefixes):
@@ -122,13 +168,16 @@ def only_changed(mutants, commit):
 
 
 def sampled(mutants, count, seed):
-    """Returns `count` of the mutants in their order: those whose keys hash lowest together with the seed."""
+    """Returns `count` of the mutants: those whose keys hash lowest together with the seed."""
+    return sorted(mutants, key=lambda it: rank(it, seed))[: int(count)]
 
-    def rank(mutant):
-        return hashlib.sha256(f"{seed}\t{mutant.key()}".encode()).digest()
 
-    chosen = set(map(rank, sorted(mutants, key=rank)[: int(count)]))
-    return [it for it in mutants if rank(it) in chosen]
+def rank(mutant, seed=""):
+    return hashlib.sha256(f"{seed}\t{mutant.key()}".encode()).digest()
+
+
+def is_switched(mutant):
+    return mutant.file.endswith(".rs") and not mutant.alone
 
 
 def chosen(options):
@@ -137,6 +186,9 @@ def chosen(options):
         mutants = [it for it in mutants if not (it.alone and it.file.endswith(".rs"))]
     if options.changed:
         mutants = only_changed(mutants, options.changed)
+    before = saved(options.again)
+    # Mutants that a switch selects are compiled again, so that what an earlier run built stays valid.
+    mutants = [it for it in mutants if is_switched(it) or before.get(it.key()) not in (*KILLED, "uncompiled")]
     return sampled(mutants, *options.sample) if options.sample else mutants
 
 
@@ -145,27 +197,29 @@ def chosen(options):
 
 def accepted():
     """Returns the reason of each accepted survivor by its key: file, function and change."""
-    rows = [line.split("\t") for line in read(ACCEPTED.relative_to(ROOT)).splitlines() if line and not line.startswith("#")]
-    return {"\t".join(row[:3]): "\t".join(row[3:]) for row in rows}
-
-
-def is_known(key, keys, functions):
-    """Returns `True` if a survivor is a mutant, or was seeded by hand into a function that is still there."""
-    of_function, _, change = key.rpartition("\t")
-    return key in keys or change.startswith(BY_HAND) and of_function in functions
+    return {"\t".join(row[:3]): "\t".join(row[3:]) for row in rows_of(ACCEPTED)}
 
 
 def stale(reasons, keys):
     """Returns the faults of the accepted survivors, given the keys of all mutants."""
-    functions = {key.rpartition("\t")[0] for key in keys}
-    faults = [f"no such mutant: {key}" for key in reasons if not is_known(key, keys, functions)]
+    faults = [f"no such mutant: {key}" for key in reasons if key not in keys]
     return faults + [f"no reason: {key}" for key, reason in reasons.items() if not reason.strip()]
+
+
+def applies(row):
+    """Returns `True` if a row of `SEEDED` is a mutant of its file."""
+    return len(row) == 5 and (ROOT / row[0]).exists() and sites.seeded(row[0], read(row[0]), *row[1:]) is not None
+
+
+def not_seeded():
+    """Returns the faults of the hand-written mutants."""
+    return [f"does not apply: {' '.join(row)}" for row in rows_of(SEEDED) if not applies(row)]
 
 
 def check(_options):
     reasons = accepted()
     keys = {it.key() for it in mutants_below(("rust", "include", "page"))}
-    faults = stale(reasons, keys)
+    faults = [*not_seeded(), *stale(reasons, keys)]
     print("\n".join([*faults, f"mutate.py: {len(keys)} mutants, {len(reasons)} accepted survivors, {len(faults)} faults"]))
     return 1 if faults else 0
 
@@ -177,11 +231,6 @@ def list_mutants(options):
 
 
 # Running
-
-
-def limit_memory():
-    resource.setrlimit(resource.RLIMIT_AS, (MEMORY, MEMORY))
-    resource.setrlimit(resource.RLIMIT_CORE, (0, 0))
 
 
 def ended(process, seconds):
@@ -197,18 +246,21 @@ def ended(process, seconds):
             if not piece:
                 break
     try:
-        return "failed" if process.wait(max(0.1, deadline - time.monotonic())) else None
+        status = process.wait(max(0.1, deadline - time.monotonic()))
     except subprocess.TimeoutExpired:
         return "timeout"
+    return "timeout" if status in (-signal.SIGXCPU, -signal.SIGKILL) else "failed" if status else None
 
 
 def run_suite(suite, seconds, **variables):
     """Runs a suite in an empty temporary folder. Returns `None` if it passes, otherwise `failed` or `timeout`."""
     with tempfile.TemporaryDirectory(prefix="mutate-") as tree:
+        # tools/test/fmt.sh runs the program as another user there.
+        os.chmod(tree, 0o755)
         environment = os.environ | {"TMPDIR": tree, "RUST_TEST_THREADS": "1", "BY_CARGO": "1"} | variables
         quiet = {"stdin": subprocess.DEVNULL, "stderr": subprocess.DEVNULL, "stdout": subprocess.PIPE}
-        limit = limit_memory if suite.is_limited else None
-        process = subprocess.Popen(suite.command, cwd=suite.folder, env=environment, start_new_session=True, preexec_fn=limit, **quiet)
+        options = quiet | {"start_new_session": True, "preexec_fn": suite.limit_process}
+        process = subprocess.Popen(suite.command, cwd=suite.folder, env=environment, **options)
         try:
             return ended(process, seconds)
         finally:
@@ -235,11 +287,18 @@ def first_failure(suites, **variables):
     return "survived", ""
 
 
+def processor_time():
+    """Returns the seconds that the processes which ended have taken on processors."""
+    used = resource.getrusage(resource.RUSAGE_CHILDREN)
+    return used.ru_utime + used.ru_stime
+
+
 def measure(suite, **variables):
     """Runs a suite without a mutant, and records its time. Returns `None` if it passes, otherwise `failed` or `timeout`."""
-    started = time.monotonic()
+    suite.processor = None
+    started, used = time.monotonic(), processor_time()
     outcome = run_suite(suite, 1800, **variables)
-    suite.seconds = time.monotonic() - started
+    suite.seconds, suite.processor = time.monotonic() - started, processor_time() - used
     return outcome
 
 
@@ -251,15 +310,33 @@ def must_pass(suite):
 
 
 def trace(suite, folder):
-    """Measures a suite, and records the functions that it calls. They stay unknown if it fails only while they are recorded, which allocates."""
+    """Measures a suite, and records the functions that it calls, unless an earlier run did so with the same programs."""
     traces = folder / "traces" / re.sub(r"\W", "_", suite.name)
+    known = traces.with_suffix(".json")
+    built = [path.stat().st_mtime_ns for path in map(pathlib.Path, suite.command) if path.is_file()]
+    noted = json.loads(known.read_text()) if known.exists() else {}
+    if noted.get("built") != built:
+        noted = {"built": built, "called": called_by(suite, traces), "seconds": suite.seconds, "processor": suite.processor}
+        known.write_text(json.dumps(noted))
+    suite.seconds, suite.processor = noted["seconds"], noted["processor"]
+    suite.called = None if noted["called"] is None else frozenset(noted["called"])
+
+
+def called_by(suite, traces):
+    """Measures a suite, and returns the functions that it calls. They are unknown if it fails only while they are recorded, which allocates, or if one
+    of its processes can not record them."""
     shutil.rmtree(traces, ignore_errors=True)
     traces.mkdir(parents=True)
     if measure(suite, WAT_MUTANT_TRACE=str(traces)):
         must_pass(suite)
-        return
-    suite.called = frozenset(int(line) for path in traces.iterdir() for line in path.read_text().split())
-    say(f"{suite.name}: {suite.seconds:.1f} s, {len(suite.called)} mutated functions")
+        return None
+    if list(traces.glob("*.unknown")):
+        say(f"{suite.name}: not known which functions it calls")
+        return None
+    called = sorted({int(line) for path in traces.iterdir() for line in path.read_text().split()})
+    if suite.seconds >= SHORT:
+        say(f"{suite.name}: {suite.seconds:.1f} s, {len(called)} mutated functions")
+    return called
 
 
 def say(text):
@@ -267,10 +344,11 @@ def say(text):
 
 
 def each(jobs, call, items):
-    """Calls a function for each item, several at a time, and reports progress. Yields the results in order."""
+    """Calls a function for each item, several at a time, and reports progress. Yields the results as they come, so that each is saved at once."""
     with concurrent.futures.ThreadPoolExecutor(jobs) as pool:
-        for number, result in enumerate(pool.map(call, items), 1):
-            yield result
+        calls = [pool.submit(call, it) for it in items]
+        for number, done in enumerate(concurrent.futures.as_completed(calls), 1):
+            yield done.result()
             if number % 100 == 0:
                 say(f"{number} of {len(items)}")
 
@@ -278,49 +356,91 @@ def each(jobs, call, items):
 # Rust
 
 
-def packages_for(mutants):
-    """Returns the options of cargo for the packages whose tests may call mutated code: the mutated ones, and all that depend on them."""
-    names = {it.file.split("/")[1] for it in mutants}
+def options_of(names):
+    return [word for name in sorted(names) for word in ("--package", name)]
+
+
+def packages_of(mutants):
+    return {it.file.split("/")[1] for it in mutants}
+
+
+def dependents(names):
+    """Returns the packages, and all that depend on them: those whose tests may call their code."""
     needs = {path.parent.name: set(re.findall(r"^(wat-\w+) = ", path.read_text(), re.MULTILINE)) for path in ROOT.glob("rust/wat-*/Cargo.toml")}
     while more := {name for name, below in needs.items() if below & names} - names:
-        names |= more
-    return [word for name in sorted(names) for word in ("--package", name)]
+        names = names | more
+    return names
 
 
 def suites_of(folder, options):
     built = schemata.build(folder, options)
-    suites = [Suite(name, [str(path)], package) for name, (path, package) in sorted(built.items()) if not name.startswith("mutant")]
+    programs = [Suite(name, [str(path)], package) for name, (path, package) in sorted(built.items()) if not name.startswith("mutant")]
+    suites = [test for it in programs for test in tests_of(it)]
     program = folder / "target/debug/wat_tokens"
     if any(it.name.startswith("wat-tokens") for it in suites):
         suites += [Suite(script, [str(ROOT / script), str(program)], ROOT) for script in SCRIPTS]
     return suites
 
 
+def tests_of(program):
+    """Returns the tests of a program of cargo."""
+    words = [*program.command, "--list", "--format", "terse"]
+    listed = subprocess.run(words, cwd=program.folder, stdout=subprocess.PIPE, text=True, check=True).stdout
+    names = re.findall(r"^(.+): test$", listed, re.MULTILINE)
+    return [dataclasses.replace(program, name=f"{program.name} {it}", command=[*program.command, "--exact", it]) for it in names]
+
+
+def joined(suites):
+    """Joins the short tests of each program to one run."""
+    short, runs = collections.defaultdict(list), []
+    for it in suites:
+        if it.cost() < SHORT and it.name not in SCRIPTS:
+            short[it.command[0]].append(it)
+        else:
+            runs.append(it)
+    for tests in short.values():
+        command = [*tests[0].command[:2], *(it.command[2] for it in tests)]
+        times = {"seconds": sum(it.seconds for it in tests), "processor": sum(it.processor for it in tests)}
+        runs.append(dataclasses.replace(tests[0], name=tests[0].name.split()[0], command=command, **times))
+    return runs
+
+
 def switched(mutants, folder, options):
     """Runs the tests over the mutants of Rust that a switch selects. Yields each with its outcome and the suite that killed it."""
     numbers = dict(enumerate(sorted(mutants, key=lambda it: (it.file, it.body)), 1))
-    schemata.copy(folder)
-    schemata.add_switch(folder, len(numbers))
     texts = {name: read(name) for name in {it.file for it in mutants}}
+    schemata.copy(folder, texts)
+    schemata.add_switch(folder, len(numbers))
     files = schemata.files_of(folder, texts, {number: (it, it.body) for number, it in numbers.items()})
-    words = packages_for(mutants)
-    dropped = schemata.compile_all(folder, files, words, say)
+    own = packages_of(mutants)
+    before = saved(options.again)
+    broken = {number for number, it in numbers.items() if before.get(it.key()) == "uncompiled"}
+    dropped = schemata.compile_all(folder, files, options_of(own), say, broken)
     yield from ((numbers[number], "uncompiled", "") for number in sorted(dropped))
-    suites = suites_of(folder, words)
+    suites = suites_of(folder, options_of(own if options.own else dependents(own)))
     for suite in suites:
         trace(suite, folder)
-    suites.sort(key=lambda it: it.seconds)
+    say(f"{len(suites)} tests, which take {sum(it.seconds for it in suites):.0f} s, {sum(it.cost() for it in suites):.0f} s on a processor")
+    suites = [it for it in suites if it.cost() <= options.longest]
     firsts = {}
     for number, it in numbers.items():
         firsts.setdefault((it.file, it.body), number)
 
-    def attempt(number):
-        first = firsts[numbers[number].file, numbers[number].body]
-        reached = [it for it in suites if it.reaches(numbers[number], first)]
-        return (numbers[number], *first_failure(reached, WAT_MUTANT=str(number)), len(reached))
+    kills = collections.Counter()
 
-    for mutant, outcome, suite, reached in each(options.jobs, attempt, [it for it in numbers if it not in dropped]):
-        yield mutant, outcome if reached else "unreached", suite
+    def attempt(number):
+        mutant = numbers[number]
+        reached = [it for it in suites if it.reaches(mutant, firsts[mutant.file, mutant.body])]
+        runs = sorted(joined(reached), key=lambda it: it.cost() / (kills[mutant.file, it.name] + 1))
+        outcome, killer = first_failure(runs, WAT_MUTANT=str(number))
+        kills[mutant.file, killer] += 1
+        return mutant, outcome if reached else "unreached", killer
+
+    # In this order an interrupted run is a sample, except that accepted survivors, over which all tests run, are last.
+    known = accepted()
+    left = [number for number, it in numbers.items() if number not in dropped and before.get(it.key()) not in KILLED]
+    order = sorted(left, key=lambda it: (numbers[it].key() in known, rank(numbers[it])))
+    yield from each(options.jobs, attempt, order)
 
 
 def built_alone(mutant, folder):
@@ -373,7 +493,7 @@ def tree_for(mutant, folder, index):
     return tree
 
 
-C_PROGRAM = '"${CC:-cc}" -std=c99 -w -Iinclude -o %(name)s.out tools/test/c/%(name)s.c %(library)s -lpthread -ldl -lm && ./%(name)s.out %(words)s'
+C_PROGRAM = '"${CC:-cc}" -std=c99 -Werror=incompatible-pointer-types -Iinclude -o %(name)s.out tools/test/c/%(name)s.c %(library)s -lpthread -ldl -lm && ./%(name)s.out %(words)s'
 
 
 def header_suites(tree, library):
@@ -394,10 +514,56 @@ for text in $(find crates/wat_tokens/agreement -name '*.stdout'); do
 done"""
 
 
+def imported(tree, name):
+    """Returns the names of the sources that a JavaScript file of the page imports, and those that these import. The page's copy of a source in
+    page/out has the name of the source."""
+    names, awaited = set(), [name]
+    while awaited:
+        name = awaited.pop()
+        if name not in names and (tree / name).exists():
+            names.add(name)
+            found = re.findall(r"""(?:from|import|import\()\s*['"](\.{1,2}/[\w./-]+)['"]""", (tree / name).read_text())
+            awaited += [os.path.normpath(os.path.join(os.path.dirname(name), it)).replace("page/out/", "page/") for it in found]
+    return frozenset(names)
+
+
 def script_suites(tree, program):
-    """Returns the commands that test the JavaScript of the page in a tree."""
-    for name in ("packaged.mjs", "agree.mjs", "browser.mjs"):
-        yield Suite(name, ["node", f"page/{name}", str(program)], tree, is_limited=False)
+    """Returns the commands that test all of the page in a tree, the fastest first."""
+    for name in ("packaged.mjs", "agree.mjs"):
+        yield Suite(name, ["node", f"page/{name}", str(program)], tree, called=imported(tree, f"page/{name}"), is_limited=False)
+    opened = imported(tree, "page/page.js") | imported(tree, "page/worker.js")
+    yield Suite("browser.mjs", ["env", "QUICK=1", "node", "page/browser.mjs", str(program)], tree, called=opened, is_limited=False)
+
+
+def in_node(mutants, program, jobs):
+    """Runs the tests of parts over mutants, in one process (run_scripts.mjs). Yields each with its outcome and the test."""
+
+    def units(text):
+        return len(text.encode("utf-16-le")) // 2
+
+    loaded = {name: imported(ROOT, f"page/{name}") for name in PARTS}
+    texts = {name: read(name) for name in {it.file for it in mutants}}
+    lines = [
+        json.dumps({
+            "file": it.file, "function": it.function, "text": it.new, "tests": [name for name in PARTS if it.file in loaded[name]],
+            "start": units(texts[it.file][: it.start]), "end": units(texts[it.file][: it.end]),
+        })
+        for it in mutants
+    ]  # fmt: skip
+    words = ["node", "--experimental-vm-modules", "--no-warnings", "tools/mutants/run_scripts.mjs", str(program), str(jobs)]
+    with tempfile.TemporaryFile("w+") as given:
+        given.write("\n".join(lines))
+        given.seek(0)
+        with subprocess.Popen(words, cwd=ROOT, stdin=given, stdout=subprocess.PIPE, text=True) as process:
+            left = set(range(len(mutants)))
+            for line in process.stdout:
+                index, outcome, killer = line.rstrip("\n").split("\t")
+                left.remove(int(index))
+                yield mutants[int(index)], outcome, killer
+    if process.returncode:
+        raise schemata.Broken(f"run_scripts.mjs ended with status {process.returncode}")
+    # What no test of parts imports.
+    yield from ((mutants[i], "survived", "") for i in sorted(left))
 
 
 def in_trees(mutants, folder, options, compiler, suites):
@@ -413,7 +579,7 @@ def in_trees(mutants, folder, options, compiler, suites):
         try:
             if subprocess.run(["sh", "-c", compiler, "sh", mutant.file], cwd=tree, capture_output=True, check=False).returncode:
                 return mutant, "uncompiled", ""
-            timed = [dataclasses.replace(it, seconds=seconds[it.name]) for it in suites(tree)]
+            timed = [dataclasses.replace(it, seconds=seconds[it.name]) for it in suites(tree) if it.reaches(mutant, None)]
             return (mutant, *first_failure(timed))
         finally:
             shutil.rmtree(tree)
@@ -435,32 +601,94 @@ def of_header(mutants, folder, options):
 
 def of_scripts(mutants, folder, options):
     program = cargo_build(folder, "--package", "wat-tokens") / "wat_tokens"
+    survivors = []
+    # In this order an interrupted run is a sample.
+    for mutant, outcome, killer in in_node(sorted(mutants, key=rank), program, options.jobs):
+        if outcome == "survived" and not options.node:
+            survivors.append(mutant)
+        else:
+            yield mutant, outcome, killer
     compiler = 'cp "$1" checked.mjs && node --check checked.mjs'
-    yield from in_trees(mutants, folder, options, compiler, lambda tree: script_suites(tree, program))
+    if survivors:
+        yield from in_trees(survivors, folder, options, compiler, lambda tree: script_suites(tree, program))
 
 
 # Results
 
 
+SCORES_HEAD = """# Written by `tools/mutants/mutate.py scores`: package or file, mutants that were compiled and tried, killed ones, accepted survivors, other
+# survivors, mutants that were not tried, and the mutation score: the percentage of killed mutants of those tried, without accepted survivors. The
+# row `all` is of the Rust packages."""
+
+
+def saved(path):
+    """Returns the outcomes of an earlier run by the keys of its mutants: none without a file."""
+    if path is None:
+        return {}
+    rows = [line.split("\t") for line in pathlib.Path(path).read_text(encoding="utf-8").splitlines()]
+    return {"\t".join((file, function, change)): outcome for outcome, _, file, _, function, change in rows}
+
+
+def counted(outcomes_of, reasons):
+    """Returns the number of mutants of each outcome by scope, given the outcomes by mutant. A survivor is `accepted` or `open` too."""
+    counts = collections.defaultdict(collections.Counter)
+    for mutant, outcome in outcomes_of:
+        survived = outcome in SURVIVED
+        kinds = [outcome, *(["accepted" if mutant.key() in reasons else "open"] if survived else [])]
+        for scope in mutant.scopes():
+            counts[scope].update(kinds)
+    return dict(sorted(counts.items()))
+
+
+def totals(count):
+    """Returns the numbers of a row: compiled, killed, accepted and surviving mutants, and the mutation score."""
+    killed, lived = sum(count[it] for it in KILLED), count["open"]
+    return killed + lived + count["accepted"], killed, count["accepted"], lived, 100 * killed / (killed + lived) if killed + lived else 100.0
+
+
 def summary(results, reasons):
     """Prints the score by module. Returns the survivors that are not accepted, and the score."""
-    counts = collections.defaultdict(collections.Counter)
-    survivors = []
-    for mutant, outcome, _suite in results:
-        counts[mutant.module()][outcome] += 1
-        if outcome in ("survived", "unreached"):
-            known = mutant.key() in reasons
-            counts[mutant.module()]["accepted" if known else "open"] += 1
-            survivors += [] if known else [(mutant, outcome)]
+    counts = counted([(mutant, outcome) for mutant, outcome, _ in results], reasons)
+    survivors = [(it, outcome) for it, outcome, _ in results if outcome in SURVIVED and it.key() not in reasons]
     for mutant, outcome in survivors:
         print(f"{outcome}\t{mutant.file}:{mutant.line}\t{mutant.function}\t{mutant.change}")
-    print(f"\n{'module':44} {'compiled':>8} {'killed':>6} {'timeout':>7} {'accepted':>8} {'survived':>8} {'score':>7}")
-    for module, count in [*sorted(counts.items()), ("all", sum(counts.values(), collections.Counter()))]:
-        killed, lived = count["failed"] + count["timeout"], count["open"]
-        compiled = killed + lived + count["accepted"]
-        score = 100 * killed / (killed + lived) if killed + lived else 100.0
-        print(f"{module:44} {compiled:8} {killed:6} {count['timeout']:7} {count['accepted']:8} {lived:8} {score:6.1f}%")
-    return survivors, score
+    print(f"\n{'scope':56} {'compiled':>8} {'killed':>6} {'timeout':>7} {'accepted':>8} {'survived':>8} {'score':>7}")
+    for scope, count in counts.items():
+        compiled, killed, known, lived, score = totals(count)
+        print(f"{scope:56} {compiled:8} {killed:6} {count['timeout']:7} {known:8} {lived:8} {score:6.1f}%")
+    return survivors, totals(counts["all"])[-1] if counts else 100.0
+
+
+def row_of(scope, count):
+    """Returns a row of the table of scores."""
+    tried, killed, known, lived, score = totals(count)
+    return scope, tried, killed, known, lived, count["untried"], f"{score:.1f}" if tried else "-"
+
+
+def package_of(name):
+    """Returns the package of a file or of a scope: `page`, or a folder of `rust`."""
+    return PAGE if name.startswith(PAGE) else "/".join(name.split("/")[:2])
+
+
+def rows_before(names):
+    """Returns the counts of packages, and of their files, in the table of scores as it is."""
+    kinds = ("failed", "accepted", "open", "untried")
+    counts = {row[0]: collections.Counter(dict(zip(kinds, map(int, row[2:6]), strict=True))) for row in rows_of(SCORES)}
+    return {scope: count for scope, count in counts.items() if package_of(scope) in names}
+
+
+def scores(options):
+    """Writes the table of scores from the files of earlier runs. The rows of packages of which these files have no outcome stay."""
+    before = {key: outcome for path in options.prefixes for key, outcome in saved(path).items()}
+    run = {package_of(key) for key in before}
+    mutants = [it for it in mutants_below((*RUST, PAGE)) if package_of(it.file) in run]
+    counts = counted([(it, before.get(it.key(), "untried")) for it in mutants], accepted())
+    counts |= rows_before({*RUST, PAGE} - run)
+    counts["all"] = sum((counts[name] for name in RUST if name in counts), collections.Counter())
+    rows = [row_of(scope, count) for scope, count in sorted(counts.items())]
+    SCORES.write_text("\n".join([SCORES_HEAD, *("\t".join(map(str, row)) for row in rows), ""]), encoding="utf-8")
+    print(f"mutate.py: {len(mutants)} mutants, {sum(it.key() not in before for it in mutants)} without an outcome")
+    return 0
 
 
 def outcomes(mutants, folder, options):
@@ -503,8 +731,8 @@ def outcomes_without(test, folder, options):
     mutants = [it for it in mutants_below([package]) if not it.alone]
     original = schemata.copy
 
-    def copy(to):
-        original(to)
+    def copy(to, mutated):
+        original(to, mutated)
         path = to / package / "src/tests.rs"
         path.write_text(path.read_text().replace(f"#[test]\nfn {test}()", f"#[test]\n#[ignore]\nfn {test}()"))
 
@@ -533,18 +761,22 @@ def self_test(options):
 def main():
     parser = argparse.ArgumentParser(description=__doc__, formatter_class=argparse.RawDescriptionHelpFormatter)
     commands = parser.add_subparsers(required=True)
-    for name, command in (("list", list_mutants), ("check", check), ("run", run), ("self-test", self_test)):
+    for name, command in (("list", list_mutants), ("check", check), ("run", run), ("scores", scores), ("self-test", self_test)):
         of = commands.add_parser(name)
         of.set_defaults(command=command)
         of.add_argument("--folder")
         of.add_argument("--jobs", type=int, default=os.cpu_count())
         of.add_argument("prefixes", nargs="*")
+        of.add_argument("--own", action="store_true")
+        of.add_argument("--longest", type=float, default=math.inf, metavar="SECONDS")
+        of.add_argument("--again", metavar="FILE")
         if name == "run":
             of.add_argument("--sample", nargs=2, metavar=("N", "SEED"))
             of.add_argument("--changed", metavar="COMMIT")
             of.add_argument("--alone", action="store_true")
             of.add_argument("--least", type=float, default=100.0, metavar="SCORE")
             of.add_argument("--save", metavar="FILE")
+            of.add_argument("--node", action="store_true")
     options = parser.parse_args()
     try:
         return options.command(options)

@@ -2,13 +2,14 @@
 
 The copy has a package `mutant`. The body of a mutated function becomes `match ::mutant::at(FIRST, COUNT) { 1 => .., 2 => .., _ => BODY }`; the
 environment variable WAT_MUTANT has the number of the mutant that is active in the process and in its children. With WAT_MUTANT_TRACE, the name of a
-folder, each process writes the functions that it called.
+folder, each process writes the functions that it called, or makes a folder if it can write no file.
 """
 import bisect
 import collections
 import json
 import os
 import pathlib
+import re
 import shutil
 import subprocess
 
@@ -16,6 +17,15 @@ ROOT = pathlib.Path(__file__).resolve().parents[2]
 ROUNDS = 12
 # Lints that would report a mutant that panics wherever it runs, which is to be killed by a test.
 LINTS = "-Awarnings -Aunconditional_panic -Aarithmetic_overflow"
+# Without optimization a function would need the stack of all its mutants. Overflow checks and debug assertions stay.
+PROFILE = "\n[profile.dev]\nopt-level = 1\ndebug = false\nincremental = true\n"
+# The programs of tests are compiled much faster without it.
+WRAPPER = """#!/bin/sh
+case " $* " in
+    *" --test "*) exec "$@" -C opt-level=0 ;;
+esac
+exec "$@"
+"""
 SWITCH = """//! The switch of mutant schemata.
 use std::ffi::{CStr, c_char, c_int};
 use std::sync::atomic::{AtomicU8, AtomicU32, Ordering::Relaxed};
@@ -80,7 +90,10 @@ fn number_of(digits: &[u8]) -> u32 {
 extern "C" fn write() {
     let Some(folder) = std::env::var_os("WAT_MUTANT_TRACE") else { return };
     let called: Vec<String> = (0..COUNT).filter(|at| CALLED[*at].load(Relaxed) != 0).map(|at| at.to_string()).collect();
-    let _ = std::fs::write(std::path::Path::new(&folder).join(std::process::id().to_string()), called.join("\\n"));
+    let path = std::path::Path::new(&folder).join(std::process::id().to_string());
+    if std::fs::write(&path, called.join("\\n")).is_err() {
+        let _ = std::fs::create_dir(path.with_extension("unknown"));
+    }
 }
 """
 
@@ -89,10 +102,22 @@ class Broken(Exception):
     """The copy does not compile even without mutants, or an error is in no mutant."""
 
 
-def copy(folder):
-    """Copies the Rust packages, and links everything else that their tests read."""
-    shutil.rmtree(folder / "rust", ignore_errors=True)
-    shutil.copytree(ROOT / "rust", folder / "rust", ignore=shutil.ignore_patterns("target", "mutation"))
+def put(path, text):
+    """Writes a file, unless it has this text: what was built from it stays valid then."""
+    if not path.exists() or path.read_text(encoding="utf-8") != text:
+        path.parent.mkdir(parents=True, exist_ok=True)
+        path.write_text(text, encoding="utf-8")
+
+
+def copy(folder, mutated=()):
+    """Copies the Rust packages without the mutated files, which `File` writes, and links everything else that their tests read."""
+    names = subprocess.run(["git", "ls-files", "-co", "--exclude-standard", "rust"], cwd=ROOT, stdout=subprocess.PIPE, text=True, check=True)
+    wanted = {name for name in names.stdout.splitlines() if (ROOT / name).is_file()}
+    for path in (folder / "rust").glob("wat-*/**/*"):
+        if path.is_file() and str(path.relative_to(folder)) not in wanted:
+            path.unlink()
+    for name in wanted - set(mutated):
+        put(folder / name, (ROOT / name).read_text(encoding="utf-8"))
     for path in ROOT.iterdir():
         link = folder / path.name
         if path.name not in ("rust", "target", ".git") and not link.is_symlink() and not link.exists():
@@ -102,14 +127,13 @@ def copy(folder):
 def add_switch(folder, count):
     """Adds the package `mutant`, and makes each package depend on it."""
     switch = folder / "rust/mutant"
-    (switch / "src").mkdir(parents=True, exist_ok=True)
-    (switch / "Cargo.toml").write_text('[package]\nname = "mutant"\nversion = "0.0.0"\nedition = "2024"\n')
-    (switch / "src/lib.rs").write_text(SWITCH + f"\nconst COUNT: usize = {count + 2};\n")
+    put(switch / "Cargo.toml", '[package]\nname = "mutant"\nversion = "0.0.0"\nedition = "2024"\n')
+    put(switch / "src/lib.rs", SWITCH + f"\nconst COUNT: usize = {count + 2};\n")
     for manifest in (folder / "rust").glob("wat-*/Cargo.toml"):
         text = manifest.read_text()
         manifest.write_text(text.replace("[dependencies]\n", '[dependencies]\nmutant = { path = "../mutant" }\n', 1))
     top = folder / "rust/Cargo.toml"
-    top.write_text(top.read_text().replace('members = [', 'members = ["mutant", ') + "\n[profile.dev]\ndebug = false\nincremental = true\n")
+    top.write_text(top.read_text().replace('members = [', 'members = ["mutant", ') + PROFILE)
 
 
 class File:
@@ -145,7 +169,12 @@ class File:
             line += body.count("\n")
             at = end
         out.append(self.text[at:])
-        target.write_text("".join(out))
+        put(target, self.without_inline("".join(out)))
+
+    @staticmethod
+    def without_inline(text):
+        """Removes the attributes `inline`, as functions with all their mutants are long."""
+        return re.sub(r"#\[inline(\(always\))?\]", "", text)
 
     def mutated(self, start, end, mutant):
         return self.text[start : mutant.start] + mutant.new + self.text[mutant.end : end]
@@ -165,7 +194,12 @@ def spans(message):
 
 
 def environment(folder, **more):
-    return os.environ | {"CARGO_TARGET_DIR": str(folder / "target"), "RUSTFLAGS": LINTS, "CARGO_TERM_COLOR": "never"} | more
+    """Returns the environment of cargo, which finds the wrapper of rustc in the folder."""
+    wrapper = folder / "rustc.sh"
+    put(wrapper, WRAPPER)
+    wrapper.chmod(0o755)
+    words = {"CARGO_TARGET_DIR": str(folder / "target"), "RUSTC_WORKSPACE_WRAPPER": str(wrapper), "RUSTFLAGS": LINTS, "CARGO_TERM_COLOR": "never"}
+    return os.environ | words | more
 
 
 def cargo(folder, *words):
@@ -193,9 +227,9 @@ def blamed(error, files, folder):
     return set()
 
 
-def compile_all(folder, files, options, report):
-    """Drops mutants that do not compile until all others do. Returns the numbers of the dropped ones."""
-    dropped = set()
+def compile_all(folder, files, options, report, known):
+    """Drops mutants that do not compile until all others do, the known ones first. Returns the numbers of the dropped ones."""
+    dropped = set(known)
     for words in (["check", "--keep-going"], ["check", "--keep-going", "--tests"]):
         for number in range(ROUNDS):
             new = compile_once(folder, files, [*words, "--offline", *options], dropped)
@@ -221,7 +255,7 @@ def compile_once(folder, files, words, dropped):
 
 
 def build(folder, options):
-    """Builds the tests. Returns the paths of the executables by package and name."""
+    """Builds the tests. Returns the paths of the executables by package, kind and name, as a program may have its library's name."""
     done, messages = cargo(folder, "test", "--no-run", "--offline", *options)
     if done.returncode:
         raise Broken(done.stderr[-4000:] + "\n".join(it["rendered"] for it in errors(messages)[:5]))
@@ -229,7 +263,8 @@ def build(folder, options):
     for it in messages:
         if it.get("reason") == "compiler-artifact" and it.get("executable") and it["profile"]["test"]:
             package = pathlib.Path(it["manifest_path"]).parent
-            found[f"{package.name}::{it['target']['name']}"] = (pathlib.Path(it["executable"]), package)
+            target = it["target"]
+            found[f"{package.name}::{target['kind'][0]}::{target['name']}"] = (pathlib.Path(it["executable"]), package)
     return found
 
 

@@ -1,7 +1,7 @@
 """Mutation operators on the tokens of a source in Rust, C or JavaScript, for mutate.py.
 
-A binary operator is recognized by the whitespace around it, as all sources are formatted. Comments and strings are not mutated, except the names
-in the tables of the C header. Rust that is not compiled for the host or without tests is skipped.
+A binary operator is recognized by the whitespace around it, as all sources are formatted. Comments are not mutated, and of strings only those of
+Rust that no panic prints, and the names in the tables of the C header. Rust that is not compiled for the host or without tests is skipped.
 """
 import collections
 import dataclasses
@@ -34,6 +34,16 @@ SWAPS = {
     "===": "!==", "!==": "===", "&&": "||", "||": "&&", "<<": ">>", ">>": "<<", "&": "|", "|": "&", "^": "|", "+=": "-=", "-=": "+=",
     "*=": "+=", "/=": "*=", "%=": "/=", "|=": "&=", "&=": "|=", "<<=": ">>=", ">>=": "<<=", "??": "&&",
 }  # fmt: skip
+# Methods of Rust, and those of the same type that replace them.
+METHODS = {
+    "min": "max", "max": "min", "is_some": "is_none", "is_none": "is_some", "is_ok": "is_err", "is_err": "is_ok", "any": "all", "all": "any",
+    "is_some_and": "is_none_or", "is_none_or": "is_some_and", "starts_with": "ends_with", "ends_with": "starts_with", "first": "last",
+    "last": "first", "find": "rfind", "rfind": "find", "position": "rposition", "wrapping_add": "wrapping_sub", "wrapping_sub": "wrapping_add",
+    "saturating_add": "wrapping_add", "saturating_sub": "wrapping_sub", "leading_zeros": "trailing_zeros", "trailing_zeros": "leading_zeros",
+    "take_while": "skip_while", "skip_while": "take_while", "next": "next_back", "next_back": "next", "split_once": "rsplit_once",
+}  # fmt: skip
+# What prints the strings in its parentheses only if a precondition is violated.
+PANICS = {"expect", "panic", "assert", "assert_eq", "debug_assert", "unreachable", "cfg", "doc"}
 INTEGER = re.compile(r"(0x[0-9a-fA-F_]+|0b[01_]+|\d[\d_]*)((?:[iu](?:8|16|32|64|128|size)|[uU]?[lL]*|n)?)")
 # Statements that begin with one of these are declarations.
 DECLARES = {"let", "const", "var", "use", "static", "type", "fn", "struct", "enum", "impl", "pub", "#", "macro_rules", "mod", "extern", "import",
@@ -43,6 +53,8 @@ BLOCKS = {"if", "for", "while", "match", "loop", "unsafe", "switch"}
 CONTINUES = {"=", ".", "?", "else", ")", "]", ";", ",", "as", "==", "!=", "&&", "||", "+", "-", "*", "catch", "finally", "from"}
 # The conditions of code that is compiled for other targets, or only for tests.
 EXCLUDED = re.compile(r'#\[cfg\((test|not\(unix\)|not\(feature = "std"\)|target_family = "wasm"|target_pointer_width = "16"|doctest)\)\]')
+# The types of C, with the type that replaces each in a declaration.
+C_TYPES = {"size_t": "uint32_t", "uint64_t": "uint32_t", "uint32_t": "uint64_t", "uint8_t": "uint16_t", "bool": "uint32_t"}
 INTEGERS = {f"{sign}{bits}" for sign in "iu" for bits in ("8", "16", "32", "64", "128", "size")}
 
 
@@ -71,9 +83,10 @@ class Mutant:
     def key(self):
         return f"{self.file}\t{self.function}\t{self.change}"
 
-    def module(self):
-        parts = self.file.split("/")
-        return "/".join(parts[:4]) if "generated" in parts else "/".join(parts[: 2 if parts[0] == "include" else 3])
+    def scopes(self):
+        """Returns the scopes that count the mutant: its file, its package, and all."""
+        package = "page" if self.file.startswith("page/") else "/".join(self.file.split("/")[:2])
+        return {self.file, package, "all"}
 
 
 @dataclasses.dataclass(frozen=True)
@@ -119,6 +132,17 @@ def past_group(tokens, at):
             if depth == 0:
                 return i + 1
     return len(tokens)
+
+
+def before_group(tokens, at):
+    """Returns the index of the bracket that opens the group that ends at `at`."""
+    depth = 0
+    for i in range(at, -1, -1):
+        if tokens[i].kind == "sign":
+            depth += (tokens[i].text in CLOSE) - (tokens[i].text in OPEN)
+            if depth == 0:
+                return i
+    return 0
 
 
 def past_angles(tokens, at):
@@ -291,6 +315,92 @@ def constants(tokens, i):
         yield token.start, token.end, f"{token.text.partition(chr(39))[0]}'\\x01'"
 
 
+def renamed(tokens, i):
+    """Yields the replacement of a method."""
+    token = tokens[i]
+    if token.text in METHODS and tokens[i - 1].text == "." and tokens[i + 1].text == "(":
+        yield token.start, token.end, METHODS[token.text]
+
+
+def emptied(tokens, i):
+    """Yields the empty string in place of a string, unless only a panic prints it, or it is part of an attribute."""
+    token = tokens[i]
+    if token.kind != "string" or len(token.text) == len(token.text.partition('"')[0]) + 2:
+        return
+    if tokens[i - 1].text == "=" and tokens[i - 2].text.startswith(("target_", "feature")):
+        return
+    depth, j = 0, i - 1
+    while j > 0 and not (tokens[j].text in ("(", "[", "{") and depth == 0):
+        depth += (tokens[j].text in CLOSE) - (tokens[j].text in OPEN) if tokens[j].kind == "sign" else 0
+        j -= 1
+    before = {it.text for it in tokens[max(0, j - 2) : j]}
+    if not before & PANICS:
+        yield token.start, token.end, f"{token.text.partition(chr(34))[0].rstrip('r#')}{chr(34) * 2}"
+
+
+def unnegated(tokens, i):
+    """Yields the operand of a `!`, unless it begins a condition, which is negated anyway."""
+    token, before = tokens[i], tokens[i - 1]
+    if token.text == "!" and tokens[i + 1].text != "[" and (before.kind == "sign" and before.text not in CLOSE | {"#"} or before.text == "return"):
+        yield token.start, token.end, ""
+
+
+# What ends the operand of an `&&` or `||`, before it and after it.
+BEGINS_OPERAND = {"(", "[", "{", "}", ";", ",", "=", "=>", "|", "if", "while", "return", "let", "||"}
+ENDS_OPERAND = {")", "]", "}", "{", ";", ",", "=", "=>", "||"}
+
+
+def operand_start(tokens, at, begins):
+    """Returns the index of the first token of the operand whose last token is at `at`. It is after a token of `begins`."""
+    while True:
+        first = before_group(tokens, at) if tokens[at].kind == "sign" and tokens[at].text in CLOSE else at
+        if tokens[first - 1].text in begins:
+            return first
+        at = first - 1
+
+
+def decided(text, tokens, i, last):
+    """Yields `true` in place of each operand of the `&&` at `i`, or `false` in place of those of an `||`, so that the other operand decides."""
+    operator = tokens[i]
+    if operator.kind != "sign" or operator.text not in ("&&", "||") or not is_spaced(text, operator):
+        return
+    narrow = {"&&"} if operator.text == "&&" else set()
+    start, end = operand_start(tokens, i - 1, BEGINS_OPERAND | narrow), i + 1
+    while end < last and tokens[end].text not in ENDS_OPERAND | narrow:
+        end = past_group(tokens, end) if tokens[end].text in ("(", "[") else end + 1
+    value = "true" if operator.text == "&&" else "false"
+    yield tokens[start].start, tokens[i - 1].end, value
+    yield tokens[i + 1].start, tokens[end - 1].end, value
+
+
+def arms_of(tokens, i):
+    """Returns the arms of the `match` at `i`: the indices of their first token, of their `=>`, and after them."""
+    while tokens[i].text != "{":
+        i = past_group(tokens, i) if tokens[i].text in ("(", "[") else i + 1
+    end, at, arms = past_group(tokens, i) - 1, i + 1, []
+    while at < end:
+        start = at
+        while tokens[at].text != "=>":
+            at = past_group(tokens, at) if tokens[at].text in OPEN else at + 1
+        arrow, at = at, at + 1
+        is_block = tokens[at].text == "{"
+        while at < end and tokens[at].text != ",":
+            at = past_group(tokens, at) if tokens[at].text in OPEN and tokens[at].kind == "sign" else at + 1
+            if is_block and tokens[at - 1].text == "}" and tokens[at].text != ".":
+                break
+        at += at < end and tokens[at].text == ","
+        arms.append((start, arrow, at))
+    return arms
+
+
+def without_arms(tokens, i):
+    """Yields each arm of the `match` at `i`, if the last one matches everything: without the others it is compiled too."""
+    if tokens[i].kind == "name" and tokens[i].text == "match":
+        *others, (start, arrow, _) = arms_of(tokens, i)
+        if arrow == start + 1 and tokens[start].text[0] in "_abcdefghijklmnopqrstuvwxyz":
+            yield from ((tokens[begin].start, tokens[end - 1].end, "") for begin, _, end in others)
+
+
 def negated(tokens, i, last):
     """Yields the negation of the condition of the `if` or `while` at `i`, unless it is a pattern."""
     if tokens[i].text not in ("if", "while") or tokens[i].kind != "name" or tokens[i + 1].text == "let":
@@ -338,7 +448,7 @@ def results(returns):
     if plain in INTEGERS:
         return ["0", "1"]
     if plain.startswith("Option<"):
-        return ["None"]
+        return ["None", "Some(Default::default())"]
     if re.match(r"(\w+::)*Result\b", plain):
         return ["Ok(Default::default())"]
     if plain == "&str":
@@ -367,7 +477,7 @@ def described(text, start, end, new):
     if text[start] == "{":
         return f"the body -> {new}"
     if "\n" in text[start:end]:
-        return f"{text[start:end].splitlines()[0].strip()} .. -> {new or 'nothing'}"
+        return f"{text[start:end].splitlines()[0].strip()} .. -> {(new.splitlines() or ['nothing'])[0].strip()}"
     return f"{old} -> {(text[first:start] + new + text[end:last]).strip() or 'nothing'}"
 
 
@@ -378,15 +488,24 @@ def is_endless(tokens, i):
 
 
 def edits_of(text, tokens, function, is_rust):
-    """Yields all edits of a function, as the offsets and the new text."""
-    yield from replaced_bodies(text, tokens, function, is_rust)
-    yield from dropped(tokens, function)
+    """Returns all edits of a function, as the offsets and the new text."""
+    edits = [*replaced_bodies(text, tokens, function, is_rust), *dropped(tokens, function)]
     for i in range(function.open, function.close):
         if is_endless(tokens, i):
             continue
-        yield from swapped(text, tokens, i)
-        yield from constants(tokens, i)
-        yield from negated(tokens, i, function.close) if is_rust else negated_other(tokens, i)
+        edits += [*swapped(text, tokens, i), *constants(tokens, i)]
+        edits += of_token(text, tokens, i, function.close) if is_rust else negated_other(tokens, i)
+    return list(dict.fromkeys(edits))
+
+
+def of_token(text, tokens, i, last):
+    """Yields the edits at a token that only Rust has."""
+    yield from negated(tokens, i, last)
+    yield from renamed(tokens, i)
+    yield from emptied(tokens, i)
+    yield from unnegated(tokens, i)
+    yield from decided(text, tokens, i, last)
+    yield from without_arms(tokens, i)
 
 
 def numbered(mutants):
@@ -457,6 +576,18 @@ def rust_mutants(file, text):
     return list(numbered(found))
 
 
+def seeded(file, text, name, change, old, new):
+    """Returns the mutant that replaces a text in a function of a Rust source, or `None` if the functions of this name do not have it once."""
+    tokens = tokens_of(text, RUST)
+    bodies = [(tokens[it.open].start, tokens[it.close - 1].end) for it in rust_functions(text, tokens) if it.name == name]
+    wanted = re.compile(r"\s+".join(map(re.escape, old.split())))
+    found = [(body, match.span()) for body in bodies for match in wanted.finditer(text, *body)]
+    if len(found) != 1:
+        return None
+    body, (start, end) = found[0]
+    return Mutant(file, name, body, text.count("\n", 0, start) + 1, start, end, new, change, False)
+
+
 def script_mutants(file, text):
     """Returns the mutants of a JavaScript source: of its functions, and of its other statements."""
     tokens = tokens_of(text, OTHER)
@@ -470,19 +601,61 @@ def script_mutants(file, text):
     return list(numbered(found))
 
 
+def declared_types(file, text, tokens, functions):
+    """Yields the mutants of a C header that give a field or a parameter another type."""
+    bodies = {i for it in functions for i in range(it.open, it.close)}
+    for i, token in enumerate(tokens):
+        if i not in bodies and token.text in C_TYPES and tokens[i - 1].text != "typedef":
+            yield mutant_of(file, text, declared_in(tokens, i), (token.start, token.end, C_TYPES[token.text]))
+
+
+def declared_in(tokens, at):
+    """Returns the name of the struct or function in whose declaration a token of a C header is."""
+    first = max((i for i in range(at) if tokens[i].text == ";" and tokens[i - 1].text in ("}", ")")), default=0)
+    for i in range(first, min(len(tokens) - 1, at + 4)):
+        if tokens[i].text.startswith("wat_") and tokens[i + 1].text in ("{", "("):
+            return tokens[i].text
+    return "module"
+
+
+def fields_of(file, text):
+    """Yields the mutants of a C header in which a struct lacks a field, or has two adjacent ones in the other order."""
+    for struct in re.finditer(r"^struct (wat_\w+) \{\n(.*?)^\};", text, re.MULTILINE | re.DOTALL):
+        fields = list(re.finditer(r"^ +(\w+(?: \w+)? \w+);", struct[2], re.MULTILINE))
+        offset = struct.start(2)
+        for one in fields:
+            yield mutant_of(file, text, struct[1], (offset + one.start(1), offset + one.end(), ""))
+        for one, other in zip(fields, fields[1:]):
+            between = struct[2][one.end(1) : other.start(1)]
+            yield mutant_of(file, text, struct[1], (offset + one.start(1), offset + other.end(1), other[1] + between + one[1]))
+
+
+def swapped_names(file, text, tokens, function):
+    """Yields the mutants of a table of names in which two adjacent names are swapped."""
+    strings = [it for it in tokens[function.open : function.close] if it.kind == "string"]
+    for one, other in zip(strings, strings[1:]):
+        if one.text != other.text and text[one.end : other.start].strip() == ",":
+            yield mutant_of(file, text, function.name, (one.start, other.end, other.text + text[one.end : other.start] + one.text))
+
+
 def header_mutants(file, text):
-    """Returns the mutants of a C header: of its inline functions, of the names in their tables, and of the constants that it defines."""
-    tokens = tokens_of(text, OTHER)
+    """Returns the mutants of a C header: of its inline functions, of the names in their tables, of the constants, structs and functions that it
+    declares."""
+    tokens = tokens_of(re.sub(r"^#define (?!WAT_).*", lambda it: " " * len(it[0]), text, flags=re.MULTILINE), OTHER)
     functions = other_functions(text, tokens)
     found = list(of_functions(file, text, tokens, functions, False))
     for function in functions:
+        found += swapped_names(file, text, tokens, function)
         for token in tokens[function.open : function.close]:
             if token.kind == "string" and len(token.text) > 2:
                 found.append(mutant_of(file, text, function.name, (token.start, token.end, '""')))
-    for match in re.finditer(r'^(?:#define|\s+|.*[{,] )(WAT_\w+)(?: =)? (\d+|".*?")', text, re.MULTILINE):
+    for match in re.finditer(r'^(?:#define |\s+|.*[{,] )(WAT_\w+)(?: =)? (\d+|".*?")', text, re.MULTILINE):
         edits = [(*match.span(2), '""')] if match[2].startswith('"') else [(*match.span(2), str(int(match[2]) + 1))]
         found += [mutant_of(file, text, match[1], edit) for edit in edits]
     for match in re.finditer(r"(?<=[{ ])(WAT_\w+) = (\d+)(?=,| \})", text):
         found.append(mutant_of(file, text, match[1], (*match.span(2), str(int(match[2]) + 1))))
-    unique = {(it.start, it.new): it for it in found}
+    for match in re.finditer(r"^#define wat_\w+ wat_\w+", text, re.MULTILINE):
+        found.append(mutant_of(file, text, "module", (*match.span(), "")))
+    found += [*declared_types(file, text, tokens, functions), *fields_of(file, text)]
+    unique = {(it.start, it.end, it.new): it for it in found}
     return list(numbered(unique.values()))

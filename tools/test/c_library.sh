@@ -3,7 +3,7 @@
 # own compilers. Each library is tested with every C compiler that is installed: each function against golden results; C programs that list the golden
 # texts and their identifiers; all functions on the golden texts and on mutations of them, under the address and undefined-behavior sanitizers and
 # under valgrind; allocation-failure injection; the header as C99 and as C++, and the example at its head; the declarations of both. All libraries
-# must return the same. Finally, floats read by wat-parser are compared with `strtof` and `strtod`. A part that can't be run here is skipped and
+# must return the same. Floats, also those read by wat-parser, are compared with `strtof` and `strtod`. A part that can't be run here is skipped and
 # reported.
 #
 #   CRATES_FOLDER=FOLDER  the crates that cargo builds with, one folder each, if no registry is available
@@ -159,6 +159,16 @@ run_example() {
     say "$name: the example of the header prints the $(wc -l < "$room/example.wanted") lines that the header states"
 }
 
+# compare_bits NAME LIBRARY..: compares the bits of floats with those of `strtof` and `strtod`
+compare_bits() {
+    local name=$1 said
+    shift
+    "$c" -std=c99 -O2 "${strict[@]}" -o "$room/floats" tools/test/c/floats.c
+    "$c" -std=c99 -O2 "${strict[@]}" -o "$room/bits" tools/test/c/bits.c "$@"
+    said=$("$room/floats" 200000 | "$room/bits") || fail "$name: $said"
+    say "$name, as strtof and strtod: $said"
+}
+
 # suite NAME LIBRARY..: runs all tests of tools/test/c over a library
 suite() {
     local name=$1 compiler level
@@ -170,6 +180,7 @@ suite() {
             said_by "$compiler -std=c99 $level" "$name" answers "$@"
             said_by "$compiler -std=c99 $level" "$name" tokens "$@"
         done
+        said_by "$compiler -std=c99 -O2" "$name" recovery "$@"
         if sanitizes "$compiler"; then
             read_all "$name" "$compiler" "$@"
         else
@@ -180,6 +191,7 @@ suite() {
     compare "$name: list.c" "$room/list" list
     "$c" -std=c99 -O2 "${strict[@]}" -o "$room/identifiers" tools/test/c/identifiers.c "$@"
     compare "$name: identifiers.c" "$room/identifiers" identifiers
+    compare_bits "$name" "$@"
     refuse "$name" "$@"
     if has valgrind; then
         watch "$name" "$@"

@@ -1,14 +1,18 @@
 #!/usr/bin/env python3
-"""Counts the instructions and the peak memory of the program's commands and of the calls of the libraries, on texts of SIZE, 2, 4 and 8 times SIZE
+"""Counts the instructions and the memory of the program's commands and of the calls of the libraries, on texts of SIZE, 2, 4 and 8 times SIZE
 bytes of each kind, and compares them with tools/test/cost/bounds.tsv. No contract states time or memory, so a verified body may lex a text twice.
 
 usage: tools/test/cost.py [--record] [--size SIZE] [KIND..]      --record writes the table; without a KIND all kinds are measured
+       tools/test/cost.py --self-test                            shows that seeded faults are reported
 
 rust/wat-tokens/tests/cost has the calls, tools/test/cost/texts.py the kinds. callgrind counts the instructions, an allocator in the test the memory.
-A row of the table is a kind and a call, with three numbers: the instructions and the bytes allocated at the peak, for each byte of the longest text,
-and the growth: the instructions that the last doubling of the text adds, relative to those that the doubling before it adds (2 if the time is linear,
-4 if it is quadratic). A call fails if its instructions are more than 1.25 times those of the table, its bytes more than 1.15 times, or its growth more
-than 3. SUPERLINEAR has the known exceptions with their reasons. The growth of the table is their bound, and they must still be above 3.
+Each run of a program has equal counts.
+
+A row of the table is a kind and a call, with four numbers: the instructions and the bytes allocated at the peak, for each byte of the longest text,
+the allocations for 1,000 of its bytes, and the growth: the instructions that the last doubling of the text adds, relative to those that the doubling
+before it adds (2 if the time is linear, 4 if it is quadratic). A call fails if one of the first three is more than 1.15 times that of the table, or
+its growth more than 3.
+SUPERLINEAR has the known exceptions with their reasons. The growth of the table is their bound, and they must still be above 3.
 """
 import argparse
 import concurrent.futures
@@ -30,12 +34,15 @@ import texts
 
 TABLE = ROOT / "tools/test/cost/bounds.tsv"
 FACTORS = [1, 2, 4, 8]
+# The divisors of SIZE for kinds of which a call takes long.
+SHORTER = {"errors_comments": 8, "uses_by_functions": 4, "uses_by_imports": 4}
 LINEAR = 3.0
-# Doubling a text may add this number of instructions for each byte, however fast it grows.
-QUIET = 0.25
+# Doubling a text may add this number of instructions for each byte that it adds, however fast it grows.
+QUIET = 5
 # What a call may take of the bound of its row, and in addition to it.
-INSTRUCTIONS, MORE_INSTRUCTIONS = 1.25, 8_000
+INSTRUCTIONS, MORE_INSTRUCTIONS = 1.15, 8_000
 BYTES, MORE_BYTES = 1.15, 4_096
+BLOCKS, MORE_BLOCKS = 1.15, 8
 GROWTH = 1.1
 # The commands that are run as processes, with a file. Their memory is not measured.
 COMMANDS = ["fmt --diff", "fmt --write", "fmt --check"]
@@ -46,20 +53,23 @@ SUPERLINEAR = {
     "uses_by_functions": (COMPILERS, "each use copies its type"),
     "uses_by_imports": (COMPILERS, "each use copies its type"),
     "errors_comments": ({"wat_fill, wat_resume"}, "each unclosed comment is searched up to the end of the text"),
-    "types_named": ({"Document::new"}, "not explained yet"),
 }
+# The faults of `seeded` in rust/wat-tokens/tests/cost, with a part of the message that reports each, and the kind of the text.
+SEEDS = {"twice": "instructions a byte", "quadratic": "a growth of", "kept": "a peak of"}
+SEEDED = "functions"
 
 
 class Row:
     """The counts of a call on the texts of a kind, by their size."""
 
     def __init__(self, kind, call):
-        self.kind, self.call, self.sizes, self.instructions, self.peaks = kind, call, [], [], []
+        self.kind, self.call, self.sizes, self.instructions, self.peaks, self.blocks = kind, call, [], [], [], []
 
-    def add(self, size, instructions, peak):
+    def add(self, size, instructions, peak, blocks):
         self.sizes.append(size)
         self.instructions.append(instructions)
         self.peaks.append(peak)
+        self.blocks.append(blocks)
 
     def growth(self):
         *_, first, second, third = self.instructions
@@ -68,7 +78,8 @@ class Row:
         return added / max(earlier, 1) if added > QUIET * (last - before) else 0
 
     def numbers(self):
-        return self.instructions[-1] / self.sizes[-1], self.peaks[-1] / self.sizes[-1], self.growth()
+        size = self.sizes[-1]
+        return self.instructions[-1] / size, self.peaks[-1] / size, self.blocks[-1] * 1000 / size, self.growth()
 
     def exception(self):
         """Returns the reason that the call may grow faster than its text, or `None`."""
@@ -78,14 +89,17 @@ class Row:
     def faults(self, bounds):
         """Yields what exceeds the bounds, which are the numbers of the table."""
         size = self.sizes[-1]
-        instructions, peak, growth = self.numbers()
+        instructions, peak, blocks, growth = self.numbers()
         most = bounds[0] * INSTRUCTIONS + MORE_INSTRUCTIONS / size
         if instructions > most:
             yield f"{instructions:.2f} instructions a byte, where {most:.2f} is the bound"
         most = bounds[1] * BYTES + MORE_BYTES / size
         if peak > most:
-            yield f"{peak:.2f} bytes a byte, where {most:.2f} is the bound"
-        most = bounds[2] * GROWTH if self.exception() else LINEAR
+            yield f"a peak of {peak:.2f} bytes a byte, where {most:.2f} is the bound"
+        most = bounds[2] * BLOCKS + MORE_BLOCKS * 1000 / size
+        if blocks > most:
+            yield f"{blocks:.2f} allocations for 1,000 bytes, where {most:.2f} is the bound"
+        most = bounds[3] * GROWTH if self.exception() else LINEAR
         if growth > most:
             yield f"a growth of {growth:.2f}, where {most:.2f} is the bound"
         if self.exception() and growth <= LINEAR:
@@ -108,7 +122,7 @@ def write_texts(folder, kinds, size):
     known = texts.kinds()
     paths = {}
     for kind in kinds:
-        sizes = [size * factor for factor in FACTORS]
+        sizes = [size // SHORTER.get(kind, 1) * factor for factor in FACTORS]
         paths[kind] = [folder / f"{kind}.{length}.wat" for length in sizes]
         for path, length in zip(paths[kind], sizes):
             path.write_bytes(known[kind](length).encode())
@@ -130,28 +144,28 @@ def total(path):
     return int(found[-1])
 
 
-def measure(test, folder, paths):
-    """Runs the calls on texts in one process. Yields the kind, the call, the size of the text, the instructions and the peak."""
+def measure(test, folder, paths, seed=""):
+    """Runs the calls on texts in one process, with a seeded fault. Yields the kind, the call, the size of the text, and the counts."""
     folder.mkdir()
-    listed, peaks = folder / "texts", folder / "peaks"
+    listed, memory = folder / "texts", folder / "memory"
     listed.write_text("\n".join(map(str, paths)))
     options = ["--collect-atstart=no", "--toggle-collect=cost::cost_measured", "--dump-after=cost::cost_measured"]
     words = [test, "--ignored", "--exact", "measure", "--test-threads=1"]
-    callgrind(words, folder / "out", options, COST_TEXTS=str(listed), COST_PEAKS=str(peaks))
-    for number, line in enumerate(peaks.read_text().splitlines(), 1):
-        path, peak, call = line.split("\t")
+    callgrind(words, folder / "out", options, COST_TEXTS=str(listed), COST_MEMORY=str(memory), COST_SEED=seed)
+    for number, line in enumerate(memory.read_text().splitlines(), 1):
+        path, peak, blocks, call = line.split("\t")
         kind, size, _ = pathlib.Path(path).name.split(".")
-        yield kind, call, int(size), total(folder / f"out.{number}"), int(peak)
+        yield kind, call, int(size), total(folder / f"out.{number}"), int(peak), int(blocks)
     shutil.rmtree(folder)
 
 
 def run(program, folder, command, path):
-    """Runs a command on a copy of a file. Yields like `measure`, with the peak 0."""
+    """Runs a command on a copy of a file. Yields like `measure`, without the memory."""
     folder.mkdir()
     copy = shutil.copy(path, folder)
     reported = callgrind([program, *command.split(), copy], "/dev/null")
     kind, size, _ = path.name.split(".")
-    yield kind, f"{command} FILE", int(size), int(re.search(r"Collected : (\d+)", reported)[1]), 0
+    yield kind, f"{command} FILE", int(size), int(re.search(r"Collected : (\d+)", reported)[1]), 0, 0
     shutil.rmtree(folder)
 
 
@@ -170,8 +184,8 @@ def rows(program, test, folder, kinds, size):
     paths = write_texts(folder, kinds, size)
     with concurrent.futures.ThreadPoolExecutor(min(2, os.cpu_count())) as pool:
         for counts in pool.map(lambda job: job(), jobs(program, test, folder, paths)):
-            for kind, call, length, instructions, peak in counts:
-                found.setdefault((kind, call), Row(kind, call)).add(length, instructions, peak)
+            for kind, call, *numbers in counts:
+                found.setdefault((kind, call), Row(kind, call)).add(*numbers)
     return found
 
 
@@ -183,8 +197,8 @@ def read_table():
 
 def head(size):
     rustc = subprocess.run(["rustc", "--version"], check=True, capture_output=True, text=True).stdout.strip()
-    written = f"# Written by tools/test/cost.py --record; {rustc}; texts of {size} to {8 * size} bytes\n"
-    return written + "# kind\tcall\tinstructions\tbytes\tgrowth\treason\n"
+    written = f"# Written by tools/test/cost.py --record; {rustc}; texts of {size} to {8 * size} bytes, but for SHORTER\n"
+    return written + "# kind\tcall\tinstructions\tbytes\tallocations\tgrowth\treason\n"
 
 
 def write_table(found, size):
@@ -204,7 +218,7 @@ def write_table(found, size):
 def compare(found, is_whole):
     """Returns the calls that exceed their bounds, and the rows that only the table or only the run has."""
     table = read_table()
-    both = [(row, [float(cell) for cell in table[name][:3]]) for name, row in found.items() if name in table]
+    both = [(row, [float(cell) for cell in table[name][:4]]) for name, row in found.items() if name in table]
     faults = [f"{row.kind}: {row.call}: {fault}" for row, bounds in both for fault in row.faults(bounds)]
     faults += [f"{kind}: {call}: not in the table" for kind, call in found.keys() - table.keys()]
     if is_whole:
@@ -212,13 +226,39 @@ def compare(found, is_whole):
     return faults
 
 
+def unreported(test, folder, seed, paths):
+    """Returns the calls whose seeded fault is not reported, or those with a fault if none is seeded, and the number of calls."""
+    table, found = read_table(), {}
+    for kind, call, *numbers in measure(test, folder / f"seed-{seed}", paths, seed):
+        found.setdefault(call, Row(kind, call)).add(*numbers)
+    bounds = lambda row: [float(cell) for cell in table[row.kind, row.call][:4]]
+    reports = {call: " ".join(row.faults(bounds(row))) for call, row in found.items()}
+    return [call for call, report in reports.items() if (SEEDS[seed] not in report if seed else report)], len(reports)
+
+
+def self_test(test, size):
+    """Seeds faults into all calls, and checks that each is reported, and nothing without them."""
+    bad = 0
+    with tempfile.TemporaryDirectory() as name:
+        folder = pathlib.Path(name)
+        paths = write_texts(folder, [SEEDED], size)[SEEDED]
+        for seed in ["", *SEEDS]:
+            wrong, count = unreported(test, folder, seed, paths)
+            bad += len(wrong) + (count == 0)
+            print(f"cost.py: self-test: {seed or 'no fault'}: {count} calls, {len(wrong)} wrong{': ' * bool(wrong)}{', '.join(wrong)}")
+    return 1 if bad else 0
+
+
 def main():
     reads = argparse.ArgumentParser(description=__doc__, formatter_class=argparse.RawDescriptionHelpFormatter)
     reads.add_argument("--record", action="store_true")
+    reads.add_argument("--self-test", action="store_true")
     reads.add_argument("--size", type=int, default=8192)
     reads.add_argument("kinds", nargs="*", metavar="KIND")
     given = reads.parse_args()
     program, test = build()
+    if given.self_test:
+        return self_test(test, given.size)
     with tempfile.TemporaryDirectory() as folder:
         found = rows(program, test, pathlib.Path(folder), given.kinds or texts.kinds(), given.size)
     faults = write_table(found, given.size) if given.record else compare(found, not given.kinds)

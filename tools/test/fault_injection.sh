@@ -32,12 +32,12 @@ is_whole() {
     cmp -s "$room/output" "$room/whole_output" && cmp -s "$room/errors" "$room/whole_errors" && cmp -s "$room/status" "$room/whole_status"
 }
 
-# says MESSAGE: succeeds if the report is this line. A report of `fmt` has the input's name, unless an allocation failed while the arguments were
-# read, and may add a cause.
+# says MESSAGE: succeeds if the report is this line. A report of `fmt`, or of an input that is named as `-`, has the input's name, unless an allocation
+# failed while the arguments were read, and may add a cause.
 says() {
     local line
     line=$(cat "$room/errors")
-    if [ "${words[0]-}" = fmt ]; then
+    if [[ " ${words[*]} " == *\ @(fmt|-)\ * ]]; then
         [[ $line == "wat_tokens: <stdin>: $1"* && $line != *$'\n'* ]] || [ "$1: $line" = 'out of memory: wat_tokens: out of memory' ]
     else
         [ "$line" = "wat_tokens: $1" ]
@@ -172,6 +172,14 @@ check 0 '(module (func (export "a") (i32.const 1) drop))' module
 check 1 '(module (func frob))' module
 check 0 '( a )' fmt
 requests 1 '( a )' fmt --check
+# The report of a named input does not allocate.
+check 1 'x(;' -
+requests 1 'x(;' --json list -
+requests 1 'x (@a 1' --file - sig
+requests 1 'x(;' blank -
+requests 1 '(module (func frob))' module -
+requests 1 'x(;' fmt
+requests 1 'x(;' fmt --check -
 check 0 '(@a) x' play look reg=a take parens=1
 # shellcheck disable=SC2016
 requests 0 '(module (func $foo))'

@@ -186,6 +186,8 @@ for file in pipe to_pipe /dev/null; do
     kill "$writer" 2> /dev/null || true
     wait "$writer" 2> /dev/null || true
 done
+run 2 fmt --write pipe
+expect 'report of a FIFO that nobody writes' 'wat_tokens: pipe: not a regular file, left as it is' "$(cat err)"
 expect 'a FIFO stays one' 'fifo character special file' "$(stat -c %F pipe /dev/null | tr '\n' ' ' | sed 's/ $//')"
 rm pipe to_pipe
 
@@ -203,6 +205,12 @@ if [ "$(id -u)" = 0 ]; then
         chmod "$mode" owned
         run 0 fmt --write owned
         expect "owner and group of a file with permissions $mode" "(a) 1000:3000 $mode" "$(cat owned) $(stat -c '%u:%g %a' owned)"
+    done
+    for owner in 1000:0 0:3000; do
+        printf '( a )' > owned
+        chown "$owner" owned
+        run 0 fmt --write owned
+        expect "a file of $owner" "(a) $owner" "$(cat owned) $(stat -c %u:%g owned)"
     done
     mkdir of_group
     chown :2000 of_group
@@ -261,6 +269,8 @@ process_state() {
 stop_midway() {
     local try
     for try in {1..20}; do
+        # The file is changed in the second in which it is made, unless the machine is slow.
+        until [[ $(date +%N) < 3 ]]; do :; done
         rm -f changing
         cp long changing
         "$program" fmt --write changing < /dev/null > out 2> err &

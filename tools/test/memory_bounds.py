@@ -1,14 +1,17 @@
 #!/usr/bin/env python3
-"""Runs the program on long texts, and checks the bytes that it allocates, the bytes that it still holds at its end, its writes and its opened files.
+"""Runs the program on long texts, and checks the bytes that it allocates, the bytes that it still holds at its end, its writes and its opened files;
+then, for files of more than a megabyte, that a failed allocation is reported and changes no file.
 
 usage: tools/test/memory_bounds.py PROGRAM
 
-If BY_CARGO is set, PROGRAM was built with cargo, and Rust's library still holds the buffer of standard input at the end.
+If BY_CARGO is set, PROGRAM was built with cargo, and Rust's library still holds the buffer of standard input at the end. Its first allocations, which
+abort the program if one fails, are not failed here.
 
 Each run has a bound on the bytes allocated for each byte of its text, and a bound on its writes. It must end within a time limit, and its output is
 compared with output generated here or with that of an equivalent run. At the end no memory may be held. The counts are those of
 tools/lib/fail_allocations.c, which is loaded before the C library.
 """
+import itertools
 import os
 import pathlib
 import re
@@ -26,7 +29,12 @@ BESIDE = 200_000
 KEPT = 9_000 if os.environ.get("BY_CARGO") else 0
 # The number of bytes of standard input that are read at once.
 PIECE = 65_536
+# The number of bytes of a block of a report.
+BLOCK = 4_096
 WHITE = ("Whitespace", "LineComment", "BlockComment")
+# The number of a run's allocations that are failed: half of them the first and last ones, the others between these at equal distances.
+REFUSED = 32
+NO_MEMORY = re.compile(rb"wat_tokens: ((long\.wat|made): )?out of memory\n")
 
 
 def compiler():
@@ -49,13 +57,14 @@ class Room:
     def file(self, name, text):
         (self.folder / name).write_bytes(text)
 
-    def run(self, words, text=b""):
-        """Runs the program on a text, and returns its status, output, report and counts. Standard input is a file, so that reads are not short."""
+    def run(self, words, text=b"", **variables):
+        """Runs the program on a text, and returns its status, output, report and counts. Standard input is a file, so that reads are not short. The
+        variables are those of the library."""
         counts, given = self.folder / "counts", self.folder / "given"
         given.write_bytes(text)
         with open(counts, "wb") as counted, open(given, "rb") as source:
             os.set_inheritable(counted.fileno(), True)
-            inside = {"LD_PRELOAD": str(self.library), "TELL": str(counted.fileno()), "PATH": os.environ["PATH"]}
+            inside = {"LD_PRELOAD": str(self.library), "TELL": str(counted.fileno()), "PATH": os.environ["PATH"], **variables}
             try:
                 done = subprocess.run(
                     [self.program, *words], stdin=source, capture_output=True, cwd=self.folder, env=inside, timeout=SECONDS, pass_fds=[counted.fileno()]
@@ -139,11 +148,17 @@ def lists(room):
 
 
 def groups(room):
-    """Checks texts with a registered and an unregistered annotation before each token, and deeply nested groups."""
+    """Checks texts with a registered and an unregistered annotation before each token, many registered names, and deeply nested groups."""
     text = 100_000 * b"(@a (b)) (@z ()) x\n"
     shown = room.check("sig, many annotations", ["sig", "a"], text, times=1.7, writes=380)
     if shown.count(b" Annotation\n") != 100_000 or shown.count(b" LParen\n") != 200_000 or shown.count(b" Keyword\n") != 200_000:
         room.faults.append("sig, many annotations: others are shown")
+    names = [f"n{i}" for i in range(20_000)]
+    text = b"".join(b'(@n%d) (@"n%d") (@"\\6e%d") x\n' % (i, i, i) for i in range(40_000))
+    # Most of this is for the names; the program that cargo builds takes less for each than the one that Rattle builds.
+    shown = room.check("sig, many names", ["sig", *names], text, times=8, writes=160)
+    if shown.count(b" Annotation\n") != 60_000 or shown.count(b" LParen\n") != 60_000 or shown.count(b" Keyword\n") != 40_000:
+        room.faults.append("sig, many names: others are shown")
     deep = 100_000 * b"(" + 100_000 * b")"
     room.check("sig, deep groups", ["sig"], deep, times=2, writes=100, wanted=tokens_that_count(room.run([], deep)[1]))
 
@@ -231,12 +246,70 @@ def long_files(room):
             room.faults.append(f"fmt {option}, 2 MB: the file is not as it must be")
 
 
+def library_requests(room):
+    """Returns the number of allocations of Rust's library before those of the program, as tools/test/fault_injection.sh finds it."""
+    if not os.environ.get("BY_CARGO"):
+        return 0
+    requests = room.run(["--version"])[3]["requests"]
+    return max((n for n in range(1, requests + 1) if room.run(["--version"], REFUSE_AT=str(n))[0] < 0), default=0) - 1
+
+
+def refused(first, last):
+    """Returns the numbers of the allocations to fail, of those from `first` to `last`."""
+    near = {*range(first, first + REFUSED // 4), *range(last - REFUSED // 4 + 1, last + 1)}
+    return sorted({*near, *range(first, last, -(-(last - first) // (REFUSED // 2)))} & {*range(first, last + 1)})
+
+
+def refuse_each(room, words, first, text):
+    """Fails allocations of a command on a file of this text: alone, and with all later ones. The command must report it, and change no file."""
+    room.file("long.wat", text)
+    before = {it.name for it in room.folder.iterdir()}
+    requests = room.run(words)[3]["requests"]
+    runs = list(itertools.product(refused(first, requests), ("REFUSE_AT", "REFUSE_FROM")))
+    for n, variable in runs:
+        room.file("long.wat", text)
+        (room.folder / "made").unlink(missing_ok=True)
+        status, output, report, _ = room.run(words, **{variable: str(n)})
+        is_refused = status == 2 and NO_MEMORY.fullmatch(report) and not output
+        left = {it.name for it in room.folder.iterdir()}
+        if not is_refused or left != before or (room.folder / "long.wat").read_bytes() != text:
+            room.faults.append(f"{' '.join(words)}, {variable}={n} of {requests}: status {status}, {report[:80]!r}, new files {left - before}")
+    room.runs += len(runs)
+    print(f"{' '.join(words)}: {len(text)} bytes, {requests} requests, {len(runs)} runs with refused ones")
+
+
+def refusals(room):
+    """Fails allocations of commands on a file of more than a megabyte."""
+    (room.folder / "made").unlink(missing_ok=True)
+    text, _ = module(28_000)
+    library = library_requests(room)
+    for words in (["module", "long.wat", "-o", "made"], ["fmt", "--write", "long.wat"], ["fmt", "--check", "long.wat"]):
+        refuse_each(room, words, library + len(words) + 1 if library else 1, text)
+
+
 def reports(room):
-    """Reports an error in a line of a megabyte, which the report contains: with four spaces for a tab, and three bytes for a NUL."""
-    for name, text, times in (("letters", b"a", 11), ("tabs", b"\t", 24), ("NULs", b"\0", 15)):
-        room.file("line.wat", "é".encode() + 1_000_000 * text)
-        for words in (["list"], ["--json", "list"], ["blank"], ["types"], ["module"], ["fmt"], ["fmt", "--check"]):
-            room.check(f"{name}, {' '.join(words)}", [*words, "line.wat"], size=1_000_002, times=times, writes=1, opens=1, status=1)
+    """Reports an error at the start and at the end of a line of a megabyte, of which the error has a copy and the report a window."""
+    commands = (["list"], ["--json", "list"], ["blank"], ["types"], ["module"], ["fmt"], ["fmt", "--check"])
+    for name, text in (("letters", b"a"), ("tabs", b"\t"), ("NULs", b";;\0")):
+        long, fault = text + 1_000_000 * text[-1:], "é".encode()
+        for line, words in itertools.product((fault + long, b"\"" + long + b"\\q"), commands):
+            room.file("line.wat", line)
+            room.check(f"{name}, {' '.join(words)}", [*words, "line.wat"], size=len(line), times=3.5, writes=1, opens=1, status=1)
+            reported, counted = room.run([*words, "line.wat"])[2:]
+            if len(reported) > 2_000 or not reported.endswith(b"^\n") or counted["reports"] != 1:
+                room.faults.append(f"{name}, {' '.join(words)}: a report of {len(reported)} bytes in {counted['reports']} writes")
+
+
+def blocks(room):
+    """Reports an error in a line of a megabyte of standard input, which is printed whole, and an error in an argument: each in blocks, not in parts."""
+    line, shown = "é".encode() + 1_000_000 * b"\t", "é".encode() + 4_000_000 * b" "
+    wanted = b"unexpected character '\\u{e9}'\n     --> <anon>:1:1\n      |\n    1 | " + shown + b"\n      | ^\n"
+    message = b"wat_tokens: no such command or file: " + 3_000 * "␇".encode() + b"\nwat_tokens --help lists the commands and their options\n"
+    for words, text, report, status in (([], line, wanted, 1), (["--json", 3_000 * "\a"], b"", message, 2)):
+        got, _, reported, counted = room.run(words, text)
+        room.runs += 1
+        if (got, reported) != (status, report) or counted["reports"] > len(report) / (BLOCK - 4) + 1:
+            room.faults.append(f"a report of {len(report)} bytes: status {got}, {reported[:80]!r}, {counted['reports']} writes")
 
 
 def main():
@@ -246,7 +319,7 @@ def main():
     with tempfile.TemporaryDirectory() as folder:
         room = Room(sys.argv[1], folder)
         print(f"{'run':34} {'bytes':>9} {'asked':>10} {'each':>6} {'bound':>6} {'held':>5} {'writes':>6} {'bound':>6}")
-        for part in (lists, groups, plays, types, layouts, files, modules, long_files, reports):
+        for part in (lists, groups, plays, types, layouts, files, modules, long_files, refusals, reports, blocks):
             part(room)
     for fault in room.faults:
         print(f"memory_bounds.py: {fault}")

@@ -157,6 +157,27 @@ expect_module 'module, into a file, no UTF-8' 2 'wat_tokens: bytes: input is not
 expect 'module, into a file, no room' 2 '' 'wat_tokens: /dev/full: write failed: no space left on device\n' "$program" module module.wat -o /dev/full < /dev/null
 rm made module.wat
 
+# The report of an error in a line of more than 500 characters has a part of the line, except for standard input.
+# letters LETTER COUNT: prints a letter COUNT times
+letters() {
+    head -c "$2" /dev/zero | tr '\0' "$1"
+}
+# expect_part NAME LIST BEFORE AFTER COLUMN LINE MARGIN: lists a file that has the text BEFORE, an é, and the text AFTER
+expect_part() {
+    printf '%s' "$3é$4" > long.wat
+    expect "$1" 1 "$2" "$(fault_in "unexpected character '\\\\u{e9}'" long.wat "$5" "$6" "$7")" "$program" long.wat < /dev/null
+}
+expect_part 'a line of 500 characters' '0..497 Keyword\n497..498 Whitespace\n' "$(letters x 497) " y 499 "$(letters x 497) éy" "$(letters ' ' 498)"
+expect_part 'the start of a long line' '' '' "$(letters y 500)" 1 "é$(letters y 499)..." ''
+expect_part 'column 250 of a long line' '0..248 Keyword\n248..249 Whitespace\n' "$(letters x 248) " "$(letters y 251)" 250 \
+    "$(letters x 248) é$(letters y 250)..." "$(letters ' ' 249)"
+expect_part 'the middle of a long line' '0..700 Keyword\n700..701 Whitespace\n' "$(letters x 700) " "$(letters y 900)" 702 \
+    "...$(letters x 248) é$(letters y 250)..." "$(letters ' ' 252)"
+expect_part 'the end of a long line' '0..700 Keyword\n700..701 Whitespace\n' "$(letters x 700) " '' 702 "...$(letters x 248) é" "$(letters ' ' 252)"
+expect 'a long line of standard input' 1 '' "$(fault_in "unexpected character '\\\\u{e9}'" '<anon>' 1 "é$(letters y 2000)" '')" "$program" \
+    < <(printf '%s' "é$(letters y 2000)")
+rm long.wat
+
 # terminal WORDS..: runs the program on a module, with a terminal as standard output and as standard error
 terminal() {
     printf '(module)' | python3 -c '

@@ -26,8 +26,8 @@ import time
 # Time limits of a run: with a small text, and with a long one.
 SECONDS, LONG_SECONDS = 20, 60
 MEBIBYTE = 1 << 20
-# The bytes of one write of a report, at least, except for the last; Rattle's program writes each part of a report alone.
-BLOCK = 8192 if os.environ.get("BY_CARGO") else 1
+# The capacity of a block in which a report is written.
+BLOCK = 4096
 COMMANDS = [words.split() for words in ("list", "--json list", "blank", "types", "module", "fmt", "fmt --check", "fmt --diff")]
 FILTERS = [words.split() for words in ("list", "--json list", "sig a", "play look", "blank", "types", "module", "fmt", "fmt --check")]
 TEXT = b"(module\n( type ( func ) ) )"
@@ -92,7 +92,7 @@ def limit(name, most):
 
 def memory(suite):
     """Runs each command with less and less memory. It writes its whole output, or reports that it is out of memory."""
-    path = suite.file("long.wat", b"(module\n" + b"(type (func (param i32) (result i32)))\n" * 20_000 + b")")
+    path = suite.file("long.wat", b"(module\n" + b"(type (func (param i32) (result i32)))\n" * 30_000 + b")")
     starts = lambda size: suite.run(["--version"], preexec_fn=limit("RLIMIT_AS", size)).status == 0
     least = next(filter(starts, range(MEBIBYTE, 512 * MEBIBYTE, MEBIBYTE)))
     for words in COMMANDS:
@@ -265,7 +265,7 @@ def writes_of(suite, words, path):
 
 
 def reports(suite):
-    """Reports an error in a long line, which the report contains, and bounds the number of writes; prints the time."""
+    """Reports an error in a long line, and bounds the length of the report and the number of writes; prints the time."""
     print(f"{'line, command':44} {'bytes':>9} {'report':>9} {'seconds':>8}")
     for kind, text in (("tabs", b"\t"), ("letters", b"a"), ("NULs", b"\0"), ("wide", "漢".encode())):
         path = suite.file("line.wat", "é".encode() + text * (8 * MEBIBYTE // len(text)))
@@ -275,7 +275,11 @@ def reports(suite):
     path = suite.file("tabs.wat", "é".encode() + b"\t" * 100_000)
     for words in [*COMMANDS, ["list", "-"]]:
         length, writes = writes_of(suite, words, path)
-        if length < 400_000 or writes > -(-length // BLOCK):
+        # A report with the name of a file has a window of the line.
+        is_named = words[0] == "fmt" or words[-1] == "-"
+        if is_named and length > 2_000 or not is_named and length < 400_000:
+            suite.faults.append(f"{words}: a report of {length} bytes, {'with' if is_named else 'without'} the name of a file")
+        if writes > -(-length // BLOCK):
             suite.faults.append(f"{words}: {writes} writes for a report of {length} bytes, where {-(-length // BLOCK)} is the bound")
 
 

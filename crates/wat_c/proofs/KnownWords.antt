@@ -23,7 +23,7 @@ use Rattle.wat_c.specs.declared.words.Word.{Word}
 use Rattle.wat_c.proofs.WordPlaces.{between, StringBytes, NameBytes, NameAt, name_bytes}
 
 -- a part of a token's text, in the text
-slice_in : (text : List ℕ) (o l i n : ℕ) → i + n ≤ l → take n (drop i (take l (drop o text))) ≡ take n (drop (o + i) text)
+pub slice_in : (text : List ℕ) (o l i n : ℕ) → i + n ≤ l → take n (drop i (take l (drop o text))) ≡ take n (drop (o + i) text)
 slice_in text o l i n h =
     let e : l ≡ i + (l - i) = omega arith in
     ap (λ x. take n (drop i (take x (drop o text)))) e ∙ ap (take n) (drop-take i (l - i) (drop o text)) ∙ take-take n (l - i) (drop i (drop o text)) (omega arith)

@@ -1,9 +1,15 @@
 mod Answering
 mod Bits
 mod CommentLaws
+mod FloatBytes
+mod FloatRanges
+mod FloatSplits
 mod IntegerRows
 mod Joined
 mod MessageBytes
+mod NumberCodes
+mod NumberLexemes
+mod OneBits
 mod OneFinding
 mod OneOfRow
 mod OneWords

@@ -124,7 +124,10 @@ not_string text row h n e = n (code_of_row text row kind.String h e (λ x. cc))
 pub not_integer : (text : List ℕ) (row : Row) → IsRow text row → row.kind.code ≢ 11 → IsInteger (kind_of row.kind) → ⊥
 not_integer text row h n (k, e) = n (code_of_row text row (kind.Integer k) h e (λ x. cc))
 
-pub row_ends : TokensEndAtBoundaries → (text : List ℕ) (row : Row) → IsUtf8 text → IsRow text row → row.offset + row.len ≤ length text
-row_ends ends text row u h =
+pub row_boundary : TokensEndAtBoundaries → (text : List ℕ) (row : Row) → IsUtf8 text → IsRow text row → IsCharBoundary text (row.offset + row.len)
+row_boundary ends text row u h =
     let b = ends (record { text = text; flags = h.flags }) row.offset h.token u h.boundary h.is_at in
-    (subst (λ t. IsCharBoundary text (t.offset + t.len)) (row_token text row h) b).0
+    subst (λ t. IsCharBoundary text (t.offset + t.len)) (row_token text row h) b
+
+pub row_ends : TokensEndAtBoundaries → (text : List ℕ) (row : Row) → IsUtf8 text → IsRow text row → row.offset + row.len ≤ length text
+row_ends ends text row u h = (row_boundary ends text row u h).0

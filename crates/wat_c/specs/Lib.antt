@@ -2,8 +2,11 @@ pub mod Answers
 pub mod ByRow
 pub mod CommentPlaces
 pub mod FaultMessages
+pub mod FloatBits
+pub mod FloatSpans
 pub mod Numbers
 pub mod Printing
 pub mod Readings
 pub mod Resuming
 pub mod Words
+pub mod inside

@@ -89,7 +89,7 @@ pub fn name_of<'a>(alloc: Global, text: &'a str, row: Row) -> Result<CowStr<'a>,
 }
 
 /// Returns the kind of a floating-point number's row, or `None` if the row is another token.
-fn float_kind(kind: KindRow) -> Option<FloatKind>
+pub(crate) fn float_kind(kind: KindRow) -> Option<FloatKind>
     ensures some { IfSome result (λ f. kind_of kind ≡ token_kind.Float f) }
     ensures none { IfNone result ((kind.code < 12) ⊎ (15 < kind.code)) }
 {

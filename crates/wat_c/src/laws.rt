@@ -1,6 +1,7 @@
 //! Theorems about the results of the readers. The functions have no effect; the contract of each is
 //! a theorem.
 ghost use Rattle.std.specs.Prelude.{ℕ, List};
+ghost use Rattle.std.specs.Float.Ieee.{Format};
 ghost use Rattle.wat_lex.specs.tokens.Setting.{Setting};
 ghost use Rattle.wat_lex.specs.declared.lexer.kinds.Token.{Token};
 ghost use Rattle.wat_c_records.specs.declared.counting.Row.{Row};
@@ -8,6 +9,8 @@ ghost use Rattle.wat_c.specs.Answers.{OneAnswer};
 ghost use Rattle.wat_c.specs.ByRow.{FindsOf};
 ghost use Rattle.wat_c.specs.CommentPlaces.{CommentsAreOne, CommentsAreParsers};
 ghost use Rattle.wat_c.specs.FaultMessages.{FaultsAreKnown};
+ghost use Rattle.wat_c.specs.FloatBits.{FindsBits, OneBits, TellsBits};
+ghost use Rattle.wat_c.specs.FloatSpans.{OneParts};
 ghost use Rattle.wat_c.specs.Printing.{Prints};
 ghost use Rattle.wat_c.specs.Readings.{
   Finds,
@@ -65,6 +68,23 @@ pub fn one_word()
 {
     wat_lex::laws::strings();
     wat_lex::laws::names();
+}
+
+/// Theorem: the bits of a number token are unique, unless an allocation fails, and so are those of
+/// the number at an offset.
+pub fn one_bits()
+    ensures of_row { (format : Format) (text : List ℕ) (t : Token) →
+        OneBits (TellsBits format text t) }
+    ensures at_offset { (format : Format) (s : Setting) (p : ℕ) → OneBits (FindsBits format s p) }
+{
+    wat_lex::laws::one_answer();
+}
+
+/// Theorem: the ranges that `wat_float_parts` returns for a token are unique.
+pub fn one_parts()
+    ensures { (text : List ℕ) (t : Token) → OneParts text t }
+{
+    wat_lex::laws::floats();
 }
 
 /// Theorem: each error whose characters are Unicode scalar values is determined by its code, the

@@ -27,6 +27,8 @@ pub mod answers;
 mod by_place;
 pub mod by_row;
 pub mod comments;
+pub mod float_bits;
+pub mod float_parts;
 mod laws;
 pub mod looks;
 pub mod messages;

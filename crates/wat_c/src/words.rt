@@ -70,7 +70,7 @@ fn has_backslash(word: &str) -> bool
 }
 
 /// Returns the lexeme of a row, whose kind must be `kind`.
-fn source<'a>(text: &'a str, row: Row, kind: TokenKind) -> &'a str
+pub(crate) fn source<'a>(text: &'a str, row: Row, kind: TokenKind) -> &'a str
     requires known { IsRow text.now row }
     requires is { kind_of row.kind ≡ kind }
     ensures text { result.now ≡ token_text text.now (token_of row) }

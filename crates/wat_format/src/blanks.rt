@@ -6,13 +6,13 @@ ghost use Rattle.wat_format.specs.Gaps.{gap_text};
 use crate::gap::Gap;
 use std::alloc::AllocError;
 
-/// 100 spaces, the longest indentation.
+/// 80 spaces.
 const BLANKS: &str =
-    "                                                                                                    ";
+    "                                                                                ";
 
-/// Returns a string of `count` spaces, at most 100.
+/// Returns a string of `count` spaces, at most 80.
 fn blanks(count: usize) -> &'static str
-    requires { count ≤ 100 }
+    requires { count ≤ 80 }
     ensures { result.now ≡ replicate count 32 }
 {
     &BLANKS[..count]
@@ -23,9 +23,9 @@ fn push_blanks(out: &mut String, count: usize) -> Result<(), AllocError>
     ensures { OnOk result (string_bytes out.new ≡ string_bytes out.old ++ replicate count 32) }
 {
     let mut left = count;
-    while left > 100 {
-        out.push_str(blanks(100))?;
-        left -= 100;
+    while left > 80 {
+        out.push_str(blanks(80))?;
+        left -= 80;
     }
     out.push_str(blanks(left))
 }

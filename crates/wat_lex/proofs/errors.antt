@@ -12,3 +12,4 @@ pub mod Digits
 pub mod Lengths
 pub mod Utf16
 pub mod LineCounts
+pub mod PastColumns

@@ -2,6 +2,8 @@
 pub mod BlockComments
 pub mod CheckedComments
 pub mod Confusing
+pub mod Leads
+pub mod ShortComments
 pub mod StringSteps
 pub mod StringElements
 pub mod HexRows
@@ -13,4 +15,5 @@ pub mod Outlines
 pub mod NumberSteps
 pub mod Blocks
 pub mod Nesting
+pub mod Unclosed
 pub mod Recoveries

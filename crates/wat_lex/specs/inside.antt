@@ -9,4 +9,5 @@ pub mod ScannedRuns
 pub mod Recovered
 pub mod Blocks
 pub mod Nesting
+pub mod Closings
 pub mod Utf16Bytes

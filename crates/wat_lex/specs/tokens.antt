@@ -6,6 +6,7 @@ pub mod QuotedNames
 pub mod StringFaults
 pub mod Faults
 pub mod Recovery
+pub mod Unclosed
 pub mod Tiling
 pub mod UniqueTilings
 pub mod CutsAndMoves

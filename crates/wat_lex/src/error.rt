@@ -5,6 +5,7 @@ ghost use Rattle.std.specs.Option.{option_copied};
 ghost use Rattle.wat_lex.specs.errors.ErrorView.{cause_of};
 ghost use Rattle.wat_lex.specs.errors.Errors.{IsUnlessMemory, report_in, lexical, Custom, HasText};
 ghost use Rattle.wat_lex.specs.errors.Errors.{with_text, lex_error_of, offset_of, message_of};
+ghost use Rattle.wat_lex.specs.errors.Errors.{excerpt_of_error};
 ghost use Rattle.wat_lex.specs.errors.Errors.{printed};
 ghost use Rattle.wat_lex.specs.errors.Messages.{message};
 ghost use Rattle.wat_lex.specs.errors.Rendering.{rendered};
@@ -21,7 +22,10 @@ mod shown;
 mod stretches;
 mod text;
 
+pub use pieces::Piece;
 pub use rendered::Rendered;
+pub use shown::Shown;
+pub use text::Excerpt;
 use text::Text;
 
 /// An error at a byte offset: a lexical error, a custom message, or an allocation failure.
@@ -209,7 +213,21 @@ impl Error {
             Kind::InText(located) => format!(in alloc; "{}", located.reason),
         }
     }
+
+    /// Returns the source line of the error, or `None` if it has no source text. Does not allocate.
+    pub fn excerpt(&self) -> Option<Excerpt<'_>>
+        ensures { result ≡ excerpt_of_error self.now }
+    {
+        match &self.kind {
+            Kind::Memory(_) | Kind::Plain { .. } => None,
+            Kind::InText(located) => Some(located.text.excerpt()),
+        }
+    }
 }
+
+/// The message of an error, without the position and the source line.
+#[derive(Clone, Copy)]
+pub struct Message<'a>(pub &'a Error);
 
 impl Located {
     ghost use Rattle.wat_lex.specs.errors.ErrorView.{report_of};
@@ -261,6 +279,22 @@ impl fmt::Display for Error {
             Kind::Memory(_) => write!(f, "out of memory"),
             Kind::Plain { span, message } => write!(f, "{message} at byte offset {}", span.offset),
             Kind::InText(located) => write!(f, "{}{}", located.reason, located.text),
+        }
+    }
+}
+
+impl fmt::Display for Message<'_> {
+    ghost use Rattle.std.specs.Prelude.{Some};
+    ghost use Rattle.wat_lex.specs.errors.Errors.{message_of};
+
+    ghost output = { λ m. Some (message_of m.0.now) };
+
+    fn fmt<W: fmt::Write>(&self, f: &mut fmt::Formatter<W>) -> fmt::Result {
+        let error = self.0;
+        match &error.kind {
+            Kind::Memory(_) => write!(f, "out of memory"),
+            Kind::Plain { message, .. } => write!(f, "{message}"),
+            Kind::InText(located) => write!(f, "{}", located.reason),
         }
     }
 }

@@ -38,6 +38,7 @@ ghost use Rattle.wat_lex.specs.tokens.Recovery.{ResumesAt};
 ghost use Rattle.wat_lex.specs.tokens.Raw.{ErrorAt};
 ghost use Rattle.wat_lex.specs.tokens.ReadableTokens.{IsTokenOf};
 ghost use Rattle.wat_lex.specs.tokens.Tiling.{TokenAt};
+ghost use Rattle.wat_lex.specs.tokens.Unclosed.{AreMarks};
 ghost use Rattle.wat_lex.specs.tokens.UniqueTilings.{ResultAt, EndsFrom, SomeTiling};
 
 use crate::error::Error;
@@ -51,6 +52,7 @@ mod read;
 mod recover;
 mod scan;
 mod settings;
+mod unclosed;
 
 pub use faults::{LexError, LexFault};
 pub use kinds::{FloatKind, IntegerKind, SignToken, Token, TokenKind};
@@ -64,6 +66,7 @@ pub(crate) use scan::comments::first_confusing;
 use scan::plain::quoted_name_len;
 use scan::{bare_len, byte_at, fault_at_start, scan_at};
 pub use settings::Settings;
+use unclosed::{is_marked, mark_first};
 
 /// A lexer over a source text. It splits the text into tokens, whitespace and comments, which cover
 /// every byte up to the first lexical error.
@@ -201,6 +204,47 @@ impl<'a> Lexer<'a> {
             Found::End => Ok(None),
             Found::Fault => Err(self.fault(pos)),
         }
+    }
+
+    /// Returns the token at byte offset `pos`, or `None` at the end of the text, like
+    /// [`Lexer::scan`]. `marks` records unclosed block comments between calls for one text, so that
+    /// a loop that resumes after each lexical error does not search the rest of the text for the
+    /// end of each of them. All marks must be 0 before the first call, and only this function may
+    /// change them. 32 of them suffice for every text.
+    ///
+    /// # Errors
+    ///
+    /// Returns the lexical error if no token begins at `pos`.
+    pub fn scan_with_marks(&self, pos: usize, marks: &mut [u32]) -> Result<Option<Token>, LexFault>
+        requires boundary { IsCharBoundary self.now.text pos }
+        requires marks { AreMarks self.now marks.old }
+        ensures token { IfOk result (λ found. IfSome found (TokenAt self.now pos)) }
+        ensures end { IfOk result (λ found. IfNone found (pos ≡ length self.now.text)) }
+        ensures fault { IfErr result (FaultAt self.now pos) }
+        ensures one { (r : Result (Option Token) LexFault) → ResultAt self.now pos r → r ≡ result }
+        ensures some { IfOk result (λ found. IfSome found (λ t. 0 < t.len)) }
+        ensures boundary { IfOk result (λ found. IfSome found (λ t.
+            IsCharBoundary self.now.text (pos + t.len))) }
+        ensures short { IfOk result (λ found. IfSome found (λ t. t.offset + t.len < 2 ^ 32)) }
+        ensures marks { AreMarks self.now marks.new }
+    {
+        if is_marked(self, pos, marks) {
+            return Err(LexFault {
+                offset: pos,
+                error: LexError::DanglingBlockComment,
+            });
+        }
+        let result = self.scan(pos);
+        match result {
+            Err(
+                LexFault {
+                    offset,
+                    error: LexError::DanglingBlockComment,
+                },
+            ) if offset == pos => mark_first(self, pos, marks),
+            _ => {}
+        }
+        result
     }
 
     /// Returns the token at byte offset `pos`, and advances `pos` to the end of the token. Returns

@@ -427,7 +427,12 @@ impl<'a> Parser<'a> {
     }
 
     /// Consumes `(`. Fails if it is not next.
-    #[tactic(auto, using(crate::proofs::parser::Refusals::refusal), unfolding(crate::specs::parser::Closures::opened))]
+    #[rattlefmt::skip]
+    #[tactic(
+        auto,
+        using(crate::proofs::parser::Refusals::refusal),
+        unfolding(crate::specs::parser::Closures::opened),
+    )]
     fn open(&mut self) -> Result<(), Error>
         ensures ok { OnOk result
             (opened self.old.source self.old.place self.old.names ≡ Ok self.new.place) }
@@ -449,7 +454,12 @@ impl<'a> Parser<'a> {
     }
 
     /// Consumes `)`. Fails if it is not next.
-    #[tactic(auto, using(crate::proofs::parser::Refusals::refusal), unfolding(crate::specs::parser::Closures::closed))]
+    #[rattlefmt::skip]
+    #[tactic(
+        auto,
+        using(crate::proofs::parser::Refusals::refusal),
+        unfolding(crate::specs::parser::Closures::closed),
+    )]
     fn close(&mut self) -> Result<(), Error>
         ensures ok { OnOk result
             (closed self.old.source self.old.place self.old.names ≡ Ok self.new.place) }

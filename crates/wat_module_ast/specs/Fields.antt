@@ -1,9 +1,9 @@
 -- WebAssembly 2.0, 6.6 (text format, modules): 6.6.1 indices, 6.6.2 types, 6.6.3 type uses, 6.6.4 imports, 6.6.5
 -- functions, 6.6.6 tables, 6.6.7 memories, 6.6.8 globals, 6.6.9 exports, 6.6.10 start function, 6.6.11 element
--- segments, 6.6.12 data segments, and the conditions of 6.6.13 (modules) that `Modules` needs; 6.4 (types). All rules
--- are over terminals: a rule consumes tokens from the front of a list and leaves the rest. In `Rule ts x r`, the tokens
--- `ts`, up to the rest `r`, match the grammar of the rule and denote the value `x`. Section numbers in this crate are
--- those of WebAssembly 2.0.
+-- segments, 6.6.12 data segments; two conditions of 6.6.13 (modules): imports precede definitions, identifiers of an
+-- index space are distinct; 6.4 (types). Each rule consumes terminals from the front of a list and leaves the rest. In
+-- `Rule ts x r`, the terminals `ts`, up to the rest `r`, match the grammar of the rule and denote the value `x`. Section
+-- numbers in this crate are those of WebAssembly 2.0.
 use Rattle.std.specs.Prelude.{◌≡◌, ◌&&◌, ◌^◌, ◌+◌, ◌/◌, ℕ, Bool, true, false, List, [], ◌∷◌, ◌++◌, length, map, codes, bytes_eq, nat_lt, slice_get, Option, Some, None, if◌then◌else◌}
 use Rattle.std.specs.List.{flat_map}
 use Rattle.std.specs.Str.{is_utf8}
@@ -42,7 +42,7 @@ name_of v = v.name
 abbrev pub type_of : Variable → ValueType
 type_of v = v.type
 
--- 6.4.5, function type: the type with these parameters and results.
+-- 6.4.5, function type, without the identifiers of its parameters.
 abbrev pub function_type : List Variable → List Variable → FunctionType
 function_type params results = from_to (map type_of params) (map type_of results)
 
@@ -56,8 +56,8 @@ pub record NamedUse : Type 0 where
 abbrev pub named_use : Option ℕ → List Variable → List Variable → NamedUse
 named_use i ps rs = record { index = i; params = ps; results = rs }
 
--- A type use without the identifiers of its parameters: functions and imports have none in the abstract syntax (2.5.3,
--- 2.5.11). The identifiers of a function's parameters are in the context of its body only (6.6.5, `with_locals`).
+-- A type use without the identifiers of its parameters: in the abstract syntax (2.5.3, 2.5.11) the parameters of
+-- functions and imports have no identifiers. The identifiers of a function's parameters are in the context of its body only (6.6.5, `with_locals`).
 abbrev pub without_names : NamedUse → TypeUse
 without_names u = type_use u.index (function_type u.params u.results)
 
@@ -96,11 +96,11 @@ pub data ElemMode : Type 0 where
   Active : Target → ElemMode
   Declarative : ElemMode
 
--- 6.6.2 to 6.6.12, module field. A type has an identifier and a function type. Functions, tables, memories, globals and
+-- 6.6.2 to 6.6.12, module field. All identifiers are optional. A type has an identifier and a function type. Functions, tables, memories, globals and
 -- imports have an identifier and the names of their inline exports. An import has a module name and a name, and an
 -- import description; an export has a name, and the index space and index of its item; a start field has the index of
--- a function. A table may have inline elements, a memory inline data, and a global has a type and instructions. A data
--- segment has an identifier, a target if it is active, and its bytes; an element segment has an identifier, a mode, a
+-- a function. A table has a table type, and may have inline elements. A memory has limits, and may have inline data.
+-- A global has a type, and the instructions of its initial value. A data segment has an identifier, a target if it is active, and its bytes; an element segment has an identifier, a mode, a
 -- type and its elements.
 pub data Field : Type 0 where
   TypeField : Label → FunctionType → Field
@@ -129,8 +129,8 @@ extern_space (OfTable t) = space.Table
 extern_space (OfMemory l) = space.Mem
 extern_space (OfGlobal t) = space.Global
 
--- The function, table, memory or global that a field defines or imports, if there is one. A type and a segment are in
--- no `IndexSpace`.
+-- The function, table, memory or global that a field defines or imports, if there is one. `IndexSpace` has only the four
+-- index spaces of items that can be exported, so types and segments have no binding.
 abbrev pub binding_of : Field → List Binding
 binding_of (TypeField l t) = []
 binding_of (Import m n l ns t) = binding (extern_space t) l ∷ []

@@ -76,7 +76,7 @@ pub(crate) fn put_signed(out: &mut Vec<u8>, n: usize) -> Result<(), AllocError>
     put_integer(out, n as i64)
 }
 
-/// Appends the section with the id `number`: its size, the count of its items, and `items`, the
+/// Appends a section: its id `number`, its size, the count of its items, and `items`, the
 /// concatenated encodings of its `count` items. Appends nothing if `count` is 0.
 pub(crate) fn put_section(
     alloc: Global,
@@ -96,9 +96,9 @@ pub(crate) fn put_section(
     Ok(())
 }
 
-/// Appends the id `number` of a section, its size, and its count of items. The size is that of the
-/// count and of the `len` bytes of items, which the caller appends. If `len` is 2^63 or more, the
-/// size is unspecified: no `Vec` can hold that many bytes.
+/// Appends the beginning of a section: its id `number`, its size in bytes, and the count of its
+/// items. The caller appends the items, whose encodings have `len` bytes together. If `len` is
+/// 2^63 or more, which no `Vec` can have, the result is unspecified.
 pub(crate) fn put_head(
     alloc: Global,
     out: &mut Vec<u8>,

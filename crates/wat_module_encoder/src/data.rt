@@ -18,25 +18,25 @@ use wat_module_ast::instruction::{Instruction, Opcode};
 /// The destination of a data segment.
 #[derive(Clone, Copy)]
 pub(crate) enum DataTarget<'f> {
-    /// None: the segment is passive.
+    /// No destination, for a passive segment.
     Nowhere,
     /// The target of an active segment.
     At(&'f Target),
-    /// The start of the memory with this index, which has the segment inline.
+    /// Offset 0 of the memory with this index: the segment is inline in the memory's field.
     Begin(usize),
 }
 
-/// A data segment.
+/// A data segment: a `data` field, or the inline data of a memory.
 #[derive(Clone, Copy)]
 pub(crate) struct Segment<'f> {
-    /// Destination of the segment.
+    /// The target, if the segment is active.
     place: DataTarget<'f>,
     /// Strings whose concatenation is the content of the segment.
     strings: &'f [&'f [u8]],
 }
 
-/// Appends the data segment of a field, if it is or has one. `counts` must be the counts of the
-/// fields before it.
+/// Appends the data segment that a field defines: a `data` field, or a memory with inline data.
+/// `counts` has the lengths of the index spaces before the field.
 fn push_data<'f>(
     segments: &mut Vec<Segment<'f>>,
     counts: Counts,

@@ -24,22 +24,22 @@ pub(crate) enum ElementTarget<'f> {
     Declarative,
     /// The target of an active segment.
     At(&'f Target),
-    /// The start of the table with this index, which has the segment inline.
+    /// Offset 0 of the table with this index: the segment is inline in the table's field.
     Begin(usize),
 }
 
-/// An element segment.
+/// An element segment: an `elem` field, or the inline elements of a table.
 #[derive(Clone, Copy)]
 pub(crate) struct ElementSegment<'f> {
-    /// Mode of the segment.
+    /// The mode, and the target of an active segment.
     place: ElementTarget<'f>,
     /// Reference type of the elements.
     of: ReferenceType,
-    /// Elements of the segment.
+    /// Function indices, or expressions, as in the source.
     elements: &'f Elements,
 }
 
-/// Returns the mode of an element segment that is a field.
+/// Returns the mode of an `elem` field as a target.
 fn elem_place(mode: &ElemMode) -> ElementTarget<'_>
     ensures { element_target_of result ≡ mode_of mode.now }
 {
@@ -50,8 +50,8 @@ fn elem_place(mode: &ElemMode) -> ElementTarget<'_>
     }
 }
 
-/// Appends the element segment of a field, if it is or has one. `counts` must be the counts of the
-/// fields before it.
+/// Appends the element segment that a field defines: an `elem` field, or a table with elements.
+/// `counts` has the lengths of the index spaces before the field.
 fn push_elements<'f>(
     segments: &mut Vec<ElementSegment<'f>>,
     counts: Counts,
@@ -391,8 +391,8 @@ fn put_other_segment(
     }
 }
 
-/// Appends a segment whose elements are the function indices `functions`, as expressions unless its
-/// type is `funcref`.
+/// Appends a segment whose elements are the function indices `functions`. The encoding has indices
+/// if the segment's type is `funcref`, and `ref.func` expressions otherwise.
 #[tactic(auto, using(crate::proofs::FunctionElements::functions_of_indices))]
 fn put_indices(
     out: &mut Vec<u8>,

@@ -23,11 +23,12 @@ const HEADER: [u8; 8] = [0x00, 0x61, 0x73, 0x6D, 0x01, 0x00, 0x00, 0x00];
 
 /// Returns the encoding of a module in the binary format.
 ///
-/// Sections without items are left out, and custom sections are not generated.
+/// Sections without content are left out, and custom sections are not generated.
 ///
 /// # Errors
 ///
-/// Fails if an allocation fails, or if the strings of a data segment have 2^63 bytes or more.
+/// Fails if an allocation fails, or if the strings of a data segment have 2^63 bytes or more
+/// together.
 #[tactic(auto, unfolding(crate::specs::Binary::module_bytes))]
 pub fn module_bytes(alloc: Global, fields: &[Field<'_>]) -> Result<Vec<u8>, AllocError>
     ensures { IfOk result (λ bytes. bytes.items ≡ binary.module_bytes (fields_of fields.now)) }

@@ -39,7 +39,7 @@ fn more(counts: Counts, space: IndexSpace) -> Counts
     counts
 }
 
-/// Returns the number of items in an index space.
+/// Returns the number of items in an index space, according to `counts`.
 pub(crate) fn count(counts: Counts, space: IndexSpace) -> usize
     ensures { result ≡ count space (counts_of counts) }
 {

@@ -23,8 +23,8 @@ pub(crate) fn put_values(out: &mut Vec<u8>, types: &[ValueType]) -> Result<(), A
     Ok(())
 }
 
-/// Returns the type index of a type use: the one that it states, or the least index of its type
-/// among `types`.
+/// Returns the type index of a type use. If it states an index, that index; otherwise the least
+/// index of its function type in `types`, or the length of `types` if it is not there.
 pub(crate) fn use_index(types: &IndexedTypes, uses: &TypeUse) -> Result<usize, AllocError>
     ensures is { IfOk result (λ n. n ≡ binary.use_index types.now (use_of uses.now)) }
     ensures small { index_or uses.now.index 0 < 2 ^ 63 → IfOk result (λ n. n < 2 ^ 63) }

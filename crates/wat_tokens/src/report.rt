@@ -3,6 +3,7 @@ use std::{fmt, io};
 use wat_tokens_run::ends::Failed;
 use wat_tokens_run::named::Shown;
 use wat_tokens_run::outcome::{Exit, Outcome};
+use wat_tokens_run::printer::print;
 use wat_tokens_run::respond::name_of;
 use wat_tokens_run::run::RunFailure;
 
@@ -31,13 +32,17 @@ impl fmt::Display for Failure<'_> {
 
 /// Reports an outcome for a file, and returns the exit status.
 pub fn report(rt: &HostRuntime, file: &str, outcome: &Outcome<'_>) -> Exit {
-    let _ = outcome.report(rt.alloc(), Some(name_of(file)), &mut rt.stderr());
+    let _ = outcome.report(Some(name_of(file)), &mut rt.stderr());
     outcome.exit(true)
 }
 
 /// Reports a message that no outcome has, and returns the exit status 2.
 pub fn complain<D: fmt::Display>(rt: &HostRuntime, file: &str, what: &D) -> Exit {
-    let _ = eprintln!(rt; "wat_tokens: {}: {what}", Named(file));
+    let name = Named(file);
+    let _ = print(
+        &mut rt.stderr(),
+        format_args!("wat_tokens: {name}: {what}\n"),
+    );
     Outcome::Kept.exit(true)
 }
 
@@ -53,7 +58,8 @@ pub fn not_opened(rt: &HostRuntime, file: &str, error: &io::Error) -> Exit {
 
 /// Prints the name of a file that is not formatted, and returns the exit status.
 pub fn name(rt: &HostRuntime, file: &str) -> Exit {
-    match println!(rt; "{}", Named(file)) {
+    let name = Named(file);
+    match print(&mut rt.stdout(), format_args!("{name}\n")) {
         Ok(()) => Outcome::Differs.exit(true),
         Err(error) => not_written(rt, file, Failed::of(&error)),
     }

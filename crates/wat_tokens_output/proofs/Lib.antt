@@ -1,4 +1,5 @@
 mod Counts
-mod NamedLaws
+mod FilterLaws
 mod ShownLaws
 mod VisibleLaws
+mod WindowLaws

@@ -1,7 +1,7 @@
 //! Reads a source, and writes the outputs of the program except modules: the lists of tokens, a
 //! parser's replies, the text with its comments blanked, and the formatted text.
 //!
-//! Also parses the arguments that name calls of a parser, and renders errors with a file name.
+//! Also parses the arguments that name calls of a parser, and prints errors with a file name.
 #![tactic(auto)]
 
 pub mod blank;
@@ -12,4 +12,5 @@ pub mod json;
 pub mod list;
 pub mod named;
 pub mod play;
+pub mod printer;
 pub mod show;

@@ -1,6 +1,6 @@
 -- The outcome of a run, and its report.
 use Rattle.std.proofs.Common.{◌≡◌, ◌⊎◌, ℕ, Bool, true, false, List, [], ◌++◌, Bor, inl, inr, ap, subst, sym, refl}
-use Rattle.std.specs.Prelude.{Option, Some, None, Result, Ok, Err, IfOk, IfErr, IfSome, IsErrOf, OnOk, alloc_error, codes, if◌then◌else◌}
+use Rattle.std.specs.Prelude.{Option, Some, None, Result, Ok, Err, IfOk, IfErr, IfSome, IsErrOf, OnOk, codes, if◌then◌else◌}
 use Rattle.std.specs.Option.{option_map}
 use Rattle.std.specs.Io.KnownBytes.{Appends, Keeps}
 use Rattle.wat_lex.specs.errors.Errors.{Report}
@@ -9,7 +9,7 @@ use Rattle.wat_tokens_output.specs.Places.{of_file}
 use Rattle.wat_tokens_output.specs.Refusals.{IsFailedWrite, refusal}
 use Rattle.wat_tokens_output.specs.declared.input.RunFailure.{RunFailure}
 use Rattle.wat_tokens_output.specs.declared.input.RunFailure.TheVariants.{Read, TooLong, NotUtf8, Write, Memory}
-use Rattle.wat_tokens_run.specs.Outcomes.{is_closed_output, outcome_of, refused, Responds, Ran, TellsFault}
+use Rattle.wat_tokens_run.specs.Outcomes.{is_closed_output, outcome_of, refused, Responds, Ran}
 use Rattle.wat_tokens_run.specs.Printed.{Prints, AppendsText, AppendsCut}
 use Rattle.wat_tokens_run.specs.Runs.{RunsWithCause}
 use Rattle.wat_tokens_run.specs.declared.outcome.Outcome.{Outcome}
@@ -51,10 +51,3 @@ pub refused_named : {T E : Type 0} (r : Result T E) (name : Option (Bor (List �
 refused_named r None n failure old new e u h = cc
 refused_named r (Some m) n failure old new e u h =
     subst (λ b. OnOk r (Appends old new (if b then [] else codes "wat_tokens: " ++ (of_file (Some m.now) ++ (refusal failure ++ codes "\n"))))) (sym u) h
-
--- The allocation of the report of an error fails.
-pub tells_memory : {T E : Type 0} (r : Result T E) (name : Option (Bor (List ℕ))) (n : Bor (List ℕ)) (error : Option Report) (failure : RunFailure) (old new : Option (List ℕ)) → name ≡ Some n → failure ≡ Memory alloc_error
-    → OnOk r (Appends old new (refused (option_map (λ m. m.now) name) failure)) → OnOk r (TellsFault (option_map (λ m. m.now) name) error old new)
-tells_memory r None n error failure old new e f h = cc
-tells_memory (Ok t) (Some m) n error failure old new e f h = inr (subst (λ x. Appends old new (refused (Some m.now) x)) f h)
-tells_memory (Err x) (Some m) n error failure old new e f h = tt

@@ -1,6 +1,6 @@
 -- Outcomes of a run: its exit status, and its report on standard error. Not part of the standard.
-use Rattle.std.specs.Prelude.{◌≡◌, ◌⊎◌, ◌==◌, ◌&&◌, ℕ, Bool, true, false, List, [], ◌++◌, codes, Option, Some, None, IfSome, Result, Ok, Err, alloc_error, if◌then◌else◌}
-use Rattle.std.specs.Io.KnownBytes.{Appends, Keeps}
+use Rattle.std.specs.Prelude.{◌≡◌, ◌==◌, ◌&&◌, ℕ, Bool, true, false, List, [], ◌++◌, codes, Option, Some, None, IfSome, Result, Ok, Err, if◌then◌else◌}
+use Rattle.std.specs.Io.KnownBytes.{Keeps}
 use Rattle.wat_lex.specs.errors.Errors.{Report, lex_error_of, offset_of}
 use Rattle.wat_lex.specs.declared.lexer.faults.LexError.{LexError}
 use Rattle.wat_lex.specs.declared.lexer.faults.LexError.TheVariants.{Unexpected}
@@ -79,22 +79,6 @@ report name (Unopened failed) = codes "wat_tokens: " ++ (of_file name ++ (codes 
 report name (Wrong words) = complaint words ++ codes "\n"
 report name Differs = []
 report name Kept = []
-
--- Standard error grows from `old` to `new` by the report of an error. If the input has a name, it may grow instead by
--- the report of an allocation failure; no failed allocation is required.
-abbrev pub TellsFault : Option (List ℕ) → Option Report → Option (List ℕ) → Option (List ℕ) → Type 0
-TellsFault None error old new = Appends old new (report None (Faulty error))
-TellsFault (Some name) error old new = Appends old new (report (Some name) (Faulty error)) ⊎ Appends old new (refused (Some name) (Memory alloc_error))
-
--- Standard error grows from `old` to `new` by the report of the outcome.
-abbrev pub Tells : Option (List ℕ) → Outcome → Option (List ℕ) → Option (List ℕ) → Type 0
-Tells name Listed old new = Appends old new (report name Listed)
-Tells name (Faulty error) old new = TellsFault name error old new
-Tells name (Refused failure) old new = Appends old new (report name (Refused failure))
-Tells name (Unopened failed) old new = Appends old new (report name (Unopened failed))
-Tells name (Wrong words) old new = Appends old new (report name (Wrong words))
-Tells name Differs old new = Appends old new (report name Differs)
-Tells name Kept old new = Appends old new (report name Kept)
 
 -- The output grows from `old` to `new` as the outcome requires, if the task prints the texts `prints` for the bytes of
 -- the input: by the whole text, by a prefix after a failed write, and not at all after any other failure. The remaining

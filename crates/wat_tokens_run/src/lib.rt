@@ -11,4 +11,4 @@ pub mod run;
 pub use wat_lex::lexer::Settings;
 pub use wat_tokens_args::{complaint, help, options};
 pub use wat_tokens_io::ends;
-pub use wat_tokens_output::{blank, calls, fmt, json, list, named, play, show};
+pub use wat_tokens_output::{blank, calls, fmt, json, list, named, play, printer, show};

@@ -4,9 +4,7 @@ ghost use Rattle.std.specs.Io.KnownBytes.{Appends};
 ghost use Rattle.std.specs.Option.{option_map};
 ghost use Rattle.wat_lex.specs.declared.lexer.settings.Settings.{Settings};
 ghost use Rattle.wat_tokens_run.specs.Outcomes.{exit_code, is_marked, is_closed_output, outcome_of};
-ghost use Rattle.wat_tokens_run.specs.Outcomes.{hint};
-ghost use Rattle.wat_tokens_run.specs.Outcomes.{refused, Ran, status, Tells};
-ghost use Rattle.wat_tokens_run.specs.Outcomes.{TellsFault};
+ghost use Rattle.wat_tokens_run.specs.Outcomes.{fault_report, hint, refused, report, Ran, status};
 ghost use Rattle.wat_tokens_run.specs.Printed.{task_prints};
 
 use crate::run::{RunError, RunFailure, run};
@@ -17,7 +15,8 @@ use wat_lex::lexer::{LexError, Settings};
 use wat_tokens_args::complaint::Complaint;
 use wat_tokens_args::options::Task;
 use wat_tokens_io::ends::{Failed, Sink, Source};
-use wat_tokens_output::named::{Shown, named};
+use wat_tokens_output::named::{FileReport, Shown};
+use wat_tokens_output::printer::print;
 
 /// The outcome of a run on one file.
 #[derive(Drop)]
@@ -168,22 +167,22 @@ impl<'a> Outcome<'a> {
 
     /// Writes the report of the outcome for the input `name`, or for standard input that is not
     /// named. A report is a line, an error with its location in the text, or empty.
-    pub fn report<W: io::Write>(
-        &self,
-        alloc: Global,
-        name: Option<&str>,
-        errors: &mut W,
-    ) -> io::Result<()>
-        ensures { OnOk result (Tells (option_map (λ n. n.now) name.entry) self.now
-            (W.contents errors.old) (W.contents errors.new)) }
+    ///
+    /// Writes in blocks of up to 4,096 bytes. Does not allocate.
+    pub fn report<W: io::Write>(&self, name: Option<&str>, errors: &mut W) -> io::Result<()>
+        ensures { OnOk result (Appends (W.contents errors.old) (W.contents errors.new)
+            (report (option_map (λ n. n.now) name.entry) self.now)) }
     {
         let file = OfFile(name);
         match self {
             Outcome::Listed | Outcome::Differs | Outcome::Kept => Ok(()),
-            Outcome::Faulty(error) => report_fault(alloc, name, error, errors),
+            Outcome::Faulty(error) => report_fault(name, error, errors),
             Outcome::Refused(failure) => report_refusal(name, *failure, errors),
-            Outcome::Unopened(failed) => writeln!(errors, "wat_tokens: {file}open failed{failed}"),
-            Outcome::Wrong(complaint) => writeln!(errors, "{complaint}"),
+            Outcome::Unopened(failed) => print(
+                errors,
+                format_args!("wat_tokens: {file}open failed{failed}\n"),
+            ),
+            Outcome::Wrong(complaint) => print(errors, format_args!("{complaint}\n")),
         }
     }
 }
@@ -199,28 +198,26 @@ fn report_refusal<W: io::Write>(
         (refused (option_map (λ n. n.now) name.entry) failure)) }
 {
     match name {
-        None => writeln!(errors, "wat_tokens: {}", RunError::from(failure)),
+        None => {
+            let error = RunError::from(failure);
+            print(errors, format_args!("wat_tokens: {error}\n"))
+        }
         Some(_) if is_closed_output(true, failure) => Ok(()),
-        Some(_) => writeln!(errors, "wat_tokens: {}{failure}", OfFile(name)),
+        Some(_) => {
+            let file = OfFile(name);
+            print(errors, format_args!("wat_tokens: {file}{failure}\n"))
+        }
     }
 }
 
-/// Writes an error with its location in the text, and its hint if the input has a name. If
-/// allocating the report of a named input fails, writes a report of the allocation failure instead.
-fn report_fault<W: io::Write>(
-    alloc: Global,
-    name: Option<&str>,
-    error: &Error,
-    errors: &mut W,
-) -> io::Result<()>
-    ensures { OnOk result (TellsFault (option_map (λ n. n.now) name.entry) error.now
-        (W.contents errors.old) (W.contents errors.new)) }
+/// Writes an error with its location in the text, and its hint if the input has a name.
+fn report_fault<W: io::Write>(name: Option<&str>, error: &Error, errors: &mut W) -> io::Result<()>
+    ensures { OnOk result (Appends (W.contents errors.old) (W.contents errors.new)
+        (fault_report (option_map (λ n. n.now) name.entry) error.now)) }
 {
-    let Some(file) = name else {
-        return writeln!(errors, "{error}");
+    let Some(name) = name else {
+        return print(errors, format_args!("{error}\n"));
     };
-    match named(alloc, file, error) {
-        Ok(text) => writeln!(errors, "{text}{}", hint(error)),
-        Err(refused) => report_refusal(name, RunFailure::from(refused), errors),
-    }
+    let report = FileReport { name, error };
+    print(errors, format_args!("{report}{}\n", hint(error)))
 }

@@ -147,10 +147,7 @@ impl Document {
         self.reading.pieces.move_to(len, is_before);
         self.reading.drop_up_to(range.end, len);
         self.feeds.move_to(len, |feed| feed < range.start);
-        let is_inside = |feed| feed < range.end;
-        while self.feeds.first_after(len).is_some_and(is_inside) {
-            self.feeds.drop_after();
-        }
+        self.feeds.drop_while(len, |feed| feed < range.end);
         self.marks.remove(&self.text, range);
     }
 
@@ -162,7 +159,7 @@ impl Document {
         let kept = self.reading.pieces.before();
         let (count, end) = (kept.len(), kept.last().map_or(0, Piece::end));
         let lexer = ProvedLexer::with_settings(&self.text, self.settings);
-        let rest = Pieces::with_unclosed(lexer, end, unclosed);
+        let rest = Pieces::new(lexer, end, unclosed);
         self.reading.read_on(rest, self.text.len());
         count
     }

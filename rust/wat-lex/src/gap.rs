@@ -92,6 +92,13 @@ impl<T: Placed> Gap<T> {
         self.after.pop();
     }
 
+    /// Removes items directly after the gap while they satisfy the predicate.
+    pub(crate) fn drop_while(&mut self, length: T::Length, is_dropped: impl Fn(T) -> bool) {
+        while self.first_after(length).is_some_and(&is_dropped) {
+            self.drop_after();
+        }
+    }
+
     /// Keeps the first `count` items before the gap and removes the others before it.
     pub(crate) fn truncate(&mut self, count: usize) {
         self.before.truncate(count);

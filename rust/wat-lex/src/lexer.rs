@@ -161,7 +161,7 @@ impl<'a> Lexer<'a> {
     ///
     /// Panics if `pos` is not a char boundary of the text.
     pub fn pieces(&self, pos: usize) -> Result<Pieces<'a>, Error> {
-        Ok(Pieces::new(self.proved_at(pos)?.clone(), pos))
+        Ok(Pieces::new(self.proved_at(pos)?.clone(), pos, Vec::new()))
     }
 
     /// Returns the lexical error at byte offset `pos`, with the bytes that it covers. Returns `None` if a token begins there or the text ends.

@@ -80,10 +80,8 @@ impl Marks {
     pub(crate) fn remove(&mut self, text: &str, range: &Range<usize>) {
         let is_before = |mark: Mark| mark.offset <= range.start;
         self.marks.move_to(self.end, is_before);
-        let is_inside = |mark: Mark| mark.offset < range.end;
-        while self.marks.first_after(self.end).is_some_and(is_inside) {
-            self.marks.drop_after();
-        }
+        self.marks
+            .drop_while(self.end, |mark| mark.offset < range.end);
         let removed = Mark::of(&text.as_bytes()[range.clone()]);
         self.end = removed.mirrored(self.end);
     }

@@ -180,13 +180,9 @@ pub struct Pieces<'a> {
 }
 
 impl<'a> Pieces<'a> {
-    /// Creates an iterator from byte offset `pos`, which must be a char boundary of the text.
-    pub(crate) fn new(lexer: Lexer<'a>, pos: usize) -> Pieces<'a> {
-        Pieces::with_unclosed(lexer, pos, Vec::new())
-    }
-
-    /// Creates an iterator from byte offset `pos`. `unclosed` holds the offsets of the block comments that are unclosed, from the first one on.
-    pub(crate) fn with_unclosed(lexer: Lexer<'a>, pos: usize, unclosed: Vec<usize>) -> Pieces<'a> {
+    /// Creates an iterator from byte offset `pos`, which must be a char boundary of the text. `unclosed` holds the offsets of the block comments that
+    /// are known to be unclosed.
+    pub(crate) fn new(lexer: Lexer<'a>, pos: usize, unclosed: Vec<usize>) -> Pieces<'a> {
         Pieces {
             lexer,
             pos,

@@ -224,6 +224,8 @@ fn pieces_are_found_by_number_and_by_byte() {
         assert!(range.clone().all(|byte| document.piece_at(byte) == i));
     }
     assert_eq!((document.piece(5), document.piece_at(7)), (None, 5));
+    let tokens: Vec<_> = document.tokens().map(|token| token.range()).collect();
+    assert_eq!(tokens, [0..1, 1..3, 3..4, 6..7]);
     assert!(
         document
             .pieces()

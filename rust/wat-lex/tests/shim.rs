@@ -15,7 +15,7 @@ use wat_lex::shim::boxed::Box;
 use wat_lex::shim::collections::{BTreeMap, Key};
 use wat_lex::shim::fast_float::Numeral;
 use wat_lex::shim::smallvec::SmallVec;
-use wat_lex::shim::string::{JoinIn, String};
+use wat_lex::shim::string::{JoinIn, String, ToStringIn};
 use wat_lex::shim::unicode_width::{UnicodeWidthStr, char_iter_width};
 use wat_lex::shim::vec::Vec;
 
@@ -115,6 +115,9 @@ fn what_is_printed_into_a_text_stays_up_to_the_refusal() {
     assert_eq!(text.as_str(), "a1");
     write!(text, "{long}").unwrap();
     assert_eq!(text.len(), 102);
+    let number = 123_u32.to_string_in(Global).unwrap();
+    assert_eq!(number.as_str(), "123");
+    assert!(refusing(|| 123_u32.to_string_in(Global)).is_err());
 }
 
 #[test]
@@ -231,6 +234,9 @@ fn what_is_borrowed_takes_memory_to_be_owned() {
         (items.as_slice(), &items),
         (&[1, 2][..], &CowSlice::Borrowed(&[1, 2]))
     );
+    assert_ne!(items, CowSlice::Borrowed(&[1, 3]));
+    assert_eq!(format!("{items:?}"), "[1, 2]");
+    assert_eq!(std::vec::Vec::from(vec_of(&[1, 2])), [1, 2]);
 }
 
 #[test]
@@ -243,6 +249,7 @@ fn a_small_vector_takes_memory_past_its_own_room() {
     assert_eq!(items.as_slice(), [0, 1, 2, 3]);
     items.push(4).unwrap();
     assert_eq!(items.as_slice(), [0, 1, 2, 3, 4]);
+    assert_eq!(*items, [0, 1, 2, 3, 4]);
 }
 
 #[test]
@@ -318,7 +325,8 @@ fn a_map_answers_where_its_parts_become_empty() {
                 assert_eq!(map.remove(&key_of(key)), Some(key));
                 let next = (key + stride) % 3_000;
                 assert_eq!(map.get(&key_of(key)), None);
-                assert_eq!(map.get(&key_of(next)), Some(&next).filter(|_| next > 0));
+                let found = map.get(key_of(next).as_str());
+                assert_eq!(found, Some(&next).filter(|_| next > 0));
             }
             assert!(map.is_empty());
         }
@@ -343,6 +351,30 @@ fn a_map_answers_where_its_keys_come_to_begin_with_others() {
         assert!((0..2_000).all(|key| map.get(&key_of(new, key)) == Some(&key)));
         assert!((0..2_000).all(|key| map.get(&key_of(old, key)).is_none()));
     }
+}
+
+#[test]
+fn a_map_answers_where_its_keys_end_in_zeros() {
+    for prefix in ["", "abc", "a_prefix", "a_longer_prefix"] {
+        let key_of = |zeros: usize| text(&format!("{prefix}{}", "\0".repeat(zeros)));
+        let mut map = BTreeMap::new(Global);
+        for zeros in 0..20 {
+            assert_eq!(map.insert(key_of(zeros), zeros), Ok(None));
+        }
+        assert!((0..20).all(|zeros| map.get(&key_of(zeros)) == Some(&zeros)));
+        assert!(map.keys().is_sorted(), "{prefix:?}");
+    }
+}
+
+#[test]
+fn a_map_answers_where_its_integers_have_other_first_bytes() {
+    let key_of = |key: u64| key.wrapping_mul(0x9e37_79b9_7f4a_7c15);
+    let mut map = BTreeMap::new(Global);
+    for key in 0..2_000 {
+        assert_eq!(map.insert(key_of(key), key), Ok(None));
+    }
+    assert!((0..2_000).all(|key| map.get(&key_of(key)) == Some(&key)));
+    assert!(map.keys().is_sorted());
 }
 
 #[test]
@@ -459,10 +491,10 @@ fn characters_have_the_width_of_their_text() {
         assert_eq!(char_iter_width(text.chars()), text.width());
     }
     let wide = "世".repeat(5_000);
-    assert_eq!(
-        granting(0, || char_iter_width(wide.chars())).0,
-        wide.width()
-    );
+    for granted in 0..4 {
+        let (width, _) = granting(granted, || char_iter_width(wide.chars()));
+        assert_eq!(width, wide.width());
+    }
 }
 
 /// Checks that a numeral is the longest prefix of a text.

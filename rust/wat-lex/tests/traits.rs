@@ -10,6 +10,7 @@ use wat_lex::{
     Document, Error, Fault, Float, FloatKind, Integer, IntegerKind, LexError, Lexer, Piece, Pieces,
     SignToken, Span, Token, TokenKind, Tokens, proved,
 };
+use wat_lex::shim::alloc::Global;
 
 fn is_shared<T: Send + Sync + Unpin + UnwindSafe + RefUnwindSafe + Debug>() {}
 
@@ -58,6 +59,9 @@ fn an_error_of_the_lexer_has_what_is_wrong_as_its_source() {
         source(&Lexer::new("\"\\q").fault_at(0).unwrap()),
         Some(wrong)
     );
+    let lexer = proved::lexer::Lexer::new("\"\\q");
+    let error = lexer.parse(Global, &mut 0).unwrap_err();
+    assert_eq!(source(&error), Some(wrong));
     let error = Error::new(Span::from_offset(0), "another".to_string());
     assert!(error.source().is_none());
 }

@@ -18,6 +18,7 @@ pub use traits::{Parse, Peek};
 
 use crate::Error;
 use crate::proved;
+use crate::proved::lexer::Token;
 use crate::token::Span;
 use core::fmt;
 use wat_lex::TokenKind;
@@ -102,17 +103,9 @@ impl<'a> Parser<'a> {
         if known {
             return matches!(row.kind, TokenKind::RParen);
         }
-        self.is_empty_by_look()
-    }
-
-    #[cold]
-    #[inline(never)]
-    fn is_empty_by_look(self) -> bool {
-        match self.cursor().look() {
-            Ok(Some(token)) => matches!(token.kind, TokenKind::RParen),
-            Ok(None) => true,
-            Err(_) => false,
-        }
+        let is_close = |next: Token| matches!(next.kind, TokenKind::RParen);
+        let next = self.cursor().look();
+        next.is_ok_and(|next| next.is_none_or(is_close))
     }
 
     /// Returns `true` if the text has a significant token or a lexical error.
@@ -338,6 +331,11 @@ impl<'a> Parser<'a> {
     ///
     /// Returns an error if one of the three fails. The position of the parser is restored then.
     ///
+    /// # Panics
+    ///
+    /// Panics if the function does. If the panic is caught, the position stays inside the group, and [`parens_depth`](Parser::parens_depth) stays 1
+    /// higher, as in `wast`.
+    ///
     /// # Examples
     ///
     /// ```
@@ -458,7 +456,11 @@ impl<'a> Parser<'a> {
 
     #[inline(always)]
     fn cursor(self) -> Cursor<'a> {
-        Cursor::new(self, self.buffer.position.get())
+        let position = self.buffer.position.get();
+        Cursor {
+            parser: self,
+            position,
+        }
     }
 
     /// Calls the function with a cursor at the parser's position, and advances the parser to the cursor that the function returns.
@@ -496,7 +498,7 @@ impl<'a> Parser<'a> {
         F: FnOnce(Cursor<'a>) -> Result<(T, Cursor<'a>)>,
     {
         let (value, cursor) = take(self.cursor())?;
-        self.buffer.position.set(cursor.position());
+        self.buffer.position.set(cursor.position);
         Ok(value)
     }
 

@@ -5,6 +5,7 @@
 
 use std::collections::HashSet;
 use std::fmt::Debug;
+use std::panic::{AssertUnwindSafe, catch_unwind};
 use std::path::Path;
 use wat_parser::encode::Encode;
 use wat_parser::lexer::{LexError, Lexer};
@@ -562,5 +563,27 @@ fn bytes() {
         [2, b'a', b'b', 2, 1, 2]
     );
     #[cfg(target_pointer_width = "64")]
-    assert!(std::panic::catch_unwind(|| (u32::MAX as usize + 1).encode(&mut Vec::new())).is_err());
+    assert!(catch_unwind(|| (u32::MAX as usize + 1).encode(&mut Vec::new())).is_err());
+}
+
+#[test]
+fn a_group_stays_open_after_a_caught_panic() {
+    struct Groups;
+    impl<'a> Parse<'a> for Groups {
+        fn parse(parser: Parser<'a>) -> Result<Self> {
+            let panics = || {
+                parser.parens(|group| -> Result<()> {
+                    group.parse::<u32>()?;
+                    panic!("a closure may panic")
+                })
+            };
+            assert!(catch_unwind(AssertUnwindSafe(panics)).is_err());
+            assert_eq!((parser.parens_depth(), parser.parse::<u32>()?), (1, 2));
+            let depth = parser.parens(|group| group.parse::<u32>().map(|_| group.parens_depth()));
+            assert_eq!((depth?, parser.parens_depth()), (2, 1));
+            Ok(Groups)
+        }
+    }
+    let buffer = ParseBuffer::new("(1 2 (3)").unwrap();
+    assert!(parser::parse::<Groups>(&buffer).is_ok());
 }

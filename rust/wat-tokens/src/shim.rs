@@ -3,10 +3,8 @@
 
 pub mod env;
 pub mod fs;
-mod macros;
 pub mod os;
 pub mod path;
-mod print;
 pub mod rt;
 
 pub use std::{cmp, fmt, io, marker, process, str};
@@ -15,7 +13,6 @@ pub use wat_lex::shim::alloc;
 
 /// The names that are in scope in each Rattle source without an import, and the traits whose methods are in scope.
 pub mod prelude {
-    pub use crate::shim::macros::{try_eprintln, try_println};
     pub use crate::shim::rt::HostRuntime;
     pub use core::fmt::Write as _;
     pub use std::io::Read as _;

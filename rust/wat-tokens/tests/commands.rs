@@ -129,7 +129,7 @@ impl<'a> Inputs for One<'a> {
         let mut input = self.read();
         let mut output = Plain::new(&mut self.layout);
         let outcome = Outcome::of_run(run_fmt(Global, &mut input, &mut output, settings));
-        outcome.report(Global, None, &mut self.report).unwrap();
+        outcome.report(None, &mut self.report).unwrap();
         outcome.exit(false)
     }
 }

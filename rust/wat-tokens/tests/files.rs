@@ -261,6 +261,7 @@ mod of_unix {
         assert!(paths.contains(&format!("{without_slash}/around/b.wat")));
         assert_eq!(paths.len(), 3);
         assert_eq!(code(fs::read_dir(&rt(), &folder.path(".a"))), Some(20));
+        assert_eq!(code(fs::read_dir(&rt(), "")), Some(2));
     }
 
     #[test]

@@ -132,122 +132,138 @@ const BYTE_FAULT: &str =
 const BUSY: &str =
     "wat_tokens: busy: busy.wat_tokens is there already: remove it, or another run is at work\n";
 
+/// Files with each kind of text, a link, and a temporary file that is there already.
+const FILES: Entries = &[
+    ("messy", "( a\n b )\n"),
+    ("neat", "(a\n  b)\n"),
+    ("faulty", "a \""),
+    ("-", "( dash )"),
+    ("link", "->messy"),
+    ("busy", "( a )"),
+    ("busy.wat_tokens", ""),
+];
+
+const MISSING: &str = "wat_tokens: missing: open failed: no such file or directory\n";
+
+const NO_FILE: &str = "wat_tokens: <stdin>: no file to write\n";
+
+/// Runs over these files, with a text on standard input.
+const CASES: &[Case] = &[
+    case(&["fmt"], 0, "(in)\n", "", &[]),
+    case(&["fmt", "-"], 0, "(in)\n", "", &[]),
+    case(&["fmt", "./-"], 0, "(dash)\n", "", &[]),
+    case(
+        &["fmt", "messy", "neat"],
+        0,
+        "(a\n  b)\n(a\n  b)\n",
+        "",
+        &[],
+    ),
+    case(&["fmt", "faulty"], 1, "", FAULT, &[]),
+    case(&["fmt", "--check"], 1, "<stdin>\n", "", &[]),
+    case(&["fmt", "--check", "neat", "messy"], 1, "messy\n", "", &[]),
+    case(&["fmt", "--check", "neat"], 0, "", "", &[]),
+    case(
+        &["fmt", "--check", "missing", "messy"],
+        2,
+        "messy\n",
+        MISSING,
+        &[],
+    ),
+    case(&["fmt", "--check", "faulty"], 1, "", FAULT, &[]),
+    case(&["fmt", "--write"], 2, "", NO_FILE, &[]),
+    case(&["fmt", "--write", "-"], 2, "", NO_FILE, &[]),
+    case(
+        &["fmt", "--write", "link", "neat", "./-"],
+        0,
+        "",
+        "",
+        &[("messy", "(a\n  b)\n"), ("-", "(dash)\n")],
+    ),
+    case(&["fmt", "--write", "busy"], 2, "", BUSY, &[]),
+    case(
+        &["fmt", "--write", "faulty", "messy"],
+        1,
+        "",
+        FAULT,
+        &[("messy", "(a\n  b)\n")],
+    ),
+    case(&["fmt", "--diff", "faulty"], 1, "", FAULT, &[]),
+    case(&["fmt", "--diff", "neat"], 0, "", "", &[]),
+    case(&["fmt", "--diff", "missing"], 2, "", MISSING, &[]),
+];
+
 #[test]
 fn files_are_printed_checked_or_written() {
-    let files: Entries = &[
-        ("messy", "( a\n b )\n"),
-        ("neat", "(a\n  b)\n"),
-        ("faulty", "a \""),
-        ("-", "( dash )"),
-        ("link", "->messy"),
-        ("busy", "( a )"),
-        ("busy.wat_tokens", ""),
-    ];
-    let missing = "wat_tokens: missing: open failed: no such file or directory\n";
-    let no_file = "wat_tokens: <stdin>: no file to write\n";
-    let cases = [
-        case(&["fmt"], 0, "(in)\n", "", &[]),
-        case(&["fmt", "-"], 0, "(in)\n", "", &[]),
-        case(&["fmt", "./-"], 0, "(dash)\n", "", &[]),
-        case(
-            &["fmt", "messy", "neat"],
-            0,
-            "(a\n  b)\n(a\n  b)\n",
-            "",
-            &[],
-        ),
-        case(&["fmt", "faulty"], 1, "", FAULT, &[]),
-        case(&["fmt", "--check"], 1, "<stdin>\n", "", &[]),
-        case(&["fmt", "--check", "neat", "messy"], 1, "messy\n", "", &[]),
-        case(&["fmt", "--check", "neat"], 0, "", "", &[]),
-        case(
-            &["fmt", "--check", "missing", "messy"],
-            2,
-            "messy\n",
-            missing,
-            &[],
-        ),
-        case(&["fmt", "--check", "faulty"], 1, "", FAULT, &[]),
-        case(&["fmt", "--write"], 2, "", no_file, &[]),
-        case(&["fmt", "--write", "-"], 2, "", no_file, &[]),
-        case(
-            &["fmt", "--write", "link", "neat", "./-"],
-            0,
-            "",
-            "",
-            &[("messy", "(a\n  b)\n"), ("-", "(dash)\n")],
-        ),
-        case(&["fmt", "--write", "busy"], 2, "", BUSY, &[]),
-        case(
-            &["fmt", "--write", "faulty", "messy"],
-            1,
-            "",
-            FAULT,
-            &[("messy", "(a\n  b)\n")],
-        ),
-        case(&["fmt", "--diff", "faulty"], 1, "", FAULT, &[]),
-        case(&["fmt", "--diff", "neat"], 0, "", "", &[]),
-        case(&["fmt", "--diff", "missing"], 2, "", missing, &[]),
-    ];
-    check(files, "( in )\n", &cases);
+    check(FILES, "( in )\n", CASES);
     let cases = [case(&["fmt", "--check"], 1, "", BYTE_FAULT, &[])];
     check(&[], "a \"", &cases);
+    // `-` is standard input, even if a folder has this name.
+    let cases = [case(&["fmt", "-"], 0, "(in)\n", "", &[])];
+    check(&[("-/", "")], "( in )\n", &cases);
 }
+
+/// A folder with texts, other files, and links into it and out of it.
+const TREE: Entries = &[
+    ("tree/", ""),
+    ("tree/a.wat/", ""),
+    ("tree/b/", ""),
+    ("tree/.c/", ""),
+    ("tree/none/", ""),
+    ("tree/.c/e.wat", "( e )"),
+    ("tree/a.wast", "( a )"),
+    ("tree/a.wat/in.wat", "( in )"),
+    ("tree/b/x.wat", "( x )"),
+    ("tree/b/y.wast", "a \""),
+    ("tree/z.wat", "( z )"),
+    ("tree/a.txt", "( a )"),
+    ("tree/wat", "( a )"),
+    ("outside.wat", "( o )"),
+    ("tree/link.wat", "->../outside.wat"),
+    ("tree/b/around", "->../b"),
+    ("tree/b.wat", "->b"),
+    ("tree/.lock.wat", "->nowhere"),
+    ("to_tree", "->tree"),
+];
+
+const TREE_FAULT: &str =
+    "unexpected end-of-file\n     --> tree/b/y.wast:1:4\n      |\n    1 | a \"\n      |    ^\n";
+
+const LISTED: &str = "tree/.c/e.wat\ntree/a.wast\ntree/a.wat/in.wat\ntree/b/x.wat\ntree/z.wat\n";
+
+const WRITTEN: Entries = &[
+    ("tree/.c/e.wat", "(e)\n"),
+    ("tree/a.wast", "(a)\n"),
+    ("tree/a.wat/in.wat", "(in)\n"),
+    ("tree/b/x.wat", "(x)\n"),
+    ("tree/z.wat", "(z)\n"),
+];
+
+/// Runs over the folder, and over paths below it.
+const TREE_CASES: &[Case] = &[
+    case(&["fmt", "--check", "tree"], 1, LISTED, TREE_FAULT, &[]),
+    case(&["fmt", "--check", "tree/"], 1, LISTED, TREE_FAULT, &[]),
+    case(
+        &["fmt", "--check", "to_tree/.c", "tree/b.wat/x.wat"],
+        1,
+        "to_tree/.c/e.wat\ntree/b.wat/x.wat\n",
+        "",
+        &[],
+    ),
+    case(&["fmt", "--check", "tree/none"], 0, "", "", &[]),
+    case(
+        &["fmt", "tree"],
+        1,
+        "(e)\n(a)\n(in)\n(x)\n(z)\n",
+        TREE_FAULT,
+        &[],
+    ),
+    case(&["fmt", "--write", "tree"], 1, "", TREE_FAULT, WRITTEN),
+];
 
 #[test]
 fn the_texts_below_a_folder_are_formatted_in_order() {
-    let files: Entries = &[
-        ("tree/", ""),
-        ("tree/a.wat/", ""),
-        ("tree/b/", ""),
-        ("tree/.c/", ""),
-        ("tree/none/", ""),
-        ("tree/.c/e.wat", "( e )"),
-        ("tree/a.wast", "( a )"),
-        ("tree/a.wat/in.wat", "( in )"),
-        ("tree/b/x.wat", "( x )"),
-        ("tree/b/y.wast", "a \""),
-        ("tree/z.wat", "( z )"),
-        ("tree/a.txt", "( a )"),
-        ("tree/wat", "( a )"),
-        ("outside.wat", "( o )"),
-        ("tree/link.wat", "->../outside.wat"),
-        ("tree/b/around", "->../b"),
-        ("tree/b.wat", "->b"),
-        ("tree/.lock.wat", "->nowhere"),
-        ("to_tree", "->tree"),
-    ];
-    let fault =
-        "unexpected end-of-file\n     --> tree/b/y.wast:1:4\n      |\n    1 | a \"\n      |    ^\n";
-    let listed = "tree/.c/e.wat\ntree/a.wast\ntree/a.wat/in.wat\ntree/b/x.wat\ntree/z.wat\n";
-    let written: Entries = &[
-        ("tree/.c/e.wat", "(e)\n"),
-        ("tree/a.wast", "(a)\n"),
-        ("tree/a.wat/in.wat", "(in)\n"),
-        ("tree/b/x.wat", "(x)\n"),
-        ("tree/z.wat", "(z)\n"),
-    ];
-    let cases = [
-        case(&["fmt", "--check", "tree"], 1, listed, fault, &[]),
-        case(&["fmt", "--check", "tree/"], 1, listed, fault, &[]),
-        case(
-            &["fmt", "--check", "to_tree/.c", "tree/b.wat/x.wat"],
-            1,
-            "to_tree/.c/e.wat\ntree/b.wat/x.wat\n",
-            "",
-            &[],
-        ),
-        case(&["fmt", "--check", "tree/none"], 0, "", "", &[]),
-        case(
-            &["fmt", "tree"],
-            1,
-            "(e)\n(a)\n(in)\n(x)\n(z)\n",
-            fault,
-            &[],
-        ),
-        case(&["fmt", "--write", "tree"], 1, "", fault, written),
-    ];
-    check(files, "", &cases);
+    check(TREE, "", TREE_CASES);
 }
 
 /// Texts, and the hunks from them to their formatted texts.
@@ -269,6 +285,8 @@ const DIFFS: &[(&str, &str)] = &[
         "( a\r b )\nd\n",
         "@@ -1,2 +1,3 @@\n-( a\r b )\n+(a\n+  b)\n d\n",
     ),
+    // A line that becomes two, of which the first is blank.
+    ("a\n\rb\n", "@@ -1,2 +1,3 @@\n a\n-\rb\n+\n+b\n"),
     // Changes six lines apart belong to one hunk, and changes seven apart to two.
     (
         "0\n1\n2\n3\n( a )\n1\n2\n3\n4\n5\n6\n( b )\n1\n2\n3\n4\n5\n6\n7\n( c )\n1\n2\n3\n4\n",
@@ -424,6 +442,24 @@ fn a_temporary_file_that_can_not_be_written_leaves_the_file() {
     assert_eq!(report, "wat_tokens: deep: write failed: file too large\n");
     assert_eq!(folder.read("deep"), text);
     assert!(!folder.0.join("deep.wat_tokens").exists());
+}
+
+/// Limits the process to the five descriptors of its streams and of their duplicates.
+#[test]
+fn a_file_that_can_not_be_opened_is_reported() {
+    let folder = Folder::new();
+    folder.add(("messy", "( a )"));
+    let limited = "ulimit -n 5; exec \"$0\" fmt --write messy";
+    let done = Command::new("sh")
+        .args(["-c", limited, env!("CARGO_BIN_EXE_wat_tokens")])
+        .current_dir(&folder.0)
+        .output()
+        .unwrap();
+    assert_eq!(done.status.code(), Some(2));
+    let report = String::from_utf8(done.stderr).unwrap();
+    let wanted = "wat_tokens: messy: open failed: too many open files\n";
+    assert_eq!(report, wanted);
+    assert_eq!(folder.read("messy"), "( a )");
 }
 
 #[test]

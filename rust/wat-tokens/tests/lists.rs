@@ -11,7 +11,7 @@ use wat_tokens::commands::run::run_list;
 use wat_tokens::lines::ends::Plain;
 use wat_tokens::lists::calls::read_call;
 use wat_tokens::lists::fmt::{Compared, run_compare, run_fmt};
-use wat_tokens::lists::named::named;
+use wat_tokens::lists::named::FileReport;
 use wat_tokens::lists::play::reply_lines;
 use wat_tokens::shim::alloc::Global;
 use wat_tokens::shim::prelude::String as Text;
@@ -118,16 +118,36 @@ fn message() -> Text {
     Text::from("\n     --> <anon>".to_owned())
 }
 
+/// Returns the report of `EmptyId` in column `column` of `a b.wat`, with this part of the line, and the marker after `margin` spaces.
+fn in_window(column: usize, line: &str, margin: usize) -> String {
+    let place = format!("empty identifier\n     --> a b.wat:1:{column}\n");
+    format!(
+        "{place}      |\n    1 | {line}\n      | {}^",
+        " ".repeat(margin)
+    )
+}
+
 #[test]
 fn a_name_takes_the_place_of_anon_where_the_place_is() {
     let long = "x".repeat(500);
+    let (longer, wide, dropped) = ("x".repeat(1000), "世".repeat(600), "\u{202e}".repeat(600));
+    let marked = "a\u{301}".repeat(400);
+    let in_longer = in_window(601, &format!("...{long}..."), 252);
+    let in_long = in_window(501, &format!("...{}", "x".repeat(249)), 252);
     let start = Span::from_offset(0);
     let rows = [
         (
             empty_id("a\nb", 2),
             "empty identifier\n     --> a b.wat:2:1\n      |\n    2 | b\n      | ^",
         ),
-        (empty_id(&long, 500), "empty identifier at a b.wat:1:501"),
+        (empty_id(&long, 500), &in_long),
+        (empty_id(&longer, 600), &in_longer),
+        (empty_id(&wide, 900), "empty identifier at a b.wat:1:601"),
+        (empty_id(&marked, 900), "empty identifier at a b.wat:1:301"),
+        (
+            empty_id(&dropped, 1800),
+            "empty identifier at a b.wat:1:1801",
+        ),
         (
             Error::parse(Global, start, "x", message()),
             "\n     --> <anon>\n     --> a b.wat:1:1\n      |\n    1 | x\n      | ^",
@@ -139,7 +159,9 @@ fn a_name_takes_the_place_of_anon_where_the_place_is() {
         (Error::out_of_memory(), "a b.wat: out of memory"),
     ];
     for (error, printed) in rows {
-        assert_eq!(named(Global, "a b.wat", &error).unwrap().as_str(), printed);
+        let name = "a b.wat";
+        let error = &error;
+        assert_eq!(FileReport { name, error }.to_string(), printed);
     }
 }
 

@@ -18,7 +18,7 @@ fn failed(code: i32) -> Failed {
 /// Returns the exit status of an outcome, and its report.
 fn reported(outcome: &Outcome, name: Option<&str>) -> (u8, String) {
     let mut report = Vec::new();
-    outcome.report(Global, name, &mut report).unwrap();
+    outcome.report(name, &mut report).unwrap();
     let status = outcome.exit(name.is_some()).code();
     (status, String::from_utf8(report).unwrap())
 }

@@ -201,7 +201,7 @@ fn a_report_is_written_in_blocks() {
         let writes = reports(command.stdout(Stdio::null()));
         let report = String::from_utf8(writes.concat()).unwrap();
         assert!(report.contains(":1:1\n"), "{words:?}: {report:.100}");
-        let blocks = report.len().div_ceil(8192);
+        let blocks = report.len().div_ceil(4096);
         assert!(writes.len() <= blocks, "{words:?}: {} writes", writes.len());
     }
 }

@@ -137,6 +137,51 @@ uint64_t library_values(const uint8_t *text, size_t len) {
     return sum;
 }
 
+/* Returns the checksum of a part from its range, like `part`: without underscores, and after a `-` if `minus`. */
+static uint64_t ranged(const uint8_t *text, struct wat_span span, bool minus, bool has_underscores) {
+    size_t len = span.len + (minus ? 1 : 0), i;
+    if (span.len == 0) {
+        return 1;
+    }
+    for (i = 0; has_underscores && i < span.len; i++) {
+        len -= text[span.start + i] == '_' ? 1 : 0;
+    }
+    return len + (minus ? '-' : text[span.start]) + text[span.start + span.len - 1];
+}
+
+/* Returns the checksum of a floating-point number's parts, like `parts`, by one call. */
+static uint64_t ranges(const uint8_t *text, size_t len, const struct wat_row *row) {
+    const bool underscores = row->kind.has_underscores;
+    const struct wat_parts found = wat_float_parts(text, len, row);
+    switch (row->kind.code) {
+    case WAT_INF:
+        return 2;
+    case WAT_NAN:
+    case WAT_NAN_PAYLOAD:
+        return ranged(text, found.payload, false, underscores);
+    default:
+        return ranged(text, found.integral, found.negative, underscores) + ranged(text, found.fractional, false, underscores) +
+               ranged(text, found.exponent, false, underscores);
+    }
+}
+
+/* Returns the checksum of the values of a text, like `library_values`, with the parts of floating-point numbers by `wat_float_parts`. */
+uint64_t library_parts(const uint8_t *text, size_t len) {
+    static struct wat_row rows[ROOM];
+    static uint8_t out[BYTES];
+    struct wat_filled filled = {0, 0, WAT_FULL};
+    uint64_t sum = 0;
+    size_t i;
+    while (filled.why == WAT_FULL) {
+        filled = wat_rows(text, len, filled.at, false, false, rows, ROOM);
+        for (i = 0; i < filled.count; i++) {
+            const uint8_t code = rows[i].kind.code;
+            sum += code >= WAT_INF && code <= WAT_FLOAT ? ranges(text, len, &rows[i]) : value(text, len, &rows[i], out);
+        }
+    }
+    return sum;
+}
+
 static uint64_t part_at(const uint8_t *text, size_t len, size_t pos, uint32_t number, uint8_t *out) {
     struct wat_answer answer = wat_float(text, len, pos, false, false, number, out, BYTES);
     return answer.status == WAT_ABSENT ? 1 : written(answer, out);
@@ -208,6 +253,21 @@ uint64_t library_u32s(const uint8_t *text, size_t len) {
         filled = wat_rows(text, len, filled.at, false, false, rows, ROOM);
         for (i = 0; i < filled.count; i++) {
             sum += wat_integer_of(text, len, &rows[i], 32, false).value;
+        }
+    }
+    return sum;
+}
+
+/* Returns the sum of the bits of the numbers. */
+uint64_t library_f64s(const uint8_t *text, size_t len) {
+    static struct wat_row rows[ROOM];
+    struct wat_filled filled = {0, 0, WAT_FULL};
+    uint64_t sum = 0;
+    size_t i;
+    while (filled.why == WAT_FULL) {
+        filled = wat_rows(text, len, filled.at, false, false, rows, ROOM);
+        for (i = 0; i < filled.count; i++) {
+            sum += wat_f64_of(text, len, &rows[i]).bits;
         }
     }
     return sum;

@@ -163,7 +163,9 @@ static void covers(void) {
     size_t i;
     for (i = 0; i < sizeof rows / sizeof *rows; i++) {
         const char *text = rows[i].text;
+        uint32_t mark = 0;
         expect(wat_resume(bytes_of(text), strlen(text), rows[i].pos, false, false) == rows[i].next, "wat_resume", text);
+        expect(wat_next(bytes_of(text), strlen(text), rows[i].pos, false, false, &mark, 1).next == rows[i].next, "wat_next", text);
     }
     expect(wat_resume(bytes_of(allowed), strlen(allowed), 0, true, false) == 7, "wat_resume", allowed);
     expect(wat_resume(bytes_of(strict), strlen(strict), 0, false, true) == 10, "wat_resume", strict);
@@ -265,6 +267,81 @@ static void values(void) {
     expect(is_word(wat_comment(bytes_of(" (;"), 3, 0, false, false), 0, 0, WAT_DANGLING_BLOCK_COMMENT), "wat_comment", " (;");
 }
 
+/* Checks the bits of numbers: decimal and hexadecimal, at and close to a midpoint, subnormal, at the limits of a format, and those without a value. */
+static void bits(void) {
+    static const struct {
+        const char *text;
+        uint32_t bits32, status32;
+        uint64_t bits64;
+        uint32_t status64;
+    } rows[] = {{"-0", 0x80000000, WAT_GIVEN, 0x8000000000000000, WAT_GIVEN},
+                {"+1_6777_217", 0x4b800000, WAT_GIVEN, 0x4170000010000000, WAT_GIVEN},
+                {"16777219", 0x4b800002, WAT_GIVEN, 0x4170000030000000, WAT_GIVEN},
+                {"9007199254740993", 0x5a000000, WAT_GIVEN, 0x4340000000000000, WAT_GIVEN},
+                {"9007199254740993.00000000000000000001", 0x5a000000, WAT_GIVEN, 0x4340000000000001, WAT_GIVEN},
+                {"0x1p-149", 1, WAT_GIVEN, 0x36a0000000000000, WAT_GIVEN},
+                {"0x1p-150", 0, WAT_GIVEN, 0x3690000000000000, WAT_GIVEN},
+                {"5e-324", 0, WAT_GIVEN, 1, WAT_GIVEN},
+                {"-0x1.0_1p-1_075", 0x80000000, WAT_GIVEN, 0x8000000000000001, WAT_GIVEN},
+                {"0x1.fffffefp+127", 0x7f7fffff, WAT_GIVEN, 0x47efffffef000000, WAT_GIVEN},
+                {"0x1.ffffffp+127", 0, WAT_OUT_OF_RANGE, 0x47effffff0000000, WAT_GIVEN},
+                {"-1e400", 0, WAT_OUT_OF_RANGE, 0, WAT_OUT_OF_RANGE},
+                {"-inf", 0xff800000, WAT_GIVEN, 0xfff0000000000000, WAT_GIVEN},
+                {"nan", 0x7fc00000, WAT_GIVEN, 0x7ff8000000000000, WAT_GIVEN},
+                {"-nan:0x7f_ffff", 0xffffffff, WAT_GIVEN, 0xfff00000007fffff, WAT_GIVEN},
+                {"nan:0x800000", 0, WAT_OUT_OF_RANGE, 0x7ff0000000800000, WAT_GIVEN},
+                {"nan:0x0", 0, WAT_OUT_OF_RANGE, 0, WAT_OUT_OF_RANGE},
+                {"f32", 0, WAT_OTHER, 0, WAT_OTHER}};
+    size_t i;
+    for (i = 0; i < sizeof rows / sizeof *rows; i++) {
+        const char *text = rows[i].text;
+        size_t len = strlen(text);
+        struct wat_row row = first_row(text);
+        struct wat_bits32 single = wat_f32_of(bytes_of(text), len, &row), there = wat_f32(bytes_of(text), len, 0, false, false);
+        struct wat_bits64 twice = wat_f64_of(bytes_of(text), len, &row), here = wat_f64(bytes_of(text), len, 0, false, false);
+        expect(single.bits == rows[i].bits32 && single.status == rows[i].status32, "wat_f32_of", text);
+        expect(there.bits == rows[i].bits32 && there.status == rows[i].status32, "wat_f32", text);
+        expect(twice.bits == rows[i].bits64 && twice.status == rows[i].status64, "wat_f64_of", text);
+        expect(here.bits == rows[i].bits64 && here.status == rows[i].status64, "wat_f64", text);
+    }
+    expect(wat_f32(bytes_of("1"), 1, 1, false, false).status == WAT_OTHER, "wat_f32", "the end");
+    expect(wat_f64(bytes_of("(;"), 2, 0, false, false).status == WAT_OTHER, "wat_f64", "(;");
+}
+
+static bool is_span(const char *text, struct wat_span span, const char *wanted) {
+    return span.len == strlen(wanted) && (span.len == 0 ? span.start == 0 : memcmp(text + span.start, wanted, span.len) == 0);
+}
+
+/* Checks the ranges of the parts of numbers. */
+static void parts(void) {
+    static const struct {
+        const char *text, *integral, *fractional, *exponent, *payload;
+        uint32_t status;
+        bool negative;
+    } rows[] = {{"1.5", "1", "5", "", "", WAT_GIVEN, false},
+                {"-1_0.5e+7_0", "1_0", "5", "7_0", "", WAT_GIVEN, true},
+                {"+12.", "12", "", "", "", WAT_GIVEN, false},
+                {"1.E-0", "1", "", "-0", "", WAT_GIVEN, false},
+                {"2e1", "2", "", "1", "", WAT_GIVEN, false},
+                {"-0x1.8_eP-1_0", "1", "8_e", "-1_0", "", WAT_GIVEN, true},
+                {"+0xeEp+3", "eE", "", "3", "", WAT_GIVEN, false},
+                {"0xe.e", "e", "e", "", "", WAT_GIVEN, false},
+                {"-inf", "", "", "", "", WAT_GIVEN, true},
+                {"nan", "", "", "", "", WAT_GIVEN, false},
+                {"-nan:0x1_F", "", "", "", "1_F", WAT_GIVEN, true},
+                {"-1", "", "", "", "", WAT_OTHER, false},
+                {"e.e", "", "", "", "", WAT_OTHER, false}};
+    size_t i;
+    for (i = 0; i < sizeof rows / sizeof *rows; i++) {
+        const char *text = rows[i].text;
+        struct wat_row row = first_row(text);
+        struct wat_parts found = wat_float_parts(bytes_of(text), strlen(text), &row);
+        expect(found.status == rows[i].status && found.negative == rows[i].negative, "wat_float_parts", text);
+        expect(is_span(text, found.integral, rows[i].integral) && is_span(text, found.fractional, rows[i].fractional), "wat_float_parts", text);
+        expect(is_span(text, found.exponent, rows[i].exponent) && is_span(text, found.payload, rows[i].payload), "wat_float_parts", text);
+    }
+}
+
 static bool prints(const char *file, const char *wanted) {
     uint8_t out[CAPACITY] = {0};
     struct wat_answer given = wat_print(bytes_of("a b"), 3, 2, bytes_of("no such word"), 12, bytes_of(file), strlen(file), out, CAPACITY);
@@ -305,6 +382,16 @@ static void names(void) {
     expect(wat_fault_name(UINT32_MAX)[0] == '\0', "wat_fault_name", "UINT32_MAX");
 }
 
+/* Checks the types of the functions that the header defines: a pointer to another type is an error with -Werror. */
+static void types(void) {
+    const char *(*const kind_name)(uint8_t) = wat_kind_name;
+    const char *(*const fault_name)(uint32_t) = wat_fault_name;
+    struct wat_token (*const token_at)(const uint8_t *, size_t, size_t, bool, bool) = wat_token_at_inline;
+    expect(strcmp(kind_name(WAT_ID), "Id") == 0, "wat_kind_name", "WAT_ID");
+    expect(strcmp(fault_name(WAT_EXPECTED), "Expected") == 0, "wat_fault_name", "WAT_EXPECTED");
+    expect(token_at(bytes_of("(a"), 2, 0, false, false).kind.code == WAT_LPAREN, "wat_token_at_inline", "(a");
+}
+
 int main(void) {
     readers();
     tokens();
@@ -313,8 +400,11 @@ int main(void) {
     shown();
     hidden();
     values();
+    bits();
+    parts();
     messages();
     names();
+    types();
     printf("answers: %u results compared, %u wrong\n", compared, wrong);
     return wrong == 0 ? 0 : 1;
 }

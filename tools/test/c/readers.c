@@ -149,6 +149,66 @@ static void compare_integer(struct setting s, const struct wat_row *row) {
     }
 }
 
+/* Checks that the range of a number's part has the bytes that the reader of this part writes, in addition to underscores and a `-`. */
+static void compare_part(struct setting s, const struct wat_row *row, uint32_t part, struct wat_span span, bool minus) {
+    uint8_t *wanted = block_of(row->len);
+    struct wat_answer given = wat_float_of(s.text, s.len, row, part, wanted, row->len);
+    size_t at = 0, i;
+    expect((given.status == WAT_ABSENT) == (span.len == 0), "a part is there or not", row->offset);
+    expect(span.len == 0 ? span.start == 0 : span.start >= row->offset && span.start + span.len <= row->offset + row->len, "a part is outside", row->offset);
+    if (minus && given.status == WAT_GIVEN) {
+        expect(given.needed > 0 && wanted[at++] == '-', "a part has no sign", row->offset);
+    }
+    for (i = 0; i < span.len; i++) {
+        uint8_t byte = s.text[span.start + i];
+        expect(byte == '_' || (at < given.needed && wanted[at++] == byte), "a part is another", row->offset);
+    }
+    expect(given.status != WAT_GIVEN || at == given.needed, "a part is shorter", row->offset);
+    free(wanted);
+}
+
+/* Checks the ranges of a number's parts. */
+static void compare_parts(struct setting s, const struct wat_row *row) {
+    struct wat_parts parts = wat_float_parts(s.text, s.len, row);
+    bool is_float = row->kind.code >= WAT_INF && row->kind.code <= WAT_FLOAT;
+    expect(parts.status == (is_float ? (uint32_t)WAT_GIVEN : WAT_OTHER), "another token has parts", row->offset);
+    expect(parts.negative == (is_float && s.text[row->offset] == '-'), "a number has another sign", row->offset);
+    if (is_float) {
+        compare_part(s, row, WAT_INTEGRAL, parts.integral, parts.negative);
+        compare_part(s, row, WAT_FRACTIONAL, parts.fractional, false);
+        compare_part(s, row, WAT_EXPONENT, parts.exponent, false);
+        compare_part(s, row, WAT_PAYLOAD, parts.payload, false);
+    }
+}
+
+/* Checks the bits of a number with those at its offset and, if it is decimal and its value is finite, with those of `strtof` and `strtod`. */
+static void compare_bits(struct setting s, const struct wat_row *row) {
+    struct wat_bits32 single = wat_f32_of(s.text, s.len, row), there = wat_f32(s.text, s.len, row->offset, s.allow, s.strict);
+    struct wat_bits64 twice = wat_f64_of(s.text, s.len, row), here = wat_f64(s.text, s.len, row->offset, s.allow, s.strict);
+    uint8_t code = row->kind.code;
+    char digits[80];
+    size_t count = 0, i;
+    float f;
+    double d;
+    expect(single.bits == there.bits && single.status == there.status, "the bits of a float are others by row", row->offset);
+    expect(twice.bits == here.bits && twice.status == here.status, "the bits of a double are others by row", row->offset);
+    expect((single.status == WAT_OTHER) == (code < WAT_INTEGER || code > WAT_FLOAT), "another token has bits", row->offset);
+    expect((twice.status == WAT_OTHER) == (single.status == WAT_OTHER), "another token has bits", row->offset);
+    if ((code != WAT_INTEGER && code != WAT_FLOAT) || row->kind.hex || row->len >= sizeof digits) {
+        return;
+    }
+    for (i = 0; i < row->len; i++) {
+        if (s.text[row->offset + i] != '_') {
+            digits[count++] = (char)s.text[row->offset + i];
+        }
+    }
+    digits[count] = '\0';
+    f = strtof(digits, NULL);
+    d = strtod(digits, NULL);
+    expect(single.status == WAT_OUT_OF_RANGE || memcmp(&f, &single.bits, sizeof f) == 0, "strtof returns another float", row->offset);
+    expect(twice.status == WAT_OUT_OF_RANGE || memcmp(&d, &twice.bits, sizeof d) == 0, "strtod returns another double", row->offset);
+}
+
 /* Calls every function whose input is a single row. */
 static void look_by_row(struct setting s, struct wat_found found) {
     struct wat_row row = row_of(s, found.token);
@@ -159,6 +219,8 @@ static void look_by_row(struct setting s, struct wat_found found) {
             compare_readers(reader, s, &row);
         }
     }
+    compare_parts(s, &row);
+    compare_bits(s, &row);
     if (code == WAT_STRING || code == WAT_ID || code == WAT_ANNOTATION) {
         compare_word(s, &row);
     } else {
@@ -268,6 +330,18 @@ static bool are_same(struct wat_token a, struct wat_token b) {
            a.kind.has_underscores == b.kind.has_underscores && a.kind.hex == b.kind.hex;
 }
 
+/* Checks the results of wat_next without marks, and with 1 mark. */
+static void step_from(struct setting s, size_t pos, struct wat_found found, size_t next) {
+    uint32_t *mark = (uint32_t *)block_of(sizeof *mark), none = 0;
+    struct wat_step bare = wat_next(s.text, s.len, pos, s.allow, s.strict, &none, 0), marked;
+    *mark = 0;
+    marked = wat_next(s.text, s.len, pos, s.allow, s.strict, mark, 1);
+    expect(bare.next == next && are_same(bare.found.token, found.token) && bare.found.fault == found.fault, "a step is another", pos);
+    expect(marked.next == next && are_same(marked.found.token, found.token) && marked.found.fault == found.fault, "a step is another", pos);
+    expect(none == 0 && (*mark == 0 || (*mark == pos + 1 && found.fault == WAT_DANGLING_BLOCK_COMMENT)), "a mark is another", pos);
+    free(mark);
+}
+
 /* Checks that lexing resumes at the end of a token, and after a lexical error at a char boundary that is not before the error. */
 static void look_after(struct setting s, size_t pos, struct wat_found found) {
     size_t next = wat_resume(s.text, s.len, pos, s.allow, s.strict);
@@ -277,6 +351,7 @@ static void look_after(struct setting s, size_t pos, struct wat_found found) {
     } else {
         expect(next > pos && found.token.offset >= pos && found.token.offset <= next, "a fault is outside of what it covers", pos);
     }
+    step_from(s, pos, found, next);
 }
 
 /* Calls every function whose input is an offset, and compares the results. Returns the token or the lexical error there. */

@@ -44,6 +44,15 @@ static const struct call calls[] = {
     {"wat_shown", "(@\"\\61\" b) c", true},
     {"wat_shown", "(@a b) c", false},
     {"wat_integer_of", "-0x1_f", false},
+    {"wat_f32_of", "-0x1_f", true},
+    {"wat_f32_of", "nan:0x1f", false},
+    {"wat_f64_of", "1_0.5", true},
+    {"wat_f64_of", "123456789012345678901234567890.5e-300", false},
+    {"wat_f32", "1_0", true},
+    {"wat_f32", "10", false},
+    {"wat_f64", "1.0e1_0", true},
+    {"wat_f64", "0x1.8p-3", false},
+    {"wat_float_parts", "-1_0.5e+7", false},
     {"wat_word", "$\"a b\"", false},
     {"wat_comment", " ;;a", false},
 };
@@ -78,6 +87,25 @@ static struct wat_answer without_buffer(const char *f, const uint8_t *text, size
         struct wat_range word = is_call(f, "wat_word") ? wat_word(text, len, rows) : wat_comment(text, len, 0, false, false);
         answer.needed = word.start;
         answer.status = word.status;
+    }
+    return answer;
+}
+
+/* Returns the result of a call that returns bits, as `needed`, or the offset of a number's exponent. */
+static struct wat_answer read_number(const char *f, const uint8_t *text, size_t len, const struct wat_row *row) {
+    struct wat_answer answer = {0, UINT32_MAX};
+    if (is_call(f, "wat_float_parts")) {
+        struct wat_parts parts = wat_float_parts(text, len, row);
+        answer.needed = parts.exponent.start;
+        answer.status = parts.status;
+    } else if (is_call(f, "wat_f32_of") || is_call(f, "wat_f32")) {
+        struct wat_bits32 bits = is_call(f, "wat_f32") ? wat_f32(text, len, 0, false, false) : wat_f32_of(text, len, row);
+        answer.needed = bits.bits;
+        answer.status = bits.status;
+    } else {
+        struct wat_bits64 bits = is_call(f, "wat_f64") ? wat_f64(text, len, 0, false, false) : wat_f64_of(text, len, row);
+        answer.needed = bits.bits;
+        answer.status = bits.status;
     }
     return answer;
 }
@@ -136,6 +164,9 @@ static struct wat_answer make(const struct call *call, uint8_t *out) {
     struct wat_filled filled = rows_of(text, len, rows, 8);
     if (is_call(f, "wat_shown") || is_call(f, "wat_integer_of") || is_call(f, "wat_word") || is_call(f, "wat_comment")) {
         return without_buffer(f, text, len, rows, filled);
+    }
+    if (is_call(f, "wat_float_parts") || strncmp(f, "wat_f32", 7) == 0 || strncmp(f, "wat_f64", 7) == 0) {
+        return read_number(f, text, len, rows);
     }
     if (is_call(f, "wat_print") || is_call(f, "wat_message")) {
         return print(f, text, len, out);

@@ -89,11 +89,16 @@ MODULES = {
     "data": lines(lambda i: '(data "abc")\n'),
     "data_one": lines(lambda i: "abcdefg\\00", '(module (memory 1) (data (i32.const 0) "', '"))\n'),
     "data_strings": lines(lambda i: f' "abcd\\n{i}"', "(module (memory 1) (data (i32.const 0)", "))\n"),
+    # A few more tokens than a power of two: their vector has the capacity of twice as many, and raises the peak if it is kept while bytes are
+    # written.
+    "data_words": lines(lambda _: ' "abcdefghijklm"', "(module (memory 1) (data (i32.const 0)", "))\n"),
     "elements": lines(lambda i: " $first $second", "(module (func $first) (func $second) (table 1 funcref) (elem (i32.const 0)", "))\n"),
     "locals": lines(lambda i: " i32", "(module (func (local", ")))\n"),
+    "locals_by_functions": lines(lambda i: f"(func (local{32 * ' i32'}))\n"),
     "locals_named": body(lambda i: f"(local $x{i} i32)\n"),
     "comment": lines(lambda i: "lorem ipsum dolor (sit) amet\n", "(module (;", ";))\n"),
     "nops": body(lambda i: "nop "),
+    "bodies": lines(lambda _: f"(func{9 * ' nop'})\n"),
     "constants": body(lambda i: f"i32.const {i} f64.const {i}.5e1 drop drop\n"),
     "folded": body(lambda i: "(drop (i32.add (i32.const 1) (local.get 2)))\n"),
     "folded_deep": body(lambda i: "(block ", ")"),

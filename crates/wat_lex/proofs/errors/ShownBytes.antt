@@ -227,7 +227,7 @@ scalars_space c cs h k =
           ]
     ]
 
-scalars_shown : (cs : List ℕ) → scalars cs ≡ true → scalars (flat_map rendered_char cs) ≡ true
+pub scalars_shown : (cs : List ℕ) → scalars cs ≡ true → scalars (flat_map rendered_char cs) ≡ true
 scalars_shown [] h = refl
 scalars_shown (c ∷ cs) h =
     let parts = and_parts (scalar c) (scalars cs) h in

@@ -1,9 +1,6 @@
-use Rattle.std.proofs.Common.{◌≡◌, ◌≢◌, ℕ, zero, suc, ◌+◌, ◌-◌, ◌<◌, List, [], ◌∷◌, refl, length, drop, get_or, arith, add-one, add-zero, subst, sym, ap, ◌∙◌, inl, inr, length-drop, get_or-drop, ◌≤◌, true}
-use Rattle.std.specs.List.{prefix_len}
+use Rattle.std.proofs.Common.{◌≡◌, ◌≢◌, ℕ, zero, suc, ◌+◌, ◌-◌, ◌<◌, List, [], ◌∷◌, refl, length, drop, get_or, arith, add-one, add-zero, subst, sym, ap, ◌∙◌, inl, inr, length-drop, get_or-drop}
 use Rattle.std.proofs.lemmas.List.{drop_more}
-use Rattle.std.proofs.lemmas.List.Sums.{prefix_len_passes}
-use Rattle.std.proofs.lemmas.Bool.{cases_eq, both_ways}
-use Rattle.wat_lex.specs.inside.Blocks.{other_than_semicolon}
+use Rattle.std.proofs.lemmas.Bool.{cases_eq}
 use Rattle.wat_lex.specs.inside.Nesting.{Closings, Reaches}
 use Rattle.wat_lex.specs.grammar.Comments.{Closes, close, plain, lone_semicolon, lone_paren, nested}
 
@@ -132,52 +129,6 @@ other_at s i n h p g a b =
     let f : get_or (drop (i + 1) s) 0 0 ≡ get_or s (i + 1) 0 = get_or-drop (i + 1) s 0 0 ∙ ap (λ x. get_or s x 0) (add-zero (i + 1)) in
     step_other s (drop (i + 1) s) (get_or s i 0) n p (subst (λ x. Reaches s n x) e g)
     (λ x y z. a x (omega (arith, l)) (sym f ∙ z)) (λ x y z. b x (omega (arith, l)) (sym f ∙ z))
-
--- Between the offsets i and j of a text there is not any `;`.
-abbrev NoSemicolon : List ℕ → ℕ → ℕ → Type 0
-NoSemicolon s i j = (k : ℕ) → i ≤ k → k < j → get_or s k 0 ≢ 59
-
--- Between the offsets i and j of a text, `(` is not followed by `;`.
-abbrev NoOpening : List ℕ → ℕ → ℕ → Type 0
-NoOpening s i j = (k : ℕ) → i ≤ k → k < j → get_or s k 0 ≡ 40 → k + 1 < length s → get_or s (k + 1) 0 ≡ 59 → ⊥
-
-past_bytes : (s : List ℕ) (d i n : ℕ) → i + d ≤ length s → 0 < n → NoSemicolon s i (i + d) → NoOpening s i (i + d) → Reaches s n (drop i s) → Reaches s n (drop (i + d) s)
-past_bytes s zero i n l p f g h = subst (λ x. Reaches s n (drop x s)) (sym (add-zero i)) h
-past_bytes s (suc d) i n l p f g h =
-    let e : i + d + 1 ≡ i + suc d = omega arith in
-    let before = past_bytes s d i n (omega arith) p (λ k a b. f k a (omega arith)) (λ k a b. g k a (omega arith)) h in
-    subst (λ x. Reaches s n (drop x s)) e
-    (other_at s (i + d) n (omega arith) p before (g (i + d) (omega arith) (omega arith)) (λ x y z. f (i + d) (omega arith) (omega arith) x))
-
--- what is reached before bytes that neither open nor close a comment is reached after them
-past_stretch : (s : List ℕ) (i j n : ℕ) → i ≤ j → j ≤ length s → 0 < n → NoSemicolon s i j → NoOpening s i j → Reaches s n (drop i s) → Reaches s n (drop j s)
-past_stretch s i j n a l p f g h =
-    let e : i + (j - i) ≡ j = omega arith in
-    subst (λ x. Reaches s n (drop x s)) e
-    (past_bytes s (j - i) i n (omega arith) p (λ k x y. f k x (omega arith)) (λ k x y. g k x (omega arith)) h)
-
-other_before : (s : List ℕ) (i m k : ℕ) → m ≡ prefix_len other_than_semicolon (drop i s) → i ≤ k → k < i + m → get_or s k 0 ≢ 59
-other_before s i m k e a b q =
-    let place : i + (k - i) ≡ k = omega arith in
-    let here : get_or (drop i s) (k - i) 0 ≡ 59 = get_or-drop i s (k - i) 0 ∙ ap (λ x. get_or s x 0) place ∙ q in
-    let passes = prefix_len_passes other_than_semicolon (drop i s) (k - i) 0 (omega arith) in
-    both_ways (other_than_semicolon 59) refl (subst (λ x. other_than_semicolon x ≡ true) here passes)
-
--- The next `;`, or the end, is reached from the offset i, if the byte before it is not `(`.
-pub semicolon_reached : (s : List ℕ) (i m n : ℕ) → m ≡ prefix_len other_than_semicolon (drop i s) → i + m ≤ length s → (i < i + m → get_or s (i + m - 1) 0 ≡ 40 → ⊥) → 0 < n → Reaches s n (drop i s) → Reaches s n (drop (i + m) s)
-semicolon_reached s i m n e l a p h =
-    let none : NoSemicolon s i (i + m) = λ k x y. other_before s i m k e x y in
-    let last : NoOpening s i (i + m) = λ k x y b _ z. elim (cases_eq (k + 1) (i + m)) [
-      | inl f ↦ let q : k ≡ i + m - 1 = omega arith in a (omega arith) (subst (λ v. get_or s v 0 ≡ 40) q b)
-      | inr nf ↦ none (k + 1) (omega arith) (omega arith) z
-    ] in
-    past_stretch s i (i + m) n (omega arith) l p none last h
-
--- and so is the byte before it
-pub before_semicolon_reached : (s : List ℕ) (i m n : ℕ) → m ≡ prefix_len other_than_semicolon (drop i s) → i + m ≤ length s → i < i + m → 0 < n → Reaches s n (drop i s) → Reaches s n (drop (i + m - 1) s)
-before_semicolon_reached s i m n e l a p h =
-    let none : NoSemicolon s i (i + m) = λ k x y. other_before s i m k e x y in
-    past_stretch s i (i + m - 1) n (omega arith) (omega arith) p (λ k x y. none k x (omega arith)) (λ k x y _ _ z. none (k + 1) (omega arith) (omega arith) z) h
 
 -- where no comment is open any more, the text is closed
 pub all_closed : (s : List ℕ) (n : ℕ) (t : List ℕ) → n ≡ 0 → Reaches s n t → Closes s t

@@ -1,6 +1,6 @@
 -- A word that does not begin like a number is not a number.
 use Rattle.std.proofs.Common.{◌≡◌, ◌≢◌, ℕ, List, [], ◌∷◌, sym, ◌∙◌, subst, ap, Bool, false, cond, ◌||◌}
-use Rattle.std.specs.Prelude.{◌==◌}
+use Rattle.std.specs.Prelude.{◌==◌, codes}
 use Rattle.std.specs.Char.{is_ascii_digit}
 use Rattle.std.proofs.lemmas.Bool.{ne_eqb}
 use Rattle.wat_lex.specs.grammar.Numbers.{IntegralPart, decimal, hexadecimal, Decimals, decimals, Payload, payload, unsigned, Number}
@@ -45,38 +45,39 @@ own c t p m = ap (λ b. cond (b || c == 45) t (c ∷ t)) (ne_eqb c 43 p) ∙ ap 
 pub begins_none : (c : ℕ) (t : List ℕ) → BeginsNone c → (kind : TokenKind) → Number (c ∷ t) kind → ⊥
 begins_none c t n = no_number (c ∷ t) (subst NoNumber (sym (own c t n.plus n.minus)) (none c t n))
 
--- A word is not a number if its first character is neither a digit nor a sign, and its second is not that of `inf` or
--- `nan`.
-pub second_none : (c d : ℕ) (t : List ℕ) → is_ascii_digit c ≡ false → c ≢ 43 → c ≢ 45 → d ≢ 110 → d ≢ 97 → (kind : TokenKind) → Number (c ∷ d ∷ t) kind → ⊥
-second_none c d t n p m i a = no_number (c ∷ d ∷ t) (subst NoNumber (sym (own c (d ∷ t) p m)) (record {
-  inf = λ e. i (second e);
-  nan = λ e. a (second e);
+-- A word whose first character is neither a digit nor a sign is not a number if it is neither `inf` nor `nan`, and has no
+-- payload.
+other_none : (c : ℕ) (t : List ℕ) → is_ascii_digit c ≡ false → c ≢ 43 → c ≢ 45 → (c ∷ t) ≢ codes "inf" → (c ∷ t) ≢ codes "nan" → (Payload (c ∷ t) → ⊥) → (kind : TokenKind) → Number (c ∷ t) kind → ⊥
+other_none c t n p m i a by = no_number (c ∷ t) (subst NoNumber (sym (own c t p m)) (record {
+  inf = i;
+  nan = a;
   payload = by;
-  integer = λ hex h. no_integral c (d ∷ t) [] n hex h;
+  integer = λ hex h. no_integral c t [] n hex h;
   float = tail;
 }))
   where
-    second : {x y : ℕ} {s u : List ℕ} → (c ∷ d ∷ s) ≡ (x ∷ y ∷ u) → d ≡ y
-    second e = cc
+    tail : (hex : Bool) → Decimals hex (c ∷ t) → ⊥
+    tail hex (decimals {t = s} h k) = no_integral c t s n hex h
 
-    by : Payload (c ∷ d ∷ t) → ⊥
-    by (payload {t = s} e h) = a (second e)
+-- The third characters of `inf` and of `nan` are `f` and `n`.
+pub third_none : (c d x : ℕ) (t : List ℕ) → is_ascii_digit c ≡ false → c ≢ 43 → c ≢ 45 → x ≢ 102 → x ≢ 110 → (kind : TokenKind) → Number (c ∷ d ∷ x ∷ t) kind → ⊥
+third_none c d x t n p m i a = other_none c (d ∷ x ∷ t) n p m (λ e. i (third e)) (λ e. a (third e)) by
+  where
+    third : {v w y : ℕ} {s u : List ℕ} → (c ∷ d ∷ x ∷ s) ≡ (v ∷ w ∷ y ∷ u) → x ≡ y
+    third e = cc
 
-    tail : (hex : Bool) → Decimals hex (c ∷ d ∷ t) → ⊥
-    tail hex (decimals {t = s} h k) = no_integral c (d ∷ t) s n hex h
+    by : Payload (c ∷ d ∷ x ∷ t) → ⊥
+    by (payload {t = s} e h) = a (third e)
 
--- A word of one character is not a number if the character is neither a digit nor a sign.
+-- A word of one or two characters is not a number if the first is neither a digit nor a sign.
 pub one_none : (c : ℕ) → is_ascii_digit c ≡ false → c ≢ 43 → c ≢ 45 → (kind : TokenKind) → Number (c ∷ []) kind → ⊥
-one_none c n p m = no_number (c ∷ []) (subst NoNumber (sym (own c [] p m)) (record {
-  inf = λ e. cc;
-  nan = λ e. cc;
-  payload = by;
-  integer = λ hex h. no_integral c [] [] n hex h;
-  float = tail;
-}))
+one_none c n p m = other_none c [] n p m (λ e. cc) (λ e. cc) by
   where
     by : Payload (c ∷ []) → ⊥
     by (payload {t = s} e h) = cc
 
-    tail : (hex : Bool) → Decimals hex (c ∷ []) → ⊥
-    tail hex (decimals {t = s} h k) = no_integral c [] s n hex h
+pub two_none : (c d : ℕ) → is_ascii_digit c ≡ false → c ≢ 43 → c ≢ 45 → (kind : TokenKind) → Number (c ∷ d ∷ []) kind → ⊥
+two_none c d n p m = other_none c (d ∷ []) n p m (λ e. cc) (λ e. cc) by
+  where
+    by : Payload (c ∷ d ∷ []) → ⊥
+    by (payload {t = s} e h) = cc

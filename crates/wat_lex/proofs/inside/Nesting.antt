@@ -7,12 +7,12 @@ use Rattle.std.proofs.lemmas.Bool.{both_ways, eqb-true}
 use Rattle.std.proofs.lemmas.List.{drop_more}
 use Rattle.std.proofs.lemmas.Nat.{and_block, ones_le_self, or_block, shr-shr}
 use Rattle.std.proofs.lemmas.Simd.{ones-mask_l_cons}
-use Rattle.wat_lex.specs.inside.Nesting.{Reaches, opens_at, closes_at, passing}
+use Rattle.wat_lex.specs.inside.Nesting.{Reaches, opens_at, closes_at, delimits, passing}
 use Rattle.wat_lex.proofs.grammar.Comments.{open_at, close_at, other_at}
 
 -- ---- masks bit by bit
 
-and_bits : (a b : Bool) (x y : ℕ) → bit_and (cond a 1 0 + 2 * x) (cond b 1 0 + 2 * y) ≡ cond (a && b) 1 0 + 2 * bit_and x y
+pub and_bits : (a b : Bool) (x y : ℕ) → bit_and (cond a 1 0 + 2 * x) (cond b 1 0 + 2 * y) ≡ cond (a && b) 1 0 + 2 * bit_and x y
 and_bits true true x y =
     let e : 1 + 2 * x ≡ x * 2 ^ 1 + 1 = omega arith in
     let f : 1 + 2 * y ≡ y * 2 ^ 1 + 1 = omega arith in
@@ -62,7 +62,7 @@ either p q i zero = refl
 either p q i (suc n) =
     or_bits (p i) (q i) (passing p (i + 1) n) (passing q (i + 1) n) ∙ ap (λ x. cond (p i || q i) 1 0 + 2 * x) (either p q (i + 1) n)
 
-chunk_more : (s : List ℕ) (i n : ℕ) → i < length s → chunk i (suc n) s ≡ get_or s i 0 ∷ chunk (i + 1) n s
+pub chunk_more : (s : List ℕ) (i n : ℕ) → i < length s → chunk i (suc n) s ≡ get_or s i 0 ∷ chunk (i + 1) n s
 chunk_more s i n l = ap (take (suc n)) (drop_more s i 0 l)
 
 -- The mask of the n offsets from i on at which the byte a is followed by the byte b.
@@ -145,10 +145,6 @@ opens_by s k a e n = ap (λ x. eqb x 40 && eqb (get_or s (k + 1) 0) 59) e ∙ ap
 closes_by : (s : List ℕ) (k a : ℕ) → get_or s k 0 ≡ a → eqb a 59 ≡ false → closes_at s k ≡ false
 closes_by s k a e n = ap (λ x. eqb x 59 && eqb (get_or s (k + 1) 0) 41) e ∙ ap (λ t. t && eqb (get_or s (k + 1) 0) 41) n
 
--- A delimiter of a comment begins at an offset.
-abbrev pub delimits : List ℕ → ℕ → Bool
-delimits s k = opens_at s k || closes_at s k
-
 -- If `(;` begins at the offset i, then `;)` does not begin at i + 1. For n = 0 it is trivial.
 Next : List ℕ → ℕ → ℕ → Type 0
 Next s i zero = Unit {0}
@@ -198,6 +194,30 @@ moved s a b i j e f h = subst (λ x. Reaches s b (drop x s)) f (subst (λ x. Rea
 either_way : (b : Bool) → (b ≡ true) ⊎ (b ≡ false)
 either_way true = inl refl
 either_way false = inr refl
+
+neither : (a b : Bool) → (a || b) ≡ false → (a ≡ false) × (b ≡ false)
+neither true b e = cc
+neither false b e = (refl, e)
+
+past_plain : (s : List ℕ) (i level : ℕ) → i < length s → 0 < level → delimits s i ≡ false → Reaches s level (drop i s) → Reaches s level (drop (i + 1) s)
+past_plain s i level l p e h =
+    let none = neither (opens_at s i) (closes_at s i) e in
+    other_at s i level l p h
+    (λ x y z. both_ways (opens_at s i) none.0 (ap₂ (λ u v. eqb u 40 && eqb v 59) x z))
+    (λ x y z. both_ways (closes_at s i) none.1 (ap₂ (λ u v. eqb u 59 && eqb v 41) x z))
+
+past_bytes : (s : List ℕ) (d i level : ℕ) → i + d ≤ length s → 0 < level → ((k : ℕ) → i ≤ k → k < i + d → delimits s k ≡ false) → Reaches s level (drop i s) → Reaches s level (drop (i + d) s)
+past_bytes s zero i level l p none h = let z : i ≡ i + 0 = omega arith in moved s level level i (i + 0) refl z h
+past_bytes s (suc d) i level l p none h =
+    let before = past_bytes s d i level (omega arith) p (λ k a b. none k a (omega arith)) h in
+    let z : i + d + 1 ≡ i + suc d = omega arith in
+    moved s level level (i + d + 1) (i + suc d) refl z (past_plain s (i + d) level (omega arith) p (none (i + d) (omega arith) (omega arith)) before)
+
+-- What is reached before bytes at which no delimiter begins is reached after them.
+pub past_stretch : (s : List ℕ) (i j level : ℕ) → i ≤ j → j ≤ length s → 0 < level → ((k : ℕ) → i ≤ k → k < j → delimits s k ≡ false) → Reaches s level (drop i s) → Reaches s level (drop j s)
+past_stretch s i j level a l p none h =
+    let z : i + (j - i) ≡ j = omega arith in
+    moved s level level (i + (j - i)) j refl z (past_bytes s (j - i) i level (omega arith) p (λ k x y. none k x (omega arith)) h)
 
 -- The state after the offset i of a block: the number of open comments, which is above n, and the text that it reaches.
 record Stepped (s : List ℕ) (i n level : ℕ) : Type 0 where

@@ -11,7 +11,7 @@ use Rattle.wat_lex.specs.declared.lexer.scan.starts.Start.{Start}
 use Rattle.wat_lex.specs.declared.lexer.scan.starts.Start.TheVariants as start
 use Rattle.wat_lex.specs.declared.lexer.kinds.TokenKind.{TokenKind}
 use Rattle.wat_lex.specs.declared.lexer.kinds.TokenKind.TheVariants.{Id, Keyword, Annotation, Reserved}
-use Rattle.wat_lex.proofs.grammar.NumberBegins.{BeginsNone, begins_none, one_none, second_none}
+use Rattle.wat_lex.proofs.grammar.NumberBegins.{BeginsNone, begins_none, one_none, third_none, two_none}
 
 -- a word that begins as no number does goes by its first character
 by_first : (c : ℕ) (k : TokenKind) → BeginsNone c → kind_by_first (c ∷ []) ≡ k → (rest : List ℕ) → WordKind (c ∷ rest) k
@@ -53,18 +53,27 @@ name_start c h d l i p m a =
     let none = begins c (λ x y. omega (arith, d)) p m (λ e. omega (arith, l)) (λ e. omega (arith, l)) in
     record { idchar = h; kind = by_first c Reserved none (ap (λ t. if t then Keyword else named_kind (c ∷ [])) (not_lower c (λ x y. omega (arith, l))) ∙ ap (λ t. if t then Id else if c == 64 then Annotation else Reserved) (ne_eqb c 36 i) ∙ ap (λ t. if t then Annotation else Reserved) (ne_eqb c 64 a)) }
 
-one_letter : (c : ℕ) → 97 ≤ c → c ≤ 122 → WordKind (c ∷ []) Keyword
-one_letter c a b = inr (one_none c (no_digit c (λ x y. omega arith)) (λ e. omega arith) (λ e. omega arith), sym (ap (λ t. if t then Keyword else named_kind (c ∷ [])) (lower c a b)))
+lower_kind : (c : ℕ) → 97 ≤ c → c ≤ 122 → Keyword ≡ kind_by_first (c ∷ [])
+lower_kind c a b = sym (ap (λ t. if t then Keyword else named_kind (c ∷ [])) (lower c a b))
 
--- after the first letter of `inf` and of `nan` is `n` or `a`
-pub keyword_of_two : (text : List ℕ) (len : ℕ) → 0 < len → 97 ≤ get_or text 0 0 → get_or text 0 0 ≤ 122 → get_or text 1 0 ≢ 110 → get_or text 1 0 ≢ 97 → WordKind (take len text) Keyword
-keyword_of_two [] len p a b i n = absurd (omega arith)
-keyword_of_two (c ∷ t) zero p a b i n = absurd (omega arith)
-keyword_of_two (c ∷ []) (suc zero) p a b i n = one_letter c a b
-keyword_of_two (c ∷ []) (suc (suc m)) p a b i n = one_letter c a b
-keyword_of_two (c ∷ d ∷ t) (suc zero) p a b i n = one_letter c a b
-keyword_of_two (c ∷ d ∷ t) (suc (suc m)) p a b i n =
-    inr (second_none c d (take m t) (no_digit c (λ x y. omega arith)) (λ e. omega arith) (λ e. omega arith) i n, sym (ap (λ t. if t then Keyword else named_kind (c ∷ [])) (lower c a b)))
+one_letter : (c : ℕ) → 97 ≤ c → c ≤ 122 → WordKind (c ∷ []) Keyword
+one_letter c a b = inr (one_none c (no_digit c (λ x y. omega arith)) (λ e. omega arith) (λ e. omega arith), lower_kind c a b)
+
+two_letters : (c d : ℕ) → 97 ≤ c → c ≤ 122 → WordKind (c ∷ d ∷ []) Keyword
+two_letters c d a b = inr (two_none c d (no_digit c (λ x y. omega arith)) (λ e. omega arith) (λ e. omega arith), lower_kind c a b)
+
+-- The third letter of `inf` is `f`, and that of `nan` is `n`.
+pub keyword_of_three : (text : List ℕ) (len : ℕ) → 0 < len → 97 ≤ get_or text 0 0 → get_or text 0 0 ≤ 122 → get_or text 2 0 ≢ 102 → get_or text 2 0 ≢ 110 → WordKind (take len text) Keyword
+keyword_of_three [] len p a b i n = absurd (omega arith)
+keyword_of_three (c ∷ t) zero p a b i n = absurd (omega arith)
+keyword_of_three (c ∷ []) (suc zero) p a b i n = one_letter c a b
+keyword_of_three (c ∷ []) (suc (suc m)) p a b i n = one_letter c a b
+keyword_of_three (c ∷ d ∷ t) (suc zero) p a b i n = one_letter c a b
+keyword_of_three (c ∷ d ∷ []) (suc (suc zero)) p a b i n = two_letters c d a b
+keyword_of_three (c ∷ d ∷ []) (suc (suc (suc m))) p a b i n = two_letters c d a b
+keyword_of_three (c ∷ d ∷ x ∷ t) (suc (suc zero)) p a b i n = two_letters c d a b
+keyword_of_three (c ∷ d ∷ x ∷ t) (suc (suc (suc m))) p a b i n =
+    inr (third_none c d x (take m t) (no_digit c (λ y z. omega arith)) (λ e. omega arith) (λ e. omega arith) i n, lower_kind c a b)
 
 idchar_is_run_char : (c : ℕ) → is_idchar c ≡ true → is_run_char c ≡ true
 idchar_is_run_char c e = ap (λ b. b || c == quote) e

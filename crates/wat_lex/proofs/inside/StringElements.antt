@@ -1,19 +1,19 @@
 -- The elements of a string, each at its offset in the text.
 use Rattle.std.proofs.Common.{◌≡◌, ◌≢◌, ◌≤◌, ◌<◌, ◌+◌, ◌-◌, ◌*◌, ℕ, List, [], ◌∷◌, ◌++◌, length, take, drop, get_or, refl, arith, ap, sym, ◌∙◌, subst, true, false, not, ◌&&◌, length-append, inl, inr, lit<}
-use Rattle.std.specs.Prelude.{encode_utf8, slice_index, ◌==◌}
+use Rattle.std.specs.Prelude.{encode_utf8, slice_index, ◌==◌, Option, Some, None, is_some}
 use Rattle.std.specs.List.{prefix_len}
 use Rattle.std.specs.Char.{digit_value}
 use Rattle.std.specs.Str.{chars, IsUtf8, IsCharBoundary}
-use Rattle.std.proofs.lemmas.Bool.{cases_Bool, both_ways}
+use Rattle.std.proofs.lemmas.Bool.{cases_Bool, both_ways, false≢true}
 use Rattle.std.proofs.lemmas.Bool.Decides.{nat_tests}
 use Rattle.std.proofs.lemmas.List.{drop-drop, drop_at, take-append-drop, get_or-append-add, get_or_append_left, get_or-take, length-drop, length-take}
 use Rattle.std.proofs.lemmas.List.Sums.{prefix_len-le-length, prefix_len_passes, prefix_len_stops}
 use Rattle.std.proofs.lemmas.Str.{encodes-chars, encodes-append, chars-append, IsUtf8-take, IsUtf8-drop, IsCharBoundary-at_seam, encode_ascii}
 use lib.Utf8.{encode, encodes}
 use Rattle.wat_lex.specs.grammar.Classes.{size, Each, is_hex, is_confusing}
-use Rattle.wat_lex.specs.grammar.Strings.{Element, raw, byte, Quoted, ends, more, is_raw, is_control}
+use Rattle.wat_lex.specs.grammar.Strings.{Element, raw, letter, byte, letter_value, Quoted, ends, more, is_raw, is_control}
 use Rattle.wat_lex.specs.tokens.StringFaults.{StringFault, later, no_quote, control, confusing}
-use Rattle.wat_lex.specs.inside.ScannedStrings.{Escaped, Breaks, BeginsByteEscape, ElementTaken, StringTaken, StringFaultFound, is_plain}
+use Rattle.wat_lex.specs.inside.ScannedStrings.{Escaped, Breaks, BeginsByteEscape, BeginsLetterEscape, ElementTaken, StringTaken, StringFaultFound, is_plain}
 use Rattle.wat_lex.specs.declared.lexer.scan.strings.Broken.{Broken}
 use Rattle.wat_lex.specs.declared.lexer.faults.LexError.{LexError}
 use Rattle.wat_lex.specs.declared.lexer.faults.LexError.TheVariants.{InvalidStringElement, UnexpectedEof, ConfusingUnicode}
@@ -101,6 +101,35 @@ pub byte_taken : (flags : Settings) (text : List ℕ) → IsUtf8 text → Begins
 byte_taken flags text u h =
     let e = byte_escaped flags text u h in
     record { value = (16 * digit_value (slice_index text 1) + digit_value (slice_index text 2)) ∷ []; element = e.element; utf8 = IsUtf8-drop text 3 u e.boundary; some = omega arith; range = h.long }
+
+letter_ascii : (c v : ℕ) → letter_value c ≡ Some v → c < 128
+letter_ascii c v h = grind (arith, nat_tests)
+
+-- an escape of one letter: its byte, and what comes after it
+pub record LetterEscape (flags : Settings) (text : List ℕ) (v : ℕ) : Type 0 where
+  pub element : Element flags (chars text) (v ∷ []) (chars (drop 2 text))
+  pub boundary : IsCharBoundary text 2
+
+pub letter_escaped : (flags : Settings) (text : List ℕ) (v : ℕ) → IsUtf8 text → 2 ≤ length text → get_or text 0 0 ≡ 92 → letter_value (get_or text 1 0) ≡ Some v → LetterEscape flags text v
+letter_escaped flags [] v u l mark value = absurd (omega (arith, l))
+letter_escaped flags (b ∷ []) v u l mark value = absurd (omega (arith, l))
+letter_escaped flags (b ∷ c ∷ rest) v u l mark value =
+    let first = led (b ∷ c ∷ rest) 92 u (omega arith) mark (lit< tt) in
+    let second = led (c ∷ rest) c first.utf8 (omega arith) refl (letter_ascii c v value) in
+    let spelled : chars (b ∷ c ∷ rest) ≡ 92 ∷ c ∷ chars rest = first.chars ∙ ap (λ x. 92 ∷ x) second.chars in
+    record {
+      element = subst (λ x. Element flags x (v ∷ []) (chars rest)) (sym spelled) (letter value);
+      boundary = IsCharBoundary-at_seam (b ∷ c ∷ rest) (b ∷ c ∷ []) rest refl second.utf8;
+    }
+
+pub letter_taken : (flags : Settings) (text : List ℕ) → IsUtf8 text → BeginsLetterEscape text → ElementTaken flags text 2
+letter_taken flags text u h = by (letter_value (get_or text 1 0)) refl
+  where
+    by : (o : Option ℕ) → letter_value (get_or text 1 0) ≡ o → ElementTaken flags text 2
+    by None e = absurd (false≢true (sym (ap is_some e) ∙ h.letter))
+    by (Some v) e =
+        let l = letter_escaped flags text v u h.long h.mark e in
+        record { value = v ∷ []; element = l.element; utf8 = IsUtf8-drop text 2 u l.boundary; some = omega arith; range = h.long }
 
 -- ---- elements up to an offset
 

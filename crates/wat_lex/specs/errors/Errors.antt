@@ -80,3 +80,8 @@ lex_error_of (Some r) = by r.cause
 abbrev pub offset_of : Option Report → ℕ
 offset_of None = 0
 offset_of (Some r) = r.offset
+
+-- The excerpt of an error, if it has one.
+abbrev pub excerpt_of_error : Option Report → Option Excerpt
+excerpt_of_error None = None
+excerpt_of_error (Some r) = r.excerpt

@@ -3,7 +3,7 @@ use Rattle.std.specs.Prelude.{ℕ, Bool, false, ◌==◌, ◌&&◌, nat_le, nat_
 use Rattle.std.specs.Fmt.{decimal, is_char_start}
 use Rattle.std.specs.Str.{chars}
 use Rattle.std.specs.Str.Lines.{lines}
-use Rattle.unicode_width.specs.Width.{str_width}
+use Rattle.unicode_width.specs.Width.{char_width, str_width}
 use Rattle.wat_lex.specs.grammar.Classes.{is_confusing}
 use Rattle.wat_lex.specs.errors.Positions.{line_and_column}
 
@@ -29,6 +29,16 @@ is_boundary text n = nat_le n (length text) && is_char_start (slice_index text n
 -- character.
 abbrev pub columns : List ℕ → ℕ → ℕ
 columns text n = if is_boundary text n then str_width false (chars (take n text)) else n
+
+-- The columns of a single character. A control character has one.
+abbrev pub width_alone : ℕ → ℕ
+width_alone c = unwrap_or (char_width false c) 1
+
+-- `past_columns n column cs`: the characters that follow the first ones of `cs` with `n` columns or more, and `column`
+-- less the columns of these first ones.
+unfoldable pub past_columns : ℕ → ℕ → List ℕ → List ℕ × ℕ
+past_columns n column [] = ([], column)
+past_columns n column (c ∷ cs) = if n == 0 then (c ∷ cs, column) else past_columns (n - width_alone c) (column - width_alone c) cs
 
 -- The excerpt at a byte offset. The line is printed without LF or CRLF at its end. It is empty if the offset is in none
 -- of the lines. The column is measured in the printed line, so a TAB before the offset, or a dropped character, shifts

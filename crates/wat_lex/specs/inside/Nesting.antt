@@ -1,5 +1,5 @@
 -- The number of block comments that are open at an offset, and the offsets of the delimiters of comments.
-use Rattle.std.specs.Prelude.{◌≡◌, ◌+◌, ◌==◌, ◌&&◌, ℕ, zero, suc, Bool, List, map, get_or}
+use Rattle.std.specs.Prelude.{◌≡◌, ◌+◌, ◌==◌, ◌&&◌, ◌||◌, ℕ, zero, suc, Bool, List, map, get_or}
 use Rattle.std.specs.List.{range_with_len}
 use Rattle.std.specs.Simd.Lanes.{mask_l}
 use Rattle.wat_lex.specs.grammar.Classes.{open_paren, close_paren, semicolon}
@@ -22,6 +22,10 @@ opens_at s k = (get_or s k 0 == open_paren) && (get_or s (k + 1) 0 == semicolon)
 -- `;)` is at offset `k`.
 abbrev pub closes_at : List ℕ → ℕ → Bool
 closes_at s k = (get_or s k 0 == semicolon) && (get_or s (k + 1) 0 == close_paren)
+
+-- A delimiter of a comment, `(;` or `;)`, is at offset `k`.
+abbrev pub delimits : List ℕ → ℕ → Bool
+delimits s k = opens_at s k || closes_at s k
 
 -- The mask of the `n` offsets from `i` that pass the test `p`, with the lowest bit for `i`.
 abbrev pub passing : (ℕ → Bool) → ℕ → ℕ → ℕ

@@ -1,9 +1,9 @@
 -- Results of the functions that scan strings, for a text or for the rest of an iterator, in bytes.
-use Rattle.std.specs.Prelude.{◌≡◌, ◌≤◌, ◌<◌, ◌+◌, ◌==◌, ◌&&◌, ℕ, Bool, not, true, false, if◌then◌else◌, List, [], ◌∷◌, ◌++◌, length, drop, slice_index, Result, Ok, Err, encode_utf8}
+use Rattle.std.specs.Prelude.{◌≡◌, ◌≤◌, ◌<◌, ◌+◌, ◌==◌, ◌&&◌, ℕ, Bool, not, true, false, if◌then◌else◌, List, [], ◌∷◌, ◌++◌, length, drop, slice_index, is_some, Result, Ok, Err, encode_utf8}
 use Rattle.std.specs.Str.{chars, IsUtf8}
 use lib.Utf8.{scalar}
 use Rattle.wat_lex.specs.grammar.Classes.{size, quote, backslash, close_brace, is_hex}
-use Rattle.wat_lex.specs.grammar.Strings.{Element, Quoted, is_control}
+use Rattle.wat_lex.specs.grammar.Strings.{Element, Quoted, is_control, letter_value}
 use Rattle.wat_lex.specs.tokens.StringFaults.{StringFault}
 use Rattle.wat_lex.specs.declared.lexer.settings.Settings.{Settings}
 use Rattle.wat_lex.specs.declared.lexer.scan.strings.Broken.{Broken}
@@ -42,6 +42,12 @@ pub record BeginsByteEscape (text : List ℕ) : Type 0 where
   pub mark : slice_index text 0 ≡ backslash
   pub first : is_hex (slice_index text 1) ≡ true
   pub second : is_hex (slice_index text 2) ≡ true
+
+-- The text begins with an escape of one letter.
+pub record BeginsLetterEscape (text : List ℕ) : Type 0 where
+  pub long : 2 ≤ length text
+  pub mark : slice_index text 0 ≡ backslash
+  pub letter : is_some (letter_value (slice_index text 1)) ≡ true
 
 -- `IsRowValue n underscore last value`: the result for the number `n` of an escape `\u{..}`. It is the error
 -- `LoneUnderscore` if the number ends in an underscore, the error `InvalidUnicodeValue` if it is not a scalar value,

@@ -29,7 +29,7 @@ pub enum Piece<'a> {
 }
 
 /// Writes chunks to a formatter.
-pub fn print<W: fmt::Write>(pieces: &[Piece], f: &mut fmt::Formatter<W>) -> fmt::Result
+pub(crate) fn print<W: fmt::Write>(pieces: &[Piece], f: &mut fmt::Formatter<W>) -> fmt::Result
     ensures { WritesOnOk W.write_str_gives f.old result (flat_map piece_text pieces.now) f.new }
 {
     for piece in pieces {
@@ -40,7 +40,7 @@ pub fn print<W: fmt::Write>(pieces: &[Piece], f: &mut fmt::Formatter<W>) -> fmt:
 
 /// Writes chunks to a buffer, starting at index `at`, until the buffer is full. Returns the index
 /// after the last byte written.
-pub fn write_chunks(pieces: &[Piece], out: &mut [u8], at: usize) -> usize
+pub(crate) fn write_chunks(pieces: &[Piece], out: &mut [u8], at: usize) -> usize
     requires { at ≤ length out.old }
     ensures { WritesAfter out.old at (flat_map piece_text pieces.now) out.new result }
 {
@@ -52,7 +52,7 @@ pub fn write_chunks(pieces: &[Piece], out: &mut [u8], at: usize) -> usize
 }
 
 /// Returns the length of the chunks' output in bytes.
-pub fn length_of(pieces: &[Piece]) -> usize
+pub(crate) fn length_of(pieces: &[Piece]) -> usize
     requires { length (flat_map piece_text pieces.now) < 2 ^ 64 }
     ensures { result ≡ length (flat_map piece_text pieces.now) }
 {

@@ -13,15 +13,16 @@ ghost use Rattle.std.specs.Prelude.{
   MatchOption,
 };
 ghost use Rattle.std.specs.Prelude.{encode_utf8_all};
+ghost use Rattle.std.specs.Str.{chars};
 ghost use Rattle.wat_lex.specs.errors.Rendering.{columns, rendered_char, rendered_line};
-ghost use Rattle.wat_lex.specs.errors.Rendering.{is_boundary};
+ghost use Rattle.wat_lex.specs.errors.Rendering.{is_boundary, past_columns, width_alone};
 
 use crate::error::stretches::{by_columns_len, is_shown_as_it_is, split_shown};
 use crate::lexer::is_confusing;
 use std::fmt;
 use std::marker::Model;
 use std::str::Chars;
-use unicode_width::{UnicodeWidthStr, char_iter_width};
+use unicode_width::{UnicodeWidthChar, UnicodeWidthStr, char_iter_width};
 
 /// The number of spaces that a TAB is displayed as.
 const TAB: usize = 4;
@@ -52,8 +53,9 @@ impl<'a> Model for Shown<'a> {
 
 impl<'a> Shown<'a> {
     /// Returns an iterator over the displayed characters of a line.
-    pub fn of(line: &'a str) -> Shown<'a>
-        ensures { encode_utf8_all result ≡ rendered_line line.now }
+    pub(crate) fn of(line: &'a str) -> Shown<'a>
+        ensures bytes { encode_utf8_all result ≡ rendered_line line.now }
+        ensures characters { result ≡ chars (rendered_line line.now) }
     {
         Shown {
             front: 0,
@@ -61,6 +63,32 @@ impl<'a> Shown<'a> {
             back: 0,
         }
     }
+
+    /// Skips characters until their columns are `columns` or more. Returns `column`, the column of
+    /// an error, reduced by the columns of the skipped characters.
+    pub fn skip_columns(&mut self, columns: usize, column: usize) -> usize
+        ensures rest { self.new ≡ (past_columns columns column self.old).0 }
+        ensures column { result ≡ (past_columns columns column self.old).1 }
+    {
+        let mut left = columns;
+        let mut column = column;
+        'characters: while left > 0 {
+            let Some(c) = self.next() else {
+                return column;
+            };
+            let width = width_alone(c);
+            left = left.saturating_sub(width);
+            column = column.saturating_sub(width);
+        }
+        column
+    }
+}
+
+/// Returns the columns of a single character. A control character has one.
+fn width_alone(c: char) -> usize
+    ensures { result ≡ width_alone c }
+{
+    c.width().unwrap_or(1)
 }
 
 impl<'a> Iterator for Shown<'a> {
@@ -131,7 +159,7 @@ impl fmt::Display for Line<'_> {
 
 /// Returns the display width of the first `bytes` bytes of a line's displayed form. Returns `bytes`
 /// if the displayed form is shorter, or if that offset is inside a character.
-pub fn columns(line: &str, bytes: usize) -> usize
+pub(crate) fn columns(line: &str, bytes: usize) -> usize
     requires { bytes < 2 ^ 63 }
     ensures columns { result ≡ columns (rendered_line line.now) bytes }
     ensures bound { result ≤ 2 * bytes }

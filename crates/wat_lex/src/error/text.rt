@@ -1,5 +1,6 @@
 //! The source line that an error is about.
 ghost use Rattle.std.specs.Prelude.{◌≡◌, [], IfOk, flat_map, slice_get, unwrap_or};
+ghost use Rattle.std.specs.Str.{chars};
 ghost use Rattle.std.specs.Str.Lines.{lines};
 ghost use Rattle.wat_lex.specs.errors.ErrorView.{excerpt_of};
 ghost use Rattle.wat_lex.specs.errors.PieceTexts.{piece_text};
@@ -7,7 +8,7 @@ ghost use Rattle.wat_lex.specs.errors.Positions.{line_and_column};
 ghost use Rattle.wat_lex.specs.errors.Rendering.{excerpt, rendered_location};
 
 use crate::error::pieces::{Piece, print};
-use crate::error::shown::{Line, columns};
+use crate::error::shown::{Line, Shown, columns};
 use crate::token::Span;
 use memchr::memchr;
 use std::alloc::{AllocError, Global};
@@ -42,7 +43,7 @@ impl<'a> Model for Excerpt<'a> {
 
 impl<'a> Excerpt<'a> {
     /// Finds the line that contains a position, and computes the line and column to report.
-    pub fn new(contents: &'a str, span: Span) -> Excerpt<'a>
+    pub(crate) fn new(contents: &'a str, span: Span) -> Excerpt<'a>
         ensures { result ≡ excerpt contents.now span }
     {
         let (line, column) = span.linecol_in(contents);
@@ -53,6 +54,29 @@ impl<'a> Excerpt<'a> {
             column: column + 1,
             source: Line(source),
         }
+    }
+}
+
+impl<'a> Excerpt<'a> {
+    /// Returns the line, counted from 1.
+    pub fn line(&self) -> usize
+        ensures { result ≡ self.now.line }
+    {
+        self.line
+    }
+
+    /// Returns the column, counted from 1, in the displayed form of the line.
+    pub fn column(&self) -> usize
+        ensures { result ≡ self.now.column }
+    {
+        self.column
+    }
+
+    /// Returns an iterator over the displayed characters of the line.
+    pub fn characters(&self) -> Shown<'a>
+        ensures { result ≡ chars self.now.snippet }
+    {
+        Shown::of(self.source.0)
     }
 }
 
@@ -95,7 +119,7 @@ pub struct Text {
 
 impl Text {
     /// Copies the line that contains a position, and computes the line and column to report.
-    pub fn new(alloc: Global, contents: &str, span: Span) -> Result<Text, AllocError>
+    pub(crate) fn new(alloc: Global, contents: &str, span: Span) -> Result<Text, AllocError>
         ensures { IfOk result (λ text. excerpt_of text ≡ excerpt contents.now span) }
     {
         let excerpt = Excerpt::new(contents, span);
@@ -105,12 +129,23 @@ impl Text {
             source: String::from_str(alloc, excerpt.source.0)?,
         })
     }
+
+    /// Returns a borrowed copy.
+    pub(crate) fn excerpt(&self) -> Excerpt<'_>
+        ensures { result ≡ excerpt_of self.now }
+    {
+        Excerpt {
+            line: self.line,
+            column: self.column,
+            source: Line(self.source.as_str()),
+        }
+    }
 }
 
 impl<'a> Excerpt<'a> {
     /// Returns the output as chunks: line and column, then the source line, then a marker under the
     /// column. From column 501 on, it has line and column only.
-    pub fn pieces(&self) -> [Piece<'a>; 10]
+    pub(crate) fn pieces(&self) -> [Piece<'a>; 10]
         ensures { flat_map piece_text result ≡ rendered_location self.now }
     {
         let line = Piece::Decimal(self.line);
@@ -155,11 +190,6 @@ impl fmt::Display for Text {
     ghost output = { λ t. Some (rendered_location (excerpt_of t)) };
 
     fn fmt<W: fmt::Write>(&self, f: &mut fmt::Formatter<W>) -> fmt::Result {
-        let excerpt = Excerpt {
-            line: self.line,
-            column: self.column,
-            source: Line(self.source.as_str()),
-        };
-        write!(f, "{excerpt}")
+        write!(f, "{}", self.excerpt())
     }
 }

@@ -34,7 +34,7 @@ use crate::lexer::scan::classes::{
     idchar_len, idchar_len_by_block, is_idchar, is_run_char, keyword_len, whitespace_len, word_len,
 };
 use crate::lexer::scan::comments::{
-    block_comment, block_comment_len, line_comment, line_comment_len,
+    block_comment, block_comment_len, line_comment, line_comment_len, short_block_comment_len,
 };
 use crate::lexer::scan::runs::{
     classify_word, decimal_kind, letters_kind, long_number_kind, run, run_outline,
@@ -245,8 +245,12 @@ fn opened(text: &str, pos: usize, flags: &Settings) -> Found
     requires first { slice_index (drop pos text.now) 0 ≡ 40 }
     ensures { FoundIn flags.now (drop pos text.now) result }
 {
-    if byte_at(&text.as_bytes()[pos..], 1) != b';' {
+    let bytes = &text.as_bytes()[pos..];
+    if byte_at(bytes, 1) != b';' {
         return lexeme(TokenKind::LParen, 1);
+    }
+    if let Some(len) = short_block_comment_len(bytes) {
+        return lexeme(TokenKind::BlockComment, len);
     }
     match block_comment_len(&text[pos..], *flags) {
         Some(len) => lexeme(TokenKind::BlockComment, len),

@@ -40,11 +40,11 @@ pub record IsMisnamed (text : List ℕ) (t : Token) (e : LexError) : Type 0 wher
 abbrev pub IsMarked : List ℕ → Token → Type 0
 IsMarked text t = (t.kind ≡ LParen) × IsTrue (is_marked text t)
 
--- `Shown text ending names ts found`: `ts` are the last raw tokens of `text`, after them is its end or the lexical error
--- `ending`, and `names` are the registered names. A peek at `ts` finds `found`. Whitespace, comments, and groups of
+-- `Shown text ending names ts found`: `ts` are the raw tokens of `text` from some token on. After them is the end of the
+-- text if `ending` is `None`, otherwise the lexical error `ending`. `names` are the registered names. A peek at `ts` finds `found`. Whitespace, comments, and groups of
 -- unregistered annotations are skipped. A `(` directly before an annotation is an error if the name of the annotation is
--- invalid, or if the name is unregistered and the group has no end. If a `(` directly before an `@` is the last raw
--- token, lexing failed at the `@`, and the result is that lexical error. Any other token is visible.
+-- invalid, or if the name is unregistered and the group has no end. If the last raw token is a `(` and an `@` follows
+-- it in the text, then lexing failed at this `@`, and the result is `ended ending`. Any other token is visible.
 pub data Shown (text : List ℕ) (ending : Option LexFault) (names : Names) : List Token → Finding → Type 0 where
   none_left : Shown text ending names [] (ended ending)
   blank : {t : Token} {r : List Token} {a : Finding} → IsTrue (is_blank t.kind) → Shown text ending names r a → Shown text ending names (t ∷ r) a

@@ -51,14 +51,19 @@ use wat_lex::token::Span;
 
 /// A position in a parser's text, from which tokens are consumed without moving the parser.
 ///
-/// At the end of the text the `peek_` methods return `false`, and the methods that consume a token
-/// return `None`.
+/// At the end of the text, or before a token of another kind, the `peek_` methods return `false`,
+/// and the methods that consume a token return `None`. Otherwise the latter return the value of the
+/// token, unless it is a parenthesis, and the cursor after it.
 ///
 /// # Errors
 ///
-/// The methods return an error if the next token cannot be lexed, if an annotation before it has an
-/// invalid name or its group does not end, or if an allocation fails. Only methods that decode a
-/// value allocate, apart from error messages.
+/// The methods return an error if lexing fails before or at the next visible token; if they reach
+/// an annotation with an invalid name, or one with an unregistered name and no `)`; if the name to
+/// be returned is invalid; or if an allocation for a value or an error fails. `comment` fails only
+/// if lexing fails before or at the comment.
+///
+/// With more than 16 registered names, a method also allocates to look up the name of an annotation
+/// that has escapes. If this allocation fails, the method is slower, and returns no error.
 #[derive(Clone, Copy)]
 pub struct Cursor<'p, 'a> {
     parser: &'p Parser<'a>,
@@ -99,9 +104,9 @@ impl<'p, 'a> Cursor<'p, 'a> {
     }
 
     /// Returns the next visible token, and the position after it.
-    // A cached token is returned in registers, and the result of `look_again` in memory. That
-    // result is taken apart in the branches `Ok` and `Err`; returned as it is, it would force the
-    // cached token into memory too.
+    // A cached token is returned in registers, and the result of `look_again` in memory. The
+    // `match` on that result seems redundant, but if the result were returned as it is, the cached
+    // token would be returned in memory too.
     #[inline(always)]
     #[tactic(auto, unfolding(crate::specs::parser::State::seen))]
     fn look(self) -> Result<Option<(Token, usize)>, Error>
@@ -139,8 +144,8 @@ impl<'p, 'a> Cursor<'p, 'a> {
         }
     }
 
-    /// Lemma (no effect): [`Parser::lemma_sound`] holds for the cursor's parser, and the cursor's
-    /// position is at most the number of tokens.
+    /// Lemma, without effect at run time: the cursor's parser satisfies `IsSound`, and the number
+    /// of raw tokens before the cursor is at most the number of all raw tokens.
     pub fn lemma_sound(&self)
         ensures sound { IsSound self.now.parser.now }
         ensures within { self.now.at ≤ length self.now.parser.now.source.tokens }
@@ -149,8 +154,8 @@ impl<'p, 'a> Cursor<'p, 'a> {
         parser.lemma_sound();
     }
 
-    /// Returns the offset of the next visible token as a span. At the end of the text this is its
-    /// length, and before an error the offset of the cursor.
+    /// Returns the offset of the next visible token as a span. If no token is left, this is the
+    /// length of the text; if the peek for the token fails, it is the offset of the cursor.
     pub fn cur_span(&self) -> Span
         ensures value { result ≡ current_span self.now.parser.now.source self.now.at
             self.now.parser.now.names }
@@ -188,7 +193,8 @@ impl<'p, 'a> Cursor<'p, 'a> {
         Span::from_offset(token.offset)
     }
 
-    /// Creates an error with this message at the current span.
+    /// Creates an error with this message at the current span, or one that says that an allocation
+    /// failed.
     pub fn error(&self, message: &str) -> Error
         ensures { IsUnlessMemory result (report_here self.now.parser.now.source self.now.at
             self.now.parser.now.names message.now) }
@@ -197,7 +203,8 @@ impl<'p, 'a> Cursor<'p, 'a> {
         parser.source().error_at(self.cur_span(), message)
     }
 
-    /// Creates an error at the current span whose message is `what` followed by `word`.
+    /// Creates an error at the current span whose message is `what` followed by `word`, or one that
+    /// says that an allocation failed.
     pub(crate) fn error_of(&self, what: &str, word: &str) -> Error
         ensures { IsUnlessMemory result (report_here self.now.parser.now.source self.now.at
             self.now.parser.now.names (what.now ++ word.now)) }
@@ -426,8 +433,8 @@ impl<'p, 'a> Cursor<'p, 'a> {
         }
     }
 
-    /// Consumes an annotation and returns its name, without the `@`. Returns `None` if the next
-    /// token is of another kind. Fails if the name is not valid.
+    /// Consumes an annotation token `@name` and returns its name, without the `@`. Returns `None`
+    /// if the next token is of another kind. Fails if the name is not valid.
     pub fn annotation(self) -> Result<Option<(CowStr<'a>, Self)>, Error>
         ensures value { Answers
             (allocates_at as_annotation (at_place self.entry.parser.now self.entry.at))

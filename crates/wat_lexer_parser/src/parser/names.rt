@@ -8,10 +8,12 @@ ghost use Rattle.std.specs.Prelude.{
   alloc_error,
   is_some,
   IfErr,
+  IfSome,
   cond,
   nat_eq,
   false,
 };
+ghost use Rattle.std.specs.Cow.{cow_str_bytes};
 ghost use Rattle.std.specs.FinMap as map;
 ghost use Rattle.std.specs.String.{string_cmp, string_bytes};
 ghost use Rattle.std.specs.BTreeMap.{UpdatesBy, get_by_text};
@@ -30,9 +32,14 @@ ghost use Rattle.wat_lexer_parser.specs.names.RegisteredNames.{count, fewer, is_
 ghost use Rattle.wat_lexer_parser.specs.names.RegisteredNames.{IsPositive};
 
 use std::alloc::{AllocError, AllocFailed, Global};
+use std::borrow::CowStr;
 use std::collections::BTreeMap;
 use std::marker::Model;
 use wat_lex::lexer::Token;
+
+/// The greatest number of registered names with each of which the name of an annotation is
+/// compared. Among more names it is looked up.
+const FEW: usize = 16;
 
 /// The registered annotation names, each with its number of registrations.
 #[derive(Drop)]
@@ -121,6 +128,20 @@ fn has_key(counts: &BTreeMap<String, usize>, text: &str, token: Token) -> bool
     counts.keys().any(|key| names_it(text, token, key.as_str()))
 }
 
+/// Returns the name of an annotation, or `None` if it is invalid or an allocation fails. Allocates
+/// only if the name has an escape.
+fn name_of<'a>(alloc: Global, text: &'a str, token: Token) -> Option<CowStr<'a>>
+    requires token { IsTokenOf text.now token }
+    requires kind { token.kind ≡ Annotation }
+    ensures { IfSome result (λ name.
+        name_value EmptyAnnotation (word_of text.now token) ≡ Ok (cow_str_bytes name)) }
+{
+    match token.name(alloc, text) {
+        Ok(Ok(name)) => Some(name),
+        Ok(Err(_)) | Err(_) => None,
+    }
+}
+
 impl Names {
     /// Creates an empty set of names.
     pub fn new(alloc: Global) -> Names
@@ -162,15 +183,22 @@ impl Names {
         self.count(name) > 0
     }
 
-    /// Returns `true` if an annotation's name is registered. Compares it with each registered name,
-    /// and does not allocate.
-    pub fn has_name_of(&self, text: &str, token: Token) -> bool
+    /// Returns `true` if an annotation's name is registered. Allocates only if more than 16 names
+    /// are registered and the name has an escape. If that fails, or if fewer names are registered,
+    /// it compares the name with each of them.
+    pub fn has_name_of(&self, alloc: Global, text: &str, token: Token) -> bool
         requires token { IsTokenOf text.now token }
         requires kind { token.kind ≡ Annotation }
         ensures { (x : List ℕ) → name_value EmptyAnnotation (word_of text.now token) ≡ Ok x →
             result ≡ is_registered self.now x }
     {
-        has_key(&self.counts, text, token)
+        if self.counts.len() <= FEW {
+            return has_key(&self.counts, text, token);
+        }
+        match name_of(alloc, text, token) {
+            Some(name) => self.is_registered(name.as_str()),
+            None => has_key(&self.counts, text, token),
+        }
     }
 
     /// Sets the number of registrations of a registered name. `times` must not be 0.

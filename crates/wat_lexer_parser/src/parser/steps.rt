@@ -10,6 +10,7 @@ ghost use Rattle.wat_lexer_parser.specs.inside.ShownIn.{name_at, step_named};
 use crate::parser::fault::{Fault, FaultKind, Step};
 use crate::parser::names::Names;
 use crate::parser::table::is_quoted;
+use std::alloc::Global;
 use wat_lex::lexer::{LexError, LexFault, Token, TokenKind};
 
 /// Returns the error that a peek reports for a lexical error.
@@ -76,9 +77,9 @@ pub fn is_unregistered(text: &str, token: Token, names: &Names) -> bool
     token.len > 1
 }
 
-/// Returns the effect of a `(` that is followed by an annotation, by its name. Does not allocate: a
-/// name with escapes is compared with each registered name while it is decoded.
-pub fn step_annotation(text: &str, token: Token, names: &Names) -> Step
+/// Returns the effect of a `(` that is followed by an annotation, by its name. Allocates only if
+/// many names are registered and the name has an escape (`Names::has_name_of`).
+pub fn step_annotation(alloc: Global, text: &str, token: Token, names: &Names) -> Step
     requires token { IsTokenOf text.now token }
     requires kind { token.kind ≡ Annotation }
     requires short { token.offset < 2 ^ 32 }
@@ -90,7 +91,7 @@ pub fn step_annotation(text: &str, token: Token, names: &Names) -> Step
     match token.name_fault(text) {
         Some(error) => step_of_invalid_name(error, token),
         None => {
-            if names.has_name_of(text, token) {
+            if names.has_name_of(alloc, text, token) {
                 Step::Take
             } else {
                 Step::Skip
@@ -99,9 +100,9 @@ pub fn step_annotation(text: &str, token: Token, names: &Names) -> Step
     }
 }
 
-/// Returns `true` if the group of an annotation is skipped. Does not allocate.
+/// Returns `true` if the group of an annotation is skipped. Allocates like [`step_annotation`].
 #[inline(always)]
-pub fn is_skipped_annotation(text: &str, token: Token, names: &Names) -> bool
+pub fn is_skipped_annotation(alloc: Global, text: &str, token: Token, names: &Names) -> bool
     requires token { IsTokenOf text.now token }
     requires kind { token.kind ≡ Annotation }
     requires short { token.offset < 2 ^ 32 }
@@ -110,5 +111,5 @@ pub fn is_skipped_annotation(text: &str, token: Token, names: &Names) -> bool
     if is_unregistered(text, token, names) {
         return true;
     }
-    matches!(step_annotation(text, token, names), Step::Skip)
+    matches!(step_annotation(alloc, text, token, names), Step::Skip)
 }

@@ -125,7 +125,11 @@ impl<'a> Parser<'a> {
     /// # Errors
     ///
     /// Returns the error of the type, or an error if a name cannot be registered.
-    #[tactic(auto, unfolding(wat_words::specs::Words::annotation_word, wat_words::specs::Words::annotation_words))]
+    #[rattlefmt::skip]
+    #[tactic(auto, unfolding(
+        wat_words::specs::Words::annotation_word,
+        wat_words::specs::Words::annotation_words,
+    ))]
     pub fn with_standard_annotations_registered<T: Parse<'a>>(&mut self) -> Result<T, Error>
         ensures kept { IsKept self.old self.new }
         ensures on { self.old.place ≤ self.new.place }

@@ -224,7 +224,11 @@ impl<'a> Parse<'a> for (u8, Span) {
 
     ghost meaning = { spanned (integer (codes "u8") (unsigned_below (2 ^ 8))) };
 
-    #[tactic(auto, unfolding(crate::specs::inside::IntegerReadings::unsigned_integer, crate::specs::inside::IntegerReadings::an_integer_word))]
+    #[rattlefmt::skip]
+    #[tactic(auto, unfolding(
+        crate::specs::inside::IntegerReadings::unsigned_integer,
+        crate::specs::inside::IntegerReadings::an_integer_word,
+    ))]
     fn parse(parser: &mut Parser<'a>) -> Result<(u8, Span), Error> {
         let (value, span) = parse_unsigned(
             parser,
@@ -271,7 +275,11 @@ impl<'a> Parse<'a> for (u16, Span) {
 
     ghost meaning = { spanned (integer (codes "u16") (unsigned_below (2 ^ 16))) };
 
-    #[tactic(auto, unfolding(crate::specs::inside::IntegerReadings::unsigned_integer, crate::specs::inside::IntegerReadings::an_integer_word))]
+    #[rattlefmt::skip]
+    #[tactic(auto, unfolding(
+        crate::specs::inside::IntegerReadings::unsigned_integer,
+        crate::specs::inside::IntegerReadings::an_integer_word,
+    ))]
     fn parse(parser: &mut Parser<'a>) -> Result<(u16, Span), Error> {
         let (value, span) = parse_unsigned(
             parser,
@@ -318,7 +326,11 @@ impl<'a> Parse<'a> for (u32, Span) {
 
     ghost meaning = { spanned (integer (codes "u32") (unsigned_below (2 ^ 32))) };
 
-    #[tactic(auto, unfolding(crate::specs::inside::IntegerReadings::unsigned_integer, crate::specs::inside::IntegerReadings::an_integer_word))]
+    #[rattlefmt::skip]
+    #[tactic(auto, unfolding(
+        crate::specs::inside::IntegerReadings::unsigned_integer,
+        crate::specs::inside::IntegerReadings::an_integer_word,
+    ))]
     fn parse(parser: &mut Parser<'a>) -> Result<(u32, Span), Error> {
         let (value, span) = parse_unsigned(
             parser,
@@ -365,7 +377,11 @@ impl<'a> Parse<'a> for (u64, Span) {
 
     ghost meaning = { spanned (integer (codes "u64") (unsigned_below (2 ^ 64))) };
 
-    #[tactic(auto, unfolding(crate::specs::inside::IntegerReadings::unsigned_integer, crate::specs::inside::IntegerReadings::an_integer_word))]
+    #[rattlefmt::skip]
+    #[tactic(auto, unfolding(
+        crate::specs::inside::IntegerReadings::unsigned_integer,
+        crate::specs::inside::IntegerReadings::an_integer_word,
+    ))]
     fn parse(parser: &mut Parser<'a>) -> Result<(u64, Span), Error> {
         parse_unsigned(
             parser,
@@ -411,7 +427,12 @@ impl<'a> Parse<'a> for (i8, Span) {
 
     ghost meaning = { spanned (integer (codes "i8") (signed_within (2 ^ 7))) };
 
-    #[tactic(auto, unfolding(crate::specs::readings::Types::signed_number, crate::specs::inside::IntegerReadings::signed_integer, crate::specs::inside::IntegerReadings::an_integer_word))]
+    #[rattlefmt::skip]
+    #[tactic(auto, unfolding(
+        crate::specs::readings::Types::signed_number,
+        crate::specs::inside::IntegerReadings::signed_integer,
+        crate::specs::inside::IntegerReadings::an_integer_word,
+    ))]
     fn parse(parser: &mut Parser<'a>) -> Result<(i8, Span), Error> {
         let (value, span) = parse_signed(
             parser,
@@ -458,7 +479,12 @@ impl<'a> Parse<'a> for (i16, Span) {
 
     ghost meaning = { spanned (integer (codes "i16") (signed_within (2 ^ 15))) };
 
-    #[tactic(auto, unfolding(crate::specs::readings::Types::signed_number, crate::specs::inside::IntegerReadings::signed_integer, crate::specs::inside::IntegerReadings::an_integer_word))]
+    #[rattlefmt::skip]
+    #[tactic(auto, unfolding(
+        crate::specs::readings::Types::signed_number,
+        crate::specs::inside::IntegerReadings::signed_integer,
+        crate::specs::inside::IntegerReadings::an_integer_word,
+    ))]
     fn parse(parser: &mut Parser<'a>) -> Result<(i16, Span), Error> {
         let (value, span) = parse_signed(
             parser,
@@ -505,7 +531,12 @@ impl<'a> Parse<'a> for (i32, Span) {
 
     ghost meaning = { spanned (integer (codes "i32") (signed_within (2 ^ 31))) };
 
-    #[tactic(auto, unfolding(crate::specs::readings::Types::signed_number, crate::specs::inside::IntegerReadings::signed_integer, crate::specs::inside::IntegerReadings::an_integer_word))]
+    #[rattlefmt::skip]
+    #[tactic(auto, unfolding(
+        crate::specs::readings::Types::signed_number,
+        crate::specs::inside::IntegerReadings::signed_integer,
+        crate::specs::inside::IntegerReadings::an_integer_word,
+    ))]
     fn parse(parser: &mut Parser<'a>) -> Result<(i32, Span), Error> {
         let (value, span) = parse_signed(
             parser,
@@ -552,7 +583,12 @@ impl<'a> Parse<'a> for (i64, Span) {
 
     ghost meaning = { spanned (integer (codes "i64") (signed_within (2 ^ 63))) };
 
-    #[tactic(auto, unfolding(crate::specs::readings::Types::signed_number, crate::specs::inside::IntegerReadings::signed_integer, crate::specs::inside::IntegerReadings::an_integer_word))]
+    #[rattlefmt::skip]
+    #[tactic(auto, unfolding(
+        crate::specs::readings::Types::signed_number,
+        crate::specs::inside::IntegerReadings::signed_integer,
+        crate::specs::inside::IntegerReadings::an_integer_word,
+    ))]
     fn parse(parser: &mut Parser<'a>) -> Result<(i64, Span), Error> {
         parse_signed(
             parser,

@@ -1,7 +1,7 @@
 //! Widths of strings in terminal columns.
 use crate::shim::alloc::Global;
 use crate::shim::string::String;
-pub use unicode_width::UnicodeWidthStr;
+pub use unicode_width::{UnicodeWidthChar, UnicodeWidthStr};
 
 /// Size in bytes of the buffer on the stack.
 const ROOM: usize = 1024;

@@ -1,7 +1,6 @@
 use super::{ParseBuffer, Parser, Result};
-use crate::proved::parser::names::{Names, RegisterError};
+use crate::proved::parser::names::RegisterError;
 use crate::words::{StdAnnotation, Word};
-use core::cell::RefCell;
 use wat_lex::shim::alloc::{Global, granted};
 
 impl<'a> Parser<'a> {
@@ -54,14 +53,14 @@ impl<'a> Parser<'a> {
     where
         'a: 'b,
     {
-        let ParseBuffer { names, .. } = self.buffer;
-        match names.borrow_mut().register(Global, annotation) {
+        let buffer = self.buffer;
+        match buffer.change_names(|names| names.register(Global, annotation)) {
             Ok(()) => {}
             Err(RegisterError::OutOfMemory(refused)) => granted(Err(refused)),
             Err(RegisterError::TooOften) => panic!("annotation registered too often"),
         }
         Registered {
-            names,
+            buffer,
             name: annotation,
         }
     }
@@ -117,12 +116,13 @@ impl<'a> Parser<'a> {
 
 /// A guard for a registered name, which is unregistered on drop.
 struct Registered<'b> {
-    names: &'b RefCell<Names>,
+    buffer: &'b ParseBuffer<'b>,
     name: &'b str,
 }
 
 impl Drop for Registered<'_> {
     fn drop(&mut self) {
-        self.names.borrow_mut().unregister(self.name);
+        self.buffer
+            .change_names(|names| names.unregister(self.name));
     }
 }

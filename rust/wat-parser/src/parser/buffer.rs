@@ -22,8 +22,11 @@ pub struct ParseBuffer<'a> {
     // The rest of the verified parser's state is in cells, so that all copies of a `Parser` share it.
     pub(super) position: Cell<Position>,
     pub(super) depth: Cell<usize>,
-    pub(super) names: RefCell<Names>,
+    names: RefCell<Names>,
     rows: [Cell<Row>; ROWS],
+    /// Offset at which the last fill stopped, where no row is.
+    bare: Cell<usize>,
+    last: Cell<Option<Peeked>>,
     kept: RefCell<Kept>,
     keep_shown: bool,
     pub(super) strings: Strings,
@@ -35,26 +38,29 @@ const ROWS: usize = 64;
 /// Maximum number of rows that are filled at a time.
 const FILLED: usize = 32;
 
+/// Number of rows that are filled first, as some texts are rejected at the first token.
+const FIRST: usize = 4;
+
 /// Returns a row that matches no position in its slot. A position in slot 0 is at byte 0 or at least `ROWS` bytes further, as each move advances by
 /// at least one byte. A position in another slot is never at byte 0.
 // A kept token is not at byte 1 either while row 0 is unchanged: the `(` of an annotation would precede it, and the annotation's name has a row.
+// The bits of most rows are zero, so that a buffer is created faster.
 const fn no_row(slot: usize) -> Row {
     Row {
         offset: 0,
         len: 0,
-        kind: TokenKind::Whitespace,
+        kind: TokenKind::LineComment,
         from: (slot == 0) as u32,
     }
 }
 
-/// The initial rows.
-// The constant is copied on use, so each buffer has separate cells.
-#[allow(clippy::declare_interior_mutable_const)]
-const NO_ROWS: [Cell<Row>; ROWS] = {
-    let mut rows = [const { Cell::new(no_row(1)) }; ROWS];
-    rows[0] = Cell::new(no_row(0));
-    rows
-};
+/// The result of a peek at an offset where no row is: before an annotation, at the end of the text, or at an error. It is valid for the names that
+/// were registered at the time of the peek.
+#[derive(Clone, Copy)]
+struct Peeked {
+    byte: usize,
+    found: Result<Option<Token>, Fault>,
+}
 
 /// A position of a parser or a cursor, packed into 64 bits. The low half is the end offset of the preceding token. The high half is the slot of its
 /// row, or `KEPT` plus the index of the kept token.
@@ -109,17 +115,21 @@ impl<'a> ParseBuffer<'a> {
     ///
     /// Returns an error if the text has more than `u32::MAX` bytes.
     pub fn new_with_lexer(lexer: Lexer<'a>) -> Result<ParseBuffer<'a>> {
-        Ok(ParseBuffer {
+        let buffer = ParseBuffer {
             lexer: lexer.proved()?.clone(),
             track: false,
             position: Cell::new(Position::new(0, 0)),
-            rows: NO_ROWS,
+            rows: [const { Cell::new(no_row(1)) }; ROWS],
+            bare: Cell::new(usize::MAX),
+            last: Cell::new(None),
             kept: RefCell::default(),
             depth: Cell::new(0),
             names: RefCell::new(Names::new(Global)),
             keep_shown: false,
             strings: Strings::default(),
-        })
+        };
+        buffer.rows[0].set(no_row(0));
+        Ok(buffer)
     }
 
     /// Sets the value that [`Parser::track_instr_spans`](super::Parser::track_instr_spans) returns. Types that record offsets of instructions only on
@@ -150,11 +160,18 @@ impl<'a> ParseBuffer<'a> {
 
     /// Fills rows from a position on, and returns the token of the position, or `None` if it has no row.
     #[inline(never)]
-    pub(super) fn filled_at(&self, position: Position) -> Option<Token> {
+    fn filled_at(&self, position: Position) -> Option<Token> {
         let byte = position.byte();
+        if byte == self.bare.get() {
+            return None;
+        }
         let mut rows = [no_row(1); FILLED];
         let first = position.slot();
-        let room = FILLED.min(ROWS - first);
+        let room = if byte == 0 {
+            FIRST
+        } else {
+            FILLED.min(ROWS - first)
+        };
         let filled = self.text_from(byte).fill(0, 0, &mut rows[..room]);
         for (cell, row) in self.rows[first..].iter().zip(&rows[..filled]) {
             cell.set(Row {
@@ -163,13 +180,42 @@ impl<'a> ParseBuffer<'a> {
                 ..*row
             });
         }
+        if filled < room {
+            let last = rows[..filled].last();
+            let end = last.map_or(0, |row| row.offset + row.len);
+            self.bare.set(byte + end as usize);
+        }
         (filled > 0).then(|| token_of(self.rows[first].get()))
     }
 
-    /// Returns the token that is visible at a byte offset under the registered names.
-    pub(super) fn shown_at(&self, byte: usize) -> Result<Option<Token>, Fault> {
-        let names = self.names.borrow();
-        moved(byte, self.text_from(byte).look(0, 0, &names))
+    /// Returns the token that is visible at a position under the registered names.
+    pub(super) fn shown_at(&self, position: Position) -> Result<Option<Token>, Fault> {
+        let (row, known) = self.row_at(position);
+        if known {
+            return Ok(Some(token_of(row)));
+        }
+        match self.last.get() {
+            Some(last) if last.byte == position.byte() => return last.found,
+            _ => {}
+        }
+        if let Some(shown) = self.filled_at(position) {
+            return Ok(Some(shown));
+        }
+        self.peeked_at(position.byte())
+    }
+
+    /// Returns the token that is visible at an offset under the registered names, and keeps it for the next peek.
+    fn peeked_at(&self, byte: usize) -> Result<Option<Token>, Fault> {
+        let found = self.text_from(byte).look(0, 0, &self.names.borrow());
+        let found = moved(byte, found);
+        self.last.set(Some(Peeked { byte, found }));
+        found
+    }
+
+    /// Changes the registered names. The result of the last peek is dropped, as it may be another one under the new names.
+    pub(super) fn change_names<T>(&self, change: impl FnOnce(&mut Names) -> T) -> T {
+        self.last.set(None);
+        change(&mut self.names.borrow_mut())
     }
 
     /// Returns the comment at a byte offset, or after whitespace there.
@@ -191,14 +237,13 @@ impl<'a> ParseBuffer<'a> {
     #[cold]
     #[inline(never)]
     fn keeping(&self, position: Position) -> Position {
-        if self.row_at(position).1 || self.filled_at(position).is_some() {
-            return position;
+        match self.shown_at(position) {
+            Ok(Some(shown)) if !self.row_at(position).1 => {
+                let index = self.kept.borrow_mut().index(shown);
+                Position::new(position.byte(), KEPT + index)
+            }
+            _ => position,
         }
-        let byte = position.byte();
-        let Ok(Some(shown)) = self.shown_at(byte) else {
-            return position;
-        };
-        Position::new(byte, KEPT + self.kept.borrow_mut().index(shown))
     }
 
     /// Returns the kept token of a position, if it has one.
@@ -256,16 +301,16 @@ fn moved(
     byte: usize,
     found: Result<Option<(Token, usize)>, Fault>,
 ) -> Result<Option<Token>, Fault> {
-    match found {
-        Ok(found) => Ok(found.map(|(token, _)| Token {
-            offset: token.offset + byte,
-            ..token
-        })),
-        Err(fault) => Err(Fault {
-            offset: fault.offset + byte,
-            ..fault
-        }),
-    }
+    let offset = |offset| offset + byte;
+    let fault = |fault: Fault| Fault {
+        offset: offset(fault.offset),
+        ..fault
+    };
+    let token = |(token, _): (Token, usize)| Token {
+        offset: offset(token.offset),
+        ..token
+    };
+    found.map(|found| found.map(token)).map_err(fault)
 }
 
 impl fmt::Debug for ParseBuffer<'_> {

@@ -16,8 +16,8 @@ use wat_lex::{IntegerKind, TokenKind};
 /// token is the first visible one: whitespace, comments, and groups of unregistered annotations are skipped.
 #[derive(Clone, Copy)]
 pub struct Cursor<'a> {
-    parser: Parser<'a>,
-    position: Position,
+    pub(super) parser: Parser<'a>,
+    pub(super) position: Position,
 }
 
 impl fmt::Debug for Cursor<'_> {
@@ -29,16 +29,6 @@ impl fmt::Debug for Cursor<'_> {
 }
 
 impl<'a> Cursor<'a> {
-    #[inline(always)]
-    pub(super) fn new(parser: Parser<'a>, position: Position) -> Cursor<'a> {
-        Cursor { parser, position }
-    }
-
-    #[inline(always)]
-    pub(super) fn position(self) -> Position {
-        self.position
-    }
-
     #[inline(always)]
     pub(crate) fn text(&self) -> &'a str {
         self.parser.buffer.lexer.input()
@@ -58,14 +48,7 @@ impl<'a> Cursor<'a> {
         if let Some(kept) = buffer.kept_at(position) {
             return Ok(Some(kept));
         }
-        let (row, known) = self.row();
-        if known {
-            return Ok(Some(token_of(row)));
-        }
-        if let Some(shown) = buffer.filled_at(position) {
-            return Ok(Some(shown));
-        }
-        let shown = buffer.shown_at(position.byte());
+        let shown = buffer.shown_at(position);
         shown.map_err(|fault| buffer.error_of(fault))
     }
 

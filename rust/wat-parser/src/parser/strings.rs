@@ -48,7 +48,7 @@ macro_rules! sizes {
             fn keep(&self, bytes: &[u8]) -> Result<&[u8], AllocError> {
                 match bytes.len() {
                     $(..=$capacity => self.$cells.keep_padded(bytes),)*
-                    _ => self.keep_longer(bytes),
+                    _ => Ok(self.longer.keep(boxed(bytes.iter().copied())?)?),
                 }
             }
         }
@@ -58,17 +58,6 @@ macro_rules! sizes {
 sizes! {
     of_2 2, of_3 3, of_4 4, of_5 5, of_6 6, of_7 7, of_8 8, of_9 9, of_10 10, of_11 11,
     of_15 15, of_19 19, of_23 23, of_31 31, of_39 39, of_47 47, of_63 63,
-}
-
-impl Sizes {
-    fn keep_longer(&self, bytes: &[u8]) -> Result<&[u8], AllocError> {
-        let mut exact = Vec::new();
-        exact
-            .try_reserve_exact(bytes.len())
-            .map_err(|_| AllocError)?;
-        exact.extend_from_slice(bytes);
-        Ok(self.longer.keep(exact.into_boxed_slice())?)
-    }
 }
 
 impl Strings {
@@ -90,7 +79,7 @@ impl Strings {
         if let Some(sizes) = self.sizes.get() {
             return Ok(&sizes[0]);
         }
-        let sizes = boxed(1, Sizes::default)?;
+        let sizes = boxed(iter::once(Sizes::default()))?;
         Ok(&self.sizes.get_or_init(|| sizes)[0])
     }
 }
@@ -137,12 +126,12 @@ impl<T> Cells<T> {
     #[cold]
     fn block_after(&self, full: Option<usize>) -> Result<&OnceCell<T>, AllocError> {
         if self.blocks.get().is_none() {
-            let blocks = boxed(BLOCKS, OnceCell::new)?;
+            let blocks = boxed((0..BLOCKS).map(|_| OnceCell::new()))?;
             self.blocks.get_or_init(|| blocks);
         }
         let count = full.map_or(FIRST, |full| full + full / 4);
         let last = self.last.get() + usize::from(full.is_some());
-        let cells = boxed(count, OnceCell::new)?;
+        let cells = boxed((0..count).map(|_| OnceCell::new()))?;
         self.last.set(last);
         self.set.set(0);
         let blocks = self.blocks.get().expect("made above");
@@ -158,11 +147,13 @@ impl<const N: usize> Cells<[u8; N]> {
     }
 }
 
-fn boxed<T>(count: usize, item: fn() -> T) -> Result<Box<[T]>, AllocError> {
-    let mut items = Vec::new();
-    items.try_reserve_exact(count).map_err(|_| AllocError)?;
-    items.extend(iter::repeat_with(item).take(count));
-    Ok(items.into_boxed_slice())
+fn boxed<T>(items: impl ExactSizeIterator<Item = T>) -> Result<Box<[T]>, AllocError> {
+    let mut exact = Vec::new();
+    exact
+        .try_reserve_exact(items.len())
+        .map_err(|_| AllocError)?;
+    exact.extend(items);
+    Ok(exact.into_boxed_slice())
 }
 
 #[cfg(test)]

@@ -3,6 +3,7 @@
 //! With the environment variable `ROUNDS=n` each test runs n times as many rounds.
 
 mod calls;
+mod guards;
 mod kept;
 mod lexing;
 mod plays;

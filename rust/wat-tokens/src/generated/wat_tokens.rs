@@ -82,7 +82,7 @@ fn answer(rt: &HostRuntime) -> Exit {
         Ok(words) => words,
         Err(error) => {
             let outcome = not_read(&error);
-            let _ = outcome.report(rt.alloc(), None, &mut rt.stderr());
+            let _ = outcome.report(None, &mut rt.stderr());
             return outcome.exit(false);
         }
     };

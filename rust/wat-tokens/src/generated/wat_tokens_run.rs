@@ -11,4 +11,4 @@ pub mod run;
 pub use wat_lex::proved::lexer::Settings;
 pub use crate::options::{complaint, help, options};
 pub use wat_format::lines::ends;
-pub use crate::lists::{blank, calls, fmt, json, list, named, play, show};
+pub use crate::lists::{blank, calls, fmt, json, list, named, play, printer, show};

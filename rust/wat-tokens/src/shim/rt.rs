@@ -1,8 +1,6 @@
 //! A handle of the process, and its standard streams.
 use crate::shim::alloc::Global;
 use crate::shim::io::{self, IsTerminal, Read, Write};
-use crate::shim::print;
-use core::fmt::{Arguments, Display};
 
 /// A handle of the process, which every function that accesses the process or the system has as a parameter.
 #[derive(Clone, Copy, Debug)]
@@ -35,16 +33,6 @@ impl HostRuntime {
     pub fn stderr(&self) -> Stderr {
         Stderr
     }
-
-    /// Prints a line to standard output.
-    pub fn println(&self, value: impl Display) -> io::Result<()> {
-        print::println(Stdout, value)
-    }
-
-    /// Prints a line to standard error.
-    pub fn eprintln(&self, value: impl Display) -> io::Result<()> {
-        print::println(Stderr, value)
-    }
 }
 
 /// Standard input. On Unix it is unbuffered: each read is a single system call.
@@ -55,7 +43,7 @@ pub struct Stdin;
 #[derive(Clone, Copy, Debug)]
 pub struct Stdout;
 
-/// Standard error. A text that is formatted, such as the report of an error, is buffered and written in blocks; a `write` is a single system call.
+/// Standard error. It is unbuffered: each write is a single system call.
 #[derive(Clone, Copy, Debug)]
 pub struct Stderr;
 
@@ -89,10 +77,6 @@ impl Write for Stderr {
 
     fn flush(&mut self) -> io::Result<()> {
         io::stderr().flush()
-    }
-
-    fn write_fmt(&mut self, text: Arguments<'_>) -> io::Result<()> {
-        print::print(Stderr, text)
     }
 }
 

@@ -82,7 +82,7 @@ impl<'a> Inputs for One<'a> {
             let mut output = Plain::new(Counted::default());
             Outcome::of_run(run_fmt(Global, &mut input, &mut output, settings))
         };
-        let reported = outcome.report(Global, Some(file), &mut Counted::default());
+        let reported = outcome.report(Some(file), &mut Counted::default());
         reported.expect("no write fails");
         outcome.exit(false)
     }

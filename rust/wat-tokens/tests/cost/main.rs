@@ -40,6 +40,29 @@ fn prepared<'a>(name: &str, text: &'a str) -> Prepared<'a> {
     }
 }
 
+/// Seeds a fault into a call, which the self-test of `tools/test/cost.py` must report: the call runs twice, searches once in each prefix of the text
+/// whose length is a multiple of 16, or keeps eight bytes for each byte.
+fn seeded<'a>(seed: &str, mut call: Prepared<'a>, text: &'a str) -> Prepared<'a> {
+    match seed {
+        "twice" => Box::new(move || {
+            call();
+            call();
+        }),
+        "quadratic" => Box::new(move || {
+            let ends = (0..text.len()).step_by(16);
+            let found = ends.filter(|end| text.as_bytes()[..*end].contains(&0));
+            black_box(found.count());
+            call();
+        }),
+        "kept" => Box::new(move || {
+            let kept = black_box(Vec::<u8>::with_capacity(8 * text.len()));
+            call();
+            drop(kept);
+        }),
+        _ => call,
+    }
+}
+
 /// Runs a call. Callgrind finds this function by its name.
 #[inline(never)]
 fn cost_measured(call: &mut dyn FnMut()) {
@@ -57,21 +80,23 @@ fn each_call_accepts_a_text_with_and_without_errors() {
     }
 }
 
-/// Measures each call on each text. `COST_TEXTS` names a file with the paths of the texts, a line each. Appends a line to the file `COST_PEAKS` for
-/// each call, in order: the path, the maximum number of bytes allocated, and the name of the call.
+/// Measures each call on each text. `COST_TEXTS` names a file with the paths of the texts, a line each. Appends a line to the file `COST_MEMORY` for
+/// each call, in order: the path, the two numbers of [`allocator::memory`], and the name of the call. `COST_SEED` names a fault for [`seeded`], or is
+/// empty.
 #[test]
 #[ignore = "tools/test/cost.py runs it"]
 fn measure() {
     let variable = |name| std::env::var(name).expect("cost.py sets it");
     let paths = fs::read_to_string(variable("COST_TEXTS")).unwrap();
-    let mut peaks = String::new();
+    let seed = variable("COST_SEED");
+    let mut lines = String::new();
     for path in paths.lines() {
         let text = fs::read_to_string(path).unwrap();
         for name in names() {
-            let mut call = prepared(name, &text);
-            let peak = allocator::peak(|| cost_measured(&mut call));
-            writeln!(peaks, "{path}\t{peak}\t{name}").unwrap();
+            let mut call = seeded(&seed, prepared(name, &text), &text);
+            let (peak, blocks) = allocator::memory(|| cost_measured(&mut call));
+            writeln!(lines, "{path}\t{peak}\t{blocks}\t{name}").unwrap();
         }
     }
-    fs::write(variable("COST_PEAKS"), peaks).unwrap();
+    fs::write(variable("COST_MEMORY"), lines).unwrap();
 }

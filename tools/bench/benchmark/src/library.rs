@@ -10,8 +10,10 @@ loops! {
     rows library_rows,
     values library_values,
     values_at library_values_at,
+    parts library_parts,
     comments library_comments,
     u32s library_u32s,
+    f64s library_f64s,
     is_text library_is_text,
     linecol library_linecol,
     error library_error,
@@ -43,7 +45,11 @@ pub const fn of_rows(theirs: Option<Loop>) -> [Pair; 2] {
 
 pub const VALUES: Loop = ("library_values", values);
 pub const VALUES_AT: Loop = ("library_values_at", values_at);
+#[allow(dead_code)]
+pub const PARTS: Loop = ("library_parts", parts);
 pub const COMMENTS: Loop = ("library_comments", comments);
 pub const U32S: Loop = ("library_u32s", u32s);
+#[allow(dead_code)]
+pub const F64S: Loop = ("library_f64s", f64s);
 pub const LINECOL: Loop = ("library_linecol", linecol);
 pub const ERROR: Loop = ("library_error", error);

@@ -85,6 +85,7 @@ const SUITES: &[Suite] = &[
             ),
             pair("wat_word, wat_string_of and so on", library::VALUES, VALUES),
             pair("wat_string and so on", library::VALUES_AT, VALUES),
+            pair("wat_word, wat_float_parts and so on", library::PARTS, VALUES),
         ],
     ),
     (
@@ -156,11 +157,14 @@ const SUITES: &[Suite] = &[
     ),
     (
         "floats",
-        &[pair(
-            "Parser::parse::<F64>",
-            ("rust_floats", ours::rust_floats),
-            FLOATS,
-        )],
+        &[
+            pair(
+                "Parser::parse::<F64>",
+                ("rust_floats", ours::rust_floats),
+                FLOATS,
+            ),
+            pair("wat_f64_of", library::F64S, FLOATS),
+        ],
     ),
     (
         "groups",

@@ -11,7 +11,7 @@ ghost use Rattle.wat_lex.specs.inside.ScannedStrings.{escape_bytes};
 ghost use Rattle.wat_lex.specs.tokens.Setting.{lenient};
 ghost use Rattle.wat_lex.specs.grammar.Strings.{Element, Quoted};
 
-use crate::lexer::scan::strings::{EscapeValue, escape, is_byte_escape};
+use crate::lexer::scan::strings::{EscapeValue, escape, is_byte_escape, letter};
 use crate::lexer::settings::Settings;
 use memchr::memchr;
 use std::alloc::{AllocError, Global};
@@ -64,6 +64,21 @@ fn digit(byte: u8) -> u8
     (byte & 15) + 9 * (byte >> 6)
 }
 
+/// Returns the byte of an escape of one letter at the start, and the text after it.
+#[inline]
+fn letter_escape(text: &str) -> Option<(u8, &str)>
+    ensures element { IfSome result (λ found.
+        Element lenient (chars text.now) (found.0 ∷ []) (chars found.1.now)) }
+    ensures utf8 { IfSome result (λ found. IsUtf8 found.1.now) }
+    ensures shorter { IfSome result (λ found. length found.1.now < length text.now) }
+{
+    let [b'\\', second, ..] = text.as_bytes() else {
+        return None;
+    };
+    let byte = letter(*second as char)?;
+    Some((byte, &text[2..]))
+}
+
 /// Returns the byte of an escape of two hexadecimal digits at the start, and the text after it.
 #[inline]
 pub fn byte_escape(text: &str) -> Option<(u8, &str)>
@@ -112,6 +127,11 @@ pub fn unescaped(alloc: Global, elements: &str) -> Result<Vec<u8>, AllocError>
         }
         if let [b'"'] = rest.as_bytes() {
             return Ok(value);
+        }
+        if let Some((byte, after)) = letter_escape(rest) {
+            value.push(byte)?;
+            rest = after;
+            continue 'elements;
         }
         match memchr(b'\\', rest.as_bytes()) {
             Some(0) => {

@@ -1,10 +1,11 @@
 //! Classification of 16 bytes at once.
-ghost use Rattle.std.specs.Prelude.{◌≡◌, ◌≤◌, ◌+◌, ◌==◌, length, map};
+ghost use Rattle.std.specs.Prelude.{◌≡◌, ◌≤◌, ◌+◌, ◌==◌, length, map, not};
 ghost use Rattle.std.specs.Char.{is_ascii_digit};
 ghost use Rattle.std.specs.Simd.Lanes.{chunk, mask_l};
 ghost use Rattle.wat_lex.specs.grammar.Classes.{is_hex, is_idchar, is_whitespace};
 ghost use Rattle.wat_lex.specs.inside.Blocks.{failures, is_plain_in_line, is_surely_plain};
-ghost use Rattle.wat_lex.specs.inside.Blocks.{other_than_semicolon};
+ghost use Rattle.wat_lex.specs.inside.Blocks.{is_plain_in_block};
+ghost use Rattle.wat_lex.specs.inside.Blocks.{is_confusing_end};
 
 use std::simd::prelude::*;
 
@@ -92,14 +93,6 @@ pub fn other_than_whitespace(block: u8x16) -> u64
     wanted.simd_ne(block).to_bitmask()
 }
 
-/// Returns a bit mask of the bytes that are `;`. The lowest bit is the first byte's.
-#[inline(always)]
-pub fn semicolons(block: u8x16) -> u64
-    ensures { result ≡ failures other_than_semicolon block }
-{
-    block.simd_eq(u8x16::splat(b';')).to_bitmask()
-}
-
 /// Returns a bit mask of the bytes that equal `byte`. The lowest bit is the first byte's.
 #[inline(always)]
 pub fn equal_to(block: u8x16, byte: u8) -> u64
@@ -119,6 +112,26 @@ pub fn other_than_plain_in_line(block: u8x16) -> u64
     }
     let stop = u8x16::from_array(NOT_PLAIN_IN_LINE_BY_LOW).swizzle_dyn(block & u8x16::splat(15));
     stop.simd_eq(block).to_bitmask()
+}
+
+/// Returns a bit mask of the bytes that are `(`, `;` or 0xE2, with which every confusing character
+/// begins. The lowest bit is the first byte's.
+#[inline(always)]
+pub fn other_than_plain_in_block(block: u8x16) -> u64
+    ensures { result ≡ failures is_plain_in_block block }
+{
+    (block.simd_eq(u8x16::splat(b'('))
+        | block.simd_eq(u8x16::splat(b';'))
+        | block.simd_eq(u8x16::splat(0xe2))).to_bitmask()
+}
+
+/// Returns a bit mask of the bytes from 0xA6 to 0xAE, one of which ends every confusing character.
+/// The lowest bit is the first byte's.
+#[inline(always)]
+pub fn confusing_ends(block: u8x16) -> u64
+    ensures { result ≡ failures (λ b. not (is_confusing_end b)) block }
+{
+    (block.simd_lt(u8x16::splat(0xaf)) & u8x16::splat(0xa5).simd_lt(block)).to_bitmask()
 }
 
 /// Returns a bit mask of the bytes that are below 14, as line ends and TABs are, or not ASCII. The

@@ -6,6 +6,7 @@ ghost use Rattle.std.specs.Prelude.{
   ◌+◌,
   ℕ,
   List,
+  false,
   not,
   length,
   drop,
@@ -19,17 +20,20 @@ ghost use Rattle.wat_lex.specs.grammar.Classes.{is_line_end, is_confusing};
 ghost use Rattle.wat_lex.specs.grammar.Comments.{Closes};
 ghost use Rattle.wat_lex.specs.tokens.Faults.{IsComment};
 ghost use Rattle.wat_lex.specs.inside.ScannedLexemes.{LexemeFound, Refused, FirstConfusing};
+ghost use Rattle.wat_lex.specs.inside.ScannedLexemes.{ClosesPlainly};
 ghost use Rattle.wat_lex.specs.declared.lexer.kinds.TokenKind.TheVariants.{LineComment};
 ghost use Rattle.wat_lex.specs.declared.lexer.kinds.TokenKind.TheVariants.{BlockComment};
-ghost use Rattle.wat_lex.specs.inside.Blocks.{GoesOn, is_plain_in_line, other_than_semicolon};
-ghost use Rattle.wat_lex.specs.inside.Nesting.{Reaches, opens_at, closes_at, passing};
+ghost use Rattle.wat_lex.specs.inside.Blocks.{GoesOn, is_plain_in_line};
+ghost use Rattle.wat_lex.specs.inside.Blocks.{leads_at, IsLeadless, IsFirstLead};
+ghost use Rattle.wat_lex.specs.inside.Nesting.{Reaches, opens_at, closes_at, delimits, passing};
 ghost use Rattle.wat_lex.specs.inside.Outlines.{BeginsWithFault};
 ghost use Rattle.wat_lex.specs.tokens.Setting.{allowing};
 
 use crate::lexer::faults::{LexError, LexFault};
 use crate::lexer::kinds::{Lexeme, TokenKind};
 use crate::lexer::scan::blocks::{
-    block_at, equal_to, other_than_plain_in_line, other_than_surely_plain, semicolons,
+    block_at, confusing_ends, equal_to, other_than_plain_in_block, other_than_plain_in_line,
+    other_than_surely_plain,
 };
 use crate::lexer::scan::classes::is_confusing;
 use crate::lexer::settings::Settings;
@@ -42,14 +46,51 @@ fn line_len(text: &[u8]) -> usize
     memchr2(b'\n', b'\r', text).unwrap_or(text.len())
 }
 
+/// Returns a bit mask of the 16 bytes from index `i` on: those that are 0xE2 and are followed by
+/// 0x80 or 0x81 and then a byte from 0xA6 to 0xAE. The lowest bit is the first byte's.
+#[inline(always)]
+fn confusing_leads(text: &[u8], i: usize) -> u64
+    requires { i + 18 ≤ length text.now }
+    ensures { result ≡ passing (leads_at text.now) i 16 }
+{
+    let leads = equal_to(block_at(text, i), 0xe2);
+    let next = block_at(text, i + 1);
+    let pairs = (leads & equal_to(next, 0x80)) | (leads & equal_to(next, 0x81));
+    pairs & confusing_ends(block_at(text, i + 2))
+}
+
+/// Returns the index of a byte 0xE2 before which no confusing character begins, or `None` if none
+/// begins at all. The last block overlaps the one before it.
+fn first_lead(text: &[u8]) -> Option<usize>
+    ensures { MatchOption result (IsLeadless text.now (length text.now)) (IsFirstLead text.now) }
+{
+    if text.len() < 18 {
+        return memchr(0xe2, text);
+    }
+    let mut i = 0;
+    while text.len() - i > 17 {
+        let found = confusing_leads(text, i);
+        if found != 0 {
+            return Some(i + found.trailing_zeros() as usize);
+        }
+        i += 16;
+    }
+    let last = text.len() - 18;
+    let found = confusing_leads(text, last);
+    if found == 0 {
+        return None;
+    }
+    Some(last + found.trailing_zeros() as usize)
+}
+
 /// Returns the first confusing character and its offset. Searches for the byte 0xE2, with which
 /// each of them begins, and which is not a later byte of any character.
 pub fn first_confusing(text: &str) -> Option<(usize, char)>
     ensures { MatchOption result (NonePass is_confusing (chars text.now))
         (λ f. FirstConfusing text.now f.0 f.1) }
 {
-    let mut at = 0;
-    'places: while let Some(skipped) = memchr(0xe2, text[at..].as_bytes()) {
+    let mut at = memchr(0xe2, text.as_bytes())?;
+    'places: while let Some(skipped) = first_lead(text[at..].as_bytes()) {
         at += skipped;
         match text[at..].chars().next() {
             None => return None,
@@ -138,30 +179,6 @@ fn plain_len_in_line(text: &[u8]) -> usize
     near + plain_by_four_blocks(&text[near..])
 }
 
-/// Returns the number of bytes before the first `;`, by a search.
-fn semicolon_by_search(text: &[u8]) -> usize
-    ensures { result ≡ prefix_len other_than_semicolon text.now }
-{
-    memchr(b';', text).unwrap_or(text.len())
-}
-
-/// Returns the number of bytes before the first `;`, a block at a time. It is not inlined into the
-/// loop that calls it, which makes nested comments faster.
-#[inline(never)]
-fn semicolon_by_block(text: &[u8]) -> usize
-    ensures { result ≡ prefix_len other_than_semicolon text.now }
-{
-    let mut i = 0;
-    while text.len() - i >= 16 {
-        let found = semicolons(block_at(text, i));
-        if found != 0 {
-            return i + found.trailing_zeros() as usize;
-        }
-        i += 16;
-    }
-    i + semicolon_by_search(&text[i..])
-}
-
 /// Returns two bit masks of the 16 bytes from index `i` on: those at which `(;` begins, and those
 /// at which `;)` begins. The lowest bit is the first byte's.
 #[inline(always)]
@@ -175,6 +192,28 @@ fn delimiters(text: &[u8], i: usize) -> (u64, u64)
     let opens = equal_to(here, b'(') & equal_to(next, b';');
     let closes = equal_to(here, b';') & equal_to(next, b')');
     (opens, closes)
+}
+
+/// Returns an index from `from` on before which neither `(;` nor `;)` begins: that of the first of
+/// them, or one within 16 bytes of the end of the text.
+#[inline(always)]
+fn next_delimiter(text: &[u8], from: usize) -> usize
+    requires { from ≤ length text.now }
+    ensures on { from ≤ result }
+    ensures range { result ≤ length text.now }
+    ensures short { from < length text.now → result < length text.now }
+    ensures none { (k : ℕ) → from ≤ k → k < result → delimits text.now k ≡ false }
+{
+    let mut i = from;
+    while text.len() - i > 16 {
+        let (opens, closes) = delimiters(text, i);
+        let found = opens | closes;
+        if found != 0 {
+            return i + found.trailing_zeros() as usize;
+        }
+        i += 16;
+    }
+    i
 }
 
 /// Skips blocks inside nested comments, of which `opened` must be open at index `place`. Returns
@@ -217,22 +256,21 @@ fn closing_len(text: &[u8]) -> Option<usize>
     let mut level = 1usize;
     let mut i = 0usize;
     while i < text.len() {
-        if text[i] == b'(' && i + 1 < text.len() && text[i + 1] == b';' {
-            let (opened, next) = past_blocks(text, i + 2, level + 1);
-            level = opened;
-            i = next;
-        } else if text[i] == b';' && i + 1 < text.len() && text[i + 1] == b')' {
+        i = next_delimiter(text, i);
+        if i + 1 < text.len() && text[i] == b'(' && text[i + 1] == b';' {
+            level += 1;
+            i += 2;
+            if level > 16 {
+                (level, i) = past_blocks(text, i, level);
+            }
+        } else if i + 1 < text.len() && text[i] == b';' && text[i + 1] == b')' {
             level -= 1;
             i += 2;
             if level == 0 {
                 return Some(i);
             }
         } else {
-            let next = i + 1;
-            i = next + semicolon_by_block(&text[next..]);
-            if i > next && text[i - 1] == b'(' {
-                i -= 1;
-            }
+            i += 1;
         }
     }
     None
@@ -301,6 +339,28 @@ pub fn line_comment(text: &str, flags: Settings) -> Result<usize, LexFault>
         len: len + 2,
     };
     checked(text, comment, flags)
+}
+
+/// Returns the length in bytes of the block comment at the start if neither `(`, `;` nor 0xE2 is
+/// between its `(;`, which is not examined, and its `;)`, which begins in the next 16 bytes.
+/// Otherwise, and for a text of fewer than 19 bytes, returns `None`.
+#[inline(always)]
+pub fn short_block_comment_len(text: &[u8]) -> Option<usize>
+    ensures { IfSome result (ClosesPlainly text.now) }
+{
+    if text.len() < 19 {
+        return None;
+    }
+    let others = other_than_plain_in_block(block_at(text, 2));
+    if others == 0 {
+        return None;
+    }
+    let end = 2 + others.trailing_zeros() as usize;
+    if text[end] == b';' && text[end + 1] == b')' {
+        Some(end + 2)
+    } else {
+        None
+    }
 }
 
 /// Returns the length in bytes of the block comment at the start, or `None` at a lexical error. The

@@ -10,6 +10,7 @@ ghost use Rattle.wat_lex.specs.grammar.Classes.{is_run_char};
 
 use crate::lexer::faults::LexFault;
 use crate::lexer::kinds::{FloatKind, Outline, Shape, Sign, Stride, TokenKind};
+use crate::lexer::scan::blocks::{block_at, equal_to};
 use crate::lexer::scan::byte_at;
 use crate::lexer::scan::classes::idchar_len;
 use crate::lexer::scan::numbers::{classify, plain_decimal, plain_float, plain_hexadecimal};
@@ -130,6 +131,18 @@ fn kind_by_first(word: &[u8]) -> TokenKind
     }
 }
 
+/// Returns the kind of a lexeme of idchars. It is the first call for numbers with underscores, and
+/// the last one for all others.
+#[inline(never)]
+fn any_kind(word: &[u8]) -> TokenKind
+    ensures { WordKind word.now result }
+{
+    match classify(word) {
+        Some(kind) => kind,
+        None => kind_by_first(word),
+    }
+}
+
 /// Returns the kind of the lexeme of idchars in the first `len` bytes. Decimal integers are tried
 /// before it. It is not inlined, since its caller would then carry the facts of a float for each
 /// token.
@@ -144,11 +157,24 @@ pub fn classify_word(text: &[u8], len: usize, stride: Stride) -> TokenKind
     if let Some(kind) = plain_float(text, len, stride) {
         return kind;
     }
-    let word = &text[..len];
-    match classify(word) {
-        Some(kind) => kind,
-        None => kind_by_first(word),
+    any_kind(&text[..len])
+}
+
+/// Returns the kind of the lexeme in the first `len` bytes, which is neither a decimal integer nor
+/// a short number without underscores. Those without an underscore in their first 16 bytes are
+/// tried as numbers without any.
+#[inline(never)]
+fn other_kind(text: &[u8], len: usize) -> TokenKind
+    requires { len ≤ length text.now }
+    ensures { WordKind (take len text.now) result }
+{
+    if text.len() >= 16 {
+        let underscores = equal_to(block_at(text, 0), b'_');
+        if (underscores.trailing_zeros() as usize) < len {
+            return any_kind(&text[..len]);
+        }
     }
+    classify_word(text, len, Stride::Block)
 }
 
 /// Returns the kind of the lexeme in the first `len` bytes. Tries a short number after `0x` first.
@@ -159,7 +185,7 @@ fn hexadecimal_kind(text: &[u8], len: usize) -> TokenKind
 {
     match short_hexadecimal(text, len).kind() {
         Some(kind) => kind,
-        None => classify_word(text, len, Stride::Block),
+        None => other_kind(text, len),
     }
 }
 
@@ -198,7 +224,10 @@ pub fn long_number_kind(text: &[u8], len: usize) -> TokenKind
 {
     match text {
         [first, b'x', ..] if *first == b'0' => hexadecimal_kind(text, len),
-        _ => decimal_kind(text, len, Stride::Block),
+        _ => match plain_decimal(text, len, Stride::Block) {
+            Some(kind) => kind,
+            None => other_kind(text, len),
+        },
     }
 }
 
@@ -218,7 +247,7 @@ pub fn short_number_kind(text: &[u8], len: usize, sign: Sign) -> TokenKind
 }
 
 /// Returns the kind of a lexeme that begins with a lowercase letter. The only numbers among these
-/// begin with `inf` or `nan`, whose second letter is `n` or `a`.
+/// begin with `inf` or `nan`, whose third letter is `f` or `n`.
 #[inline(always)]
 pub fn letters_kind(text: &[u8], len: usize, stride: Stride) -> TokenKind
     requires some { 0 < len }
@@ -226,12 +255,14 @@ pub fn letters_kind(text: &[u8], len: usize, stride: Stride) -> TokenKind
     requires letter { (97 ≤ slice_index text.now 0) × (slice_index text.now 0 ≤ 122) }
     ensures { WordKind (take len text.now) result }
 {
-    let second = byte_at(text, 1);
-    if second != b'n' && second != b'a' {
+    let third = byte_at(text, 2);
+    if third != b'f' && third != b'n' {
         return TokenKind::Keyword;
     }
-    if let b"inf" = &text[..len] {
-        return TokenKind::Float(FloatKind::Inf { negative: false });
+    match &text[..len] {
+        b"inf" => return TokenKind::Float(FloatKind::Inf { negative: false }),
+        b"nan" => return TokenKind::Float(FloatKind::Nan { negative: false }),
+        _ => {}
     }
     payload_kind(text, len, stride)
 }

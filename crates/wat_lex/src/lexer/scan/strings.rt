@@ -10,6 +10,7 @@ ghost use Rattle.wat_lex.specs.grammar.Classes.{is_hex};
 ghost use Rattle.wat_lex.specs.grammar.Strings.{letter_value, is_control};
 ghost use Rattle.wat_lex.specs.inside.ScannedStrings.{Escaped, escape_bytes, Breaks, IsRowValue};
 ghost use Rattle.wat_lex.specs.inside.ScannedStrings.{Ends, BeginsByteEscape, ElementTaken};
+ghost use Rattle.wat_lex.specs.inside.ScannedStrings.{BeginsLetterEscape};
 ghost use Rattle.wat_lex.specs.inside.ScannedStrings.{StringTaken, StringFaultFound};
 
 use crate::lexer::faults::{LexError, LexFault};
@@ -44,7 +45,7 @@ fn is_control(c: char) -> bool
 
 /// Returns the byte that a character after a backslash stands for, if it is one of `"`, `'`, `\`,
 /// `t`, `n` and `r`.
-fn letter(c: char) -> Option<u8>
+pub fn letter(c: char) -> Option<u8>
     ensures { result ≡ letter_value c }
 {
     match c {
@@ -249,6 +250,16 @@ pub fn is_byte_escape(text: &[u8]) -> bool
     }
 }
 
+/// Returns `true` if an escape of one letter is at the start.
+fn is_letter_escape(text: &[u8]) -> bool
+    ensures { MatchBool result (BeginsLetterEscape text.now) (BeginsLetterEscape text.now → ⊥) }
+{
+    match text {
+        [b'\\', second, ..] => letter(*second as char).is_some(),
+        _ => false,
+    }
+}
+
 /// Returns a lexical error at an offset from the start of the scanned text.
 fn fault_at(offset: usize, error: LexError) -> Result<usize, LexFault>
     ensures { result ≡ Err (record { offset = offset; error = error }) }
@@ -263,6 +274,9 @@ fn element_len(text: &str, flags: Settings) -> Result<usize, LexFault>
     ensures ok { IfOk result (ElementTaken flags text.now) }
     ensures err { IfErr result (StringFaultFound flags text.now) }
 {
+    if is_letter_escape(text.as_bytes()) {
+        return Ok(2);
+    }
     let mut it = text.chars();
     let Some(c) = it.next() else {
         return fault_at(0, LexError::UnexpectedEof);

@@ -103,7 +103,7 @@ pub fn name_of<'a>(alloc: Global, text: &'a str, row: Row) -> Result<CowStr<'a>,
 /// ensures some { IfSome result (λ f. kind_of kind ≡ token_kind.Float f) }
 /// ensures none { IfNone result ((kind.code < 12) ⊎ (15 < kind.code)) }
 /// ```
-fn float_kind(kind: KindRow) -> Option<FloatKind> {
+pub(crate) fn float_kind(kind: KindRow) -> Option<FloatKind> {
     let negative = kind.sign == 2;
     let has_underscores = kind.has_underscores;
     let hex = kind.hex;

@@ -61,6 +61,31 @@ pub fn one_word() {
     wat_lex::proved::laws::names();
 }
 
+/// Theorem: the bits of a number token are unique, unless an allocation fails, and so are those of
+/// the number at an offset.
+///
+/// # Proved
+///
+/// ```text
+/// ensures of_row { (format : Format) (text : List ℕ) (t : Token) →
+///     OneBits (TellsBits format text t) }
+/// ensures at_offset { (format : Format) (s : Setting) (p : ℕ) → OneBits (FindsBits format s p) }
+/// ```
+pub fn one_bits() {
+    wat_lex::proved::laws::one_answer();
+}
+
+/// Theorem: the ranges that `wat_float_parts` returns for a token are unique.
+///
+/// # Proved
+///
+/// ```text
+/// ensures { (text : List ℕ) (t : Token) → OneParts text t }
+/// ```
+pub fn one_parts() {
+    wat_lex::proved::laws::floats();
+}
+
 /// Theorem: each error whose characters are Unicode scalar values is determined by its code, the
 /// character found and the character required.
 ///

@@ -113,8 +113,8 @@ pub unsafe extern "C" fn wat_shown(
     look_as_integers(alloc, text, rows, why, place, names, ends)
 }
 
-/// Returns the offset in the text of a parser that has consumed the first `place` rows: the end of
-/// the last of them, or 0 if there is none. The links of the rows need not be set.
+/// Returns the byte offset that a parser has reached after it consumed the first `place` rows: the
+/// end of the last of them, or 0 if there is none. The links of the rows need not be set.
 ///
 /// # Proved
 ///

@@ -3,6 +3,7 @@
 
 use wat_lex::shim::prelude::*;
 use core::str;
+use crate::rows::rows::{Found, found_row};
 use wat_lex::proved::lexer::{Lexer, Settings};
 
 /// Returns the offset at which lexing continues after the token or the lexical error at `pos`.
@@ -58,4 +59,94 @@ pub unsafe extern "C" fn wat_resume(
     // SAFETY: rule 2 of wat.h.
     let text = unsafe { str::from_utf8_unchecked(text) };
     resume_at(text, pos, Settings { allow, strict })
+}
+
+/// What is at an offset, and the offset at which lexing continues after it.
+#[repr(C)]
+#[derive(Clone, Copy, Debug, PartialEq)]
+pub struct Step {
+    /// Token, end of the text, or lexical error at the offset.
+    pub found: Found,
+    /// Offset at which lexing continues: the end of the token, or of the bytes to skip after the
+    /// error.
+    pub next: usize,
+}
+
+/// Lexes the token at `pos`, and returns it with the offset at which lexing continues after it.
+///
+/// # Proved
+///
+/// ```text
+/// requires short { length text.now < 2 ^ 32 }
+/// requires boundary { IsCharBoundary text.now pos }
+/// requires marks { AreMarks (record { text = text.now; flags = settings }) marks.old }
+/// ensures found { FoundAt (record { text = text.now; flags = settings }) pos result.found }
+/// ensures one { (row : FoundRow) →
+///     FoundAt (record { text = text.now; flags = settings }) pos row → row ≡ result.found }
+/// ensures next { GoesOnAt (record { text = text.now; flags = settings }) pos result.next }
+/// ensures one_next { (place : ℕ) →
+///     GoesOnAt (record { text = text.now; flags = settings }) pos place → place ≡ result.next }
+/// ensures progress { pos < length text.now → pos < result.next }
+/// ensures boundary { IsCharBoundary text.now result.next }
+/// ensures marks { AreMarks (record { text = text.now; flags = settings }) marks.new }
+/// ```
+fn step_at(text: &str, pos: usize, settings: Settings, marks: &mut [u32]) -> Step {
+    let lexer = Lexer::with_settings(text, settings);
+    match lexer.scan_with_marks(pos, marks) {
+        Ok(Some(token)) => Step {
+            found: found_row(pos, Ok(Some(token))),
+            next: pos + token.len as usize,
+        },
+        Ok(None) => Step {
+            found: found_row(pos, Ok(None)),
+            next: pos,
+        },
+        Err(fault) => Step {
+            found: found_row(pos, Err(fault)),
+            next: lexer.resume(pos, fault),
+        },
+    }
+}
+
+/// Lexes the token at `pos` like `wat_scan`, and returns it with the result of `wat_resume`.
+/// `marks` records unclosed block comments between calls for one text, so that a loop from error to
+/// error does not search the rest of the text for the end of each of them. All marks must be 0
+/// before the first call, and only this function may change them. 32 of them suffice for every
+/// text.
+///
+/// # Proved
+///
+/// ```text
+/// requires utf8 { IsUtf8 text.now }
+/// requires short { length text.now < 2 ^ 32 }
+/// requires boundary { IsCharBoundary text.now pos }
+/// requires marks { AreMarks (setting text.now allow strict) marks.old }
+/// ensures found { FoundAt (setting text.now allow strict) pos result.found }
+/// ensures one { (row : FoundRow) →
+///     FoundAt (setting text.now allow strict) pos row → row ≡ result.found }
+/// ensures next { GoesOnAt (setting text.now allow strict) pos result.next }
+/// ensures one_next { (place : ℕ) →
+///     GoesOnAt (setting text.now allow strict) pos place → place ≡ result.next }
+/// ensures progress { pos < length text.now → pos < result.next }
+/// ensures boundary { IsCharBoundary text.now result.next }
+/// ensures marks { AreMarks (setting text.now allow strict) marks.new }
+/// ```
+#[unsafe(no_mangle)]
+pub unsafe extern "C" fn wat_next(
+    text: *const u8,
+    text_len: usize,
+    pos: usize,
+    allow: bool,
+    strict: bool,
+    marks: *mut u32,
+    marks_len: usize,
+) -> Step {
+    // SAFETY: `text` points to `text_len` values, by rule 1 of wat.h.
+    let text = unsafe { core::slice::from_raw_parts(text, text_len) };
+    // SAFETY: `marks` points to `marks_len` values, by rules 1 and 5 of wat.h.
+    let marks = unsafe { core::slice::from_raw_parts_mut(marks, marks_len) };
+
+    // SAFETY: rule 2 of wat.h.
+    let text = unsafe { str::from_utf8_unchecked(text) };
+    step_at(text, pos, Settings { allow, strict }, marks)
 }

@@ -65,7 +65,7 @@ fn has_backslash(word: &str) -> bool {
 /// ensures len { length result.now ≡ row.len }
 /// ensures ends { row.offset + row.len ≤ length text.now }
 /// ```
-fn source<'a>(text: &'a str, row: Row, kind: TokenKind) -> &'a str {
+pub(crate) fn source<'a>(text: &'a str, row: Row, kind: TokenKind) -> &'a str {
     wat_lex::proved::laws::tokens();
     token_of(row, kind).src(text)
 }

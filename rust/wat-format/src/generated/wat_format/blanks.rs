@@ -5,15 +5,16 @@ use crate::shim::prelude::*;
 use crate::proved::gap::Gap;
 use crate::shim::alloc::AllocError;
 
-/// 100 spaces, the longest indentation.
-const BLANKS: &str = "                                                                                                    ";
+/// 80 spaces.
+const BLANKS: &str =
+    "                                                                                ";
 
-/// Returns a string of `count` spaces, at most 100.
+/// Returns a string of `count` spaces, at most 80.
 ///
 /// # Proved
 ///
 /// ```text
-/// requires { count ≤ 100 }
+/// requires { count ≤ 80 }
 /// ensures { result.now ≡ replicate count 32 }
 /// ```
 fn blanks(count: usize) -> &'static str {
@@ -29,9 +30,9 @@ fn blanks(count: usize) -> &'static str {
 /// ```
 fn push_blanks(out: &mut String, count: usize) -> Result<(), AllocError> {
     let mut left = count;
-    while left > 100 {
-        out.push_str(blanks(100))?;
-        left -= 100;
+    while left > 80 {
+        out.push_str(blanks(80))?;
+        left -= 80;
     }
     out.push_str(blanks(left))
 }

@@ -14,7 +14,10 @@ mod shown;
 mod stretches;
 mod text;
 
+pub use pieces::Piece;
 pub use rendered::Rendered;
+pub use shown::Shown;
+pub use text::Excerpt;
 use text::Text;
 
 /// An error at a byte offset: a lexical error, a custom message, or an allocation failure.
@@ -235,7 +238,25 @@ impl Error {
             Kind::InText(located) => try_format!(alloc; "{}", located.reason),
         }
     }
+
+    /// Returns the source line of the error, or `None` if it has no source text. Does not allocate.
+    ///
+    /// # Proved
+    ///
+    /// ```text
+    /// ensures { result ≡ excerpt_of_error self.now }
+    /// ```
+    pub fn excerpt(&self) -> Option<Excerpt<'_>> {
+        match &self.kind {
+            Kind::Memory(_) | Kind::Plain { .. } => None,
+            Kind::InText(located) => Some(located.text.excerpt()),
+        }
+    }
 }
+
+/// The message of an error, without the position and the source line.
+#[derive(Clone, Copy)]
+pub struct Message<'a>(pub &'a Error);
 
 impl Located {
     /// Copies the line of `content` that contains the position, and puts it into a box with the
@@ -280,6 +301,17 @@ impl fmt::Display for Error {
             Kind::Memory(_) => write!(f, "out of memory"),
             Kind::Plain { span, message } => write!(f, "{message} at byte offset {}", span.offset),
             Kind::InText(located) => write!(f, "{}{}", located.reason, located.text),
+        }
+    }
+}
+
+impl fmt::Display for Message<'_> {
+    fn fmt(&self, f: &mut fmt::Formatter<'_>) -> fmt::Result {
+        let error = self.0;
+        match &error.kind {
+            Kind::Memory(_) => write!(f, "out of memory"),
+            Kind::Plain { message, .. } => write!(f, "{message}"),
+            Kind::InText(located) => write!(f, "{}", located.reason),
         }
     }
 }

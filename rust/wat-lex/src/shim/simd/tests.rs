@@ -148,6 +148,7 @@ fn a_block_is_the_first_sixteen_bytes() {
     assert_eq!(bytes!(target, block).as_slice(), &bytes[3..19]);
     let mask: Mask = block.simd_eq(u8x16::splat(3));
     assert_eq!(mask.to_bitmask(), 1);
+    assert!(mask.any() && !block.simd_eq(u8x16::splat(40)).any());
 }
 
 #[test]

@@ -22,11 +22,12 @@ const HEADER: [u8; 8] = [0x00, 0x61, 0x73, 0x6D, 0x01, 0x00, 0x00, 0x00];
 
 /// Returns the encoding of a module in the binary format.
 ///
-/// Sections without items are left out, and custom sections are not generated.
+/// Sections without content are left out, and custom sections are not generated.
 ///
 /// # Errors
 ///
-/// Fails if an allocation fails, or if the strings of a data segment have 2^63 bytes or more.
+/// Fails if an allocation fails, or if the strings of a data segment have 2^63 bytes or more
+/// together.
 ///
 /// # Proved
 ///

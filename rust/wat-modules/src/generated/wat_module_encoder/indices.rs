@@ -41,7 +41,7 @@ fn more(counts: Counts, space: IndexSpace) -> Counts {
     counts
 }
 
-/// Returns the number of items in an index space.
+/// Returns the number of items in an index space, according to `counts`.
 ///
 /// # Proved
 ///

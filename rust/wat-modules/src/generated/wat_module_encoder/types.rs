@@ -24,8 +24,8 @@ pub(crate) fn put_values(out: &mut Vec<u8>, types: &[ValueType]) -> Result<(), A
     Ok(())
 }
 
-/// Returns the type index of a type use: the one that it states, or the least index of its type
-/// among `types`.
+/// Returns the type index of a type use. If it states an index, that index; otherwise the least
+/// index of its function type in `types`, or the length of `types` if it is not there.
 ///
 /// # Proved
 ///

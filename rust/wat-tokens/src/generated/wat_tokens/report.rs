@@ -5,6 +5,7 @@ use crate::shim::{fmt, io};
 use crate::commands::ends::Failed;
 use crate::commands::named::Shown;
 use crate::commands::outcome::{Exit, Outcome};
+use crate::commands::printer::print;
 use crate::commands::respond::name_of;
 use crate::commands::run::RunFailure;
 
@@ -33,13 +34,17 @@ impl fmt::Display for Failure<'_> {
 
 /// Reports an outcome for a file, and returns the exit status.
 pub fn report(rt: &HostRuntime, file: &str, outcome: &Outcome<'_>) -> Exit {
-    let _ = outcome.report(rt.alloc(), Some(name_of(file)), &mut rt.stderr());
+    let _ = outcome.report(Some(name_of(file)), &mut rt.stderr());
     outcome.exit(true)
 }
 
 /// Reports a message that no outcome has, and returns the exit status 2.
 pub fn complain<D: fmt::Display>(rt: &HostRuntime, file: &str, what: &D) -> Exit {
-    let _ = try_eprintln!(rt; "wat_tokens: {}: {what}", Named(file));
+    let name = Named(file);
+    let _ = print(
+        &mut rt.stderr(),
+        format_args!("wat_tokens: {name}: {what}\n"),
+    );
     Outcome::Kept.exit(true)
 }
 
@@ -55,7 +60,8 @@ pub fn not_opened(rt: &HostRuntime, file: &str, error: &io::Error) -> Exit {
 
 /// Prints the name of a file that is not formatted, and returns the exit status.
 pub fn name(rt: &HostRuntime, file: &str) -> Exit {
-    match try_println!(rt; "{}", Named(file)) {
+    let name = Named(file);
+    match print(&mut rt.stdout(), format_args!("{name}\n")) {
         Ok(()) => Outcome::Differs.exit(true),
         Err(error) => not_written(rt, file, Failed::of(&error)),
     }

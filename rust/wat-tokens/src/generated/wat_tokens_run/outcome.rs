@@ -10,7 +10,8 @@ use wat_lex::proved::lexer::{LexError, Settings};
 use crate::options::complaint::Complaint;
 use crate::options::options::Task;
 use wat_format::lines::ends::{Failed, Sink, Source};
-use crate::lists::named::{Shown, named};
+use crate::lists::named::{FileReport, Shown};
+use crate::lists::printer::print;
 
 /// The outcome of a run on one file.
 pub enum Outcome<'a> {
@@ -191,25 +192,25 @@ impl<'a> Outcome<'a> {
     /// Writes the report of the outcome for the input `name`, or for standard input that is not
     /// named. A report is a line, an error with its location in the text, or empty.
     ///
+    /// Writes in blocks of up to 4,096 bytes. Does not allocate.
+    ///
     /// # Proved
     ///
     /// ```text
-    /// ensures { OnOk result (Tells (option_map (λ n. n.now) name.entry) self.now
-    /// (W.contents errors.old) (W.contents errors.new)) }
+    /// ensures { OnOk result (Appends (W.contents errors.old) (W.contents errors.new)
+    /// (report (option_map (λ n. n.now) name.entry) self.now)) }
     /// ```
-    pub fn report<W: io::Write>(
-        &self,
-        alloc: Global,
-        name: Option<&str>,
-        errors: &mut W,
-    ) -> io::Result<()> {
+    pub fn report<W: io::Write>(&self, name: Option<&str>, errors: &mut W) -> io::Result<()> {
         let file = OfFile(name);
         match self {
             Outcome::Listed | Outcome::Differs | Outcome::Kept => Ok(()),
-            Outcome::Faulty(error) => report_fault(alloc, name, error, errors),
+            Outcome::Faulty(error) => report_fault(name, error, errors),
             Outcome::Refused(failure) => report_refusal(name, *failure, errors),
-            Outcome::Unopened(failed) => writeln!(errors, "wat_tokens: {file}open failed{failed}"),
-            Outcome::Wrong(complaint) => writeln!(errors, "{complaint}"),
+            Outcome::Unopened(failed) => print(
+                errors,
+                format_args!("wat_tokens: {file}open failed{failed}\n"),
+            ),
+            Outcome::Wrong(complaint) => print(errors, format_args!("{complaint}\n")),
         }
     }
 }
@@ -229,32 +230,30 @@ fn report_refusal<W: io::Write>(
     errors: &mut W,
 ) -> io::Result<()> {
     match name {
-        None => writeln!(errors, "wat_tokens: {}", RunError::from(failure)),
+        None => {
+            let error = RunError::from(failure);
+            print(errors, format_args!("wat_tokens: {error}\n"))
+        }
         Some(_) if is_closed_output(true, failure) => Ok(()),
-        Some(_) => writeln!(errors, "wat_tokens: {}{failure}", OfFile(name)),
+        Some(_) => {
+            let file = OfFile(name);
+            print(errors, format_args!("wat_tokens: {file}{failure}\n"))
+        }
     }
 }
 
-/// Writes an error with its location in the text, and its hint if the input has a name. If
-/// allocating the report of a named input fails, writes a report of the allocation failure instead.
+/// Writes an error with its location in the text, and its hint if the input has a name.
 ///
 /// # Proved
 ///
 /// ```text
-/// ensures { OnOk result (TellsFault (option_map (λ n. n.now) name.entry) error.now
-/// (W.contents errors.old) (W.contents errors.new)) }
+/// ensures { OnOk result (Appends (W.contents errors.old) (W.contents errors.new)
+/// (fault_report (option_map (λ n. n.now) name.entry) error.now)) }
 /// ```
-fn report_fault<W: io::Write>(
-    alloc: Global,
-    name: Option<&str>,
-    error: &Error,
-    errors: &mut W,
-) -> io::Result<()> {
-    let Some(file) = name else {
-        return writeln!(errors, "{error}");
+fn report_fault<W: io::Write>(name: Option<&str>, error: &Error, errors: &mut W) -> io::Result<()> {
+    let Some(name) = name else {
+        return print(errors, format_args!("{error}\n"));
     };
-    match named(alloc, file, error) {
-        Ok(text) => writeln!(errors, "{text}{}", hint(error)),
-        Err(refused) => report_refusal(name, RunFailure::from(refused), errors),
-    }
+    let report = FileReport { name, error };
+    print(errors, format_args!("{report}{}\n", hint(error)))
 }

@@ -13,20 +13,21 @@ use crate::options::options::{Command, FileNames, Mode, Task, file_in_question, 
 use wat_format::lines::ends::{Failed, Sink, Source};
 use crate::lists::named::Shown;
 
-/// The files of the environment, and its standard output.
+/// The environment of a command: its files, the subcommand `fmt`, which formats files, and whether
+/// standard output is a terminal.
 pub trait Inputs {
-    /// The source of an open file.
+    /// A file that [`Inputs::open`] opened.
     type Input: Source;
 
-    /// The sink of an output file.
+    /// A file being written, from `create`.
     type Output: Sink;
 
-    // What opening a file of this name returns: its bytes, or a failure. `None` if the environment
-    // does not specify it.
+    // What opening a file of this name returns: its bytes or a failure, or `None` if the
+    // implementation does not specify it. `Found` is an `Option`.
 
-    // Whether a file of this name exists; `None` if the environment does not specify it.
+    // Whether a file of this name exists; `None` if the implementation does not specify it.
 
-    // Whether standard output is a terminal; `None` if the environment does not specify it.
+    // Whether standard output is a terminal; `None` if the implementation does not specify it.
 
     // The sink writes to the file of this name.
 
@@ -99,24 +100,20 @@ pub fn name_of(file: &str) -> &str {
     if file == "-" { "<stdin>" } else { file }
 }
 
-/// Reports an outcome and returns its exit status. Ignores failures to write the report.
+/// Reports an outcome and returns its exit status, which also depends on whether there is a `name`.
+/// Ignores failures to write the report.
 ///
 /// # Proved
 ///
 /// ```text
 /// ensures { exit_code result ≡ status (is_some name.entry) outcome.now }
 /// ```
-fn reported<E: io::Write>(
-    alloc: Global,
-    outcome: &Outcome<'_>,
-    name: Option<&str>,
-    errors: &mut E,
-) -> Exit {
-    let _ = outcome.report(alloc, name, errors);
+fn reported<E: io::Write>(outcome: &Outcome<'_>, name: Option<&str>, errors: &mut E) -> Exit {
+    let _ = outcome.report(name, errors);
     outcome.exit(name.is_some())
 }
 
-/// Returns the file name for lines of JSON, or `None` if there is only one file.
+/// Returns the name of a file in lines of JSON, or `None` if there is only one file.
 ///
 /// # Proved
 ///
@@ -127,7 +124,7 @@ fn label(several: bool, file: &str) -> Option<&str> {
     if several { Some(name_of(file)) } else { None }
 }
 
-/// The position of a file among the files of a command.
+/// What `write_head` needs to know about the other files of a command.
 #[derive(Clone, Copy)]
 struct Turn {
     /// `true` if the command has several files.
@@ -136,7 +133,7 @@ struct Turn {
     begun: bool,
 }
 
-/// Returns `true` if the task is a list that is not JSON.
+/// Returns `true` for the two tasks that print a line of text for each token.
 ///
 /// # Proved
 ///
@@ -147,9 +144,9 @@ fn is_plain_list(task: &Task<'_>) -> bool {
     matches!(task, Task::List | Task::Sig(_))
 }
 
-/// Writes the line that names a file before its list, if there are several files and their lists
-/// are not JSON. If an earlier file was opened, an empty line comes first, even if the line that
-/// names the earlier file is missing because its allocation failed.
+/// Writes a line with the name of a file if there are several files and the task prints a line of
+/// text for each token. If an earlier file was opened, an empty line comes first, even if nothing
+/// was written for that file because an allocation failed.
 ///
 /// # Proved
 ///
@@ -179,8 +176,8 @@ fn write_head<W: Sink>(
     }
 }
 
-/// Runs a task on a file and returns the outcome. If there are several files, lines of JSON contain
-/// the file name, and a line with the name precedes any other list.
+/// Runs a task on a file and returns the outcome. If there are several files, each line of JSON
+/// contains the file name, and a list that is not JSON follows a line with the name.
 ///
 /// # Proved
 ///
@@ -256,7 +253,7 @@ fn run_files<I: Inputs, W: Sink, E: io::Write>(
         let turn = Turn { several, begun };
         let outcome = run_file(alloc, settings, task, turn, inputs, file, output);
         begun |= was_opened(&outcome);
-        worst = worst.or(reported(alloc, &outcome, Some(name_of(file)), errors));
+        worst = worst.or(reported(&outcome, Some(name_of(file)), errors));
     }
     worst
 }
@@ -291,7 +288,7 @@ fn run_all<I: Inputs, W: Sink, E: io::Write>(
         begun: false,
     };
     let outcome = run_file(alloc, settings, task, turn, inputs, "-", output);
-    reported(alloc, &outcome, None, errors)
+    reported(&outcome, None, errors)
 }
 
 /// Returns the first of the files, or `-` if no file is named.
@@ -335,7 +332,7 @@ fn run_into<I: Inputs, E: io::Write>(
         Ok(output) => output,
         Err(refused) => {
             let failure = RunFailure::from(refused);
-            return reported(alloc, &Outcome::Refused(failure), Some(target), errors);
+            return reported(&Outcome::Refused(failure), Some(target), errors);
         }
     };
     let turn = Turn {
@@ -347,7 +344,7 @@ fn run_into<I: Inputs, E: io::Write>(
         Outcome::Refused(RunFailure::Write(_)) => target,
         _ => name_of(file),
     };
-    reported(alloc, &outcome, Some(name), errors)
+    reported(&outcome, Some(name), errors)
 }
 
 /// Runs `fmt` on each file in one of its modes, and returns the greatest exit status.
@@ -410,8 +407,8 @@ fn say<W: Sink>(text: &str, output: &mut W) -> Outcome<'static> {
     }
 }
 
-/// Returns `false` if the first word after the leading options is neither an option nor a command,
-/// is not recognizable as a file name (`file_in_question`), and names no existing file.
+/// Returns `false` if the first word after leading options must be a misspelled command: it is not
+/// a command, not `-`, has neither `.` nor `/`, and no file has this name.
 ///
 /// # Proved
 ///
@@ -440,9 +437,9 @@ fn target_file(target: Option<&str>) -> Option<&str> {
     }
 }
 
-/// Runs a task on each file, and writes to standard output. With `-o` it runs on the only file, and
-/// writes to the file that `-o` names, or to standard output if that is `-`. Reports each outcome
-/// and returns the greatest exit status.
+/// Runs a task on each file, and writes to standard output. With `-o` it runs on the only file, or
+/// on standard input, and writes to the file that `-o` names, or to standard output if that is `-`.
+/// Reports each outcome and returns the greatest exit status.
 ///
 /// # Proved
 ///
@@ -482,8 +479,8 @@ fn run_to<I: Inputs, W: Sink, E: io::Write>(
     }
 }
 
-/// Returns `true` if a command is `types` or `module` without `-o`, so that it writes bytes of a
-/// module to standard output. With `-o -` the result is `false`.
+/// Returns `true` for the commands `types` and `module` without `-o`, which write a binary module
+/// to standard output. `-o -` writes it there too, but on purpose: the result is `false`.
 ///
 /// # Proved
 ///
@@ -541,8 +538,8 @@ fn act<I: Inputs, W: Sink, E: io::Write>(
             alloc, *settings, task, *target, inputs, *files, output, errors,
         ),
         Command::Format(settings, mode, files) => run_fmt_all(*settings, *mode, inputs, *files),
-        Command::Help => reported(alloc, &say(help(), output), None, errors),
-        Command::Version => reported(alloc, &say(version(), output), None, errors),
+        Command::Help => reported(&say(help(), output), None, errors),
+        Command::Version => reported(&say(version(), output), None, errors),
     }
 }
 
@@ -573,22 +570,22 @@ pub fn respond<I: Inputs, W: Sink, E: io::Write>(
 ) -> Exit {
     if !file_in_question_exists(words, inputs) {
         let complaint = complaint_of(words, false);
-        return reported(alloc, &Outcome::Wrong(complaint), None, errors);
+        return reported(&Outcome::Wrong(complaint), None, errors);
     }
     match read_words(alloc, words) {
         Ok(Some(command)) => {
             if !is_output_allowed(&command, inputs) {
-                return reported(alloc, &Outcome::Wrong(Complaint::Terminal), None, errors);
+                return reported(&Outcome::Wrong(Complaint::Terminal), None, errors);
             }
             act(alloc, &command, inputs, output, errors)
         }
         Ok(None) => {
             let complaint = complaint_of(words, true);
-            reported(alloc, &Outcome::Wrong(complaint), None, errors)
+            reported(&Outcome::Wrong(complaint), None, errors)
         }
         Err(refused) => {
             let failure = RunFailure::from(refused);
-            reported(alloc, &Outcome::Refused(failure), None, errors)
+            reported(&Outcome::Refused(failure), None, errors)
         }
     }
 }

@@ -1,4 +1,4 @@
-use Rattle.std.proofs.Common.{◌≡◌, ◌≢◌, ◌∷◌, [], ℕ, List, zero, suc, length, ◌≤◌, Bool, true, false, get_or, ap, ◌∙◌, sym, inl, inr, cond, arith, rules, refl}
+use Rattle.std.proofs.Common.{◌≡◌, ◌≢◌, ◌∷◌, [], ℕ, List, length, ◌≤◌, true, false, get_or, ap, ◌∙◌, sym, inl, inr, cond, arith, rules}
 use Rattle.std.proofs.lemmas.Bool.Decides.{eqb_tells}
 use Rattle.std.specs.List.{prefix_len}
 use Rattle.std.specs.Prelude.{◌==◌, if◌then◌else◌, ◌+◌}

@@ -32,7 +32,7 @@ pub enum Piece<'a> {
 /// ```text
 /// ensures { WritesOnOk W.write_str_gives f.old result (flat_map piece_text pieces.now) f.new }
 /// ```
-pub fn print(pieces: &[Piece], f: &mut fmt::Formatter<'_>) -> fmt::Result {
+pub(crate) fn print(pieces: &[Piece], f: &mut fmt::Formatter<'_>) -> fmt::Result {
     for piece in pieces {
         write!(f, "{piece}")?;
     }
@@ -48,7 +48,7 @@ pub fn print(pieces: &[Piece], f: &mut fmt::Formatter<'_>) -> fmt::Result {
 /// requires { at ≤ length out.old }
 /// ensures { WritesAfter out.old at (flat_map piece_text pieces.now) out.new result }
 /// ```
-pub fn write_chunks(pieces: &[Piece], out: &mut [u8], at: usize) -> usize {
+pub(crate) fn write_chunks(pieces: &[Piece], out: &mut [u8], at: usize) -> usize {
     let mut at = at;
     for piece in pieces {
         at = piece.lay(out, at);
@@ -64,7 +64,7 @@ pub fn write_chunks(pieces: &[Piece], out: &mut [u8], at: usize) -> usize {
 /// requires { length (flat_map piece_text pieces.now) < 2 ^ 64 }
 /// ensures { result ≡ length (flat_map piece_text pieces.now) }
 /// ```
-pub fn length_of(pieces: &[Piece]) -> usize {
+pub(crate) fn length_of(pieces: &[Piece]) -> usize {
     let mut length = 0;
     for piece in pieces {
         length += piece.length();

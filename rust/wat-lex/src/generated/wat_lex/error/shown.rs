@@ -7,7 +7,7 @@ use crate::proved::lexer::is_confusing;
 use core::fmt;
 
 use core::str::Chars;
-use crate::shim::unicode_width::{UnicodeWidthStr, char_iter_width};
+use crate::shim::unicode_width::{UnicodeWidthChar, UnicodeWidthStr, char_iter_width};
 
 /// The number of spaces that a TAB is displayed as.
 const TAB: usize = 4;
@@ -32,15 +32,50 @@ impl<'a> Shown<'a> {
     /// # Proved
     ///
     /// ```text
-    /// ensures { encode_utf8_all result ≡ rendered_line line.now }
+    /// ensures bytes { encode_utf8_all result ≡ rendered_line line.now }
+    /// ensures characters { result ≡ chars (rendered_line line.now) }
     /// ```
-    pub fn of(line: &'a str) -> Shown<'a> {
+    pub(crate) fn of(line: &'a str) -> Shown<'a> {
         Shown {
             front: 0,
             chars: line.chars(),
             back: 0,
         }
     }
+
+    /// Skips characters until their columns are `columns` or more. Returns `column`, the column of
+    /// an error, reduced by the columns of the skipped characters.
+    ///
+    /// # Proved
+    ///
+    /// ```text
+    /// ensures rest { self.new ≡ (past_columns columns column self.old).0 }
+    /// ensures column { result ≡ (past_columns columns column self.old).1 }
+    /// ```
+    pub fn skip_columns(&mut self, columns: usize, column: usize) -> usize {
+        let mut left = columns;
+        let mut column = column;
+        'characters: while left > 0 {
+            let Some(c) = self.next() else {
+                return column;
+            };
+            let width = width_alone(c);
+            left = left.saturating_sub(width);
+            column = column.saturating_sub(width);
+        }
+        column
+    }
+}
+
+/// Returns the columns of a single character. A control character has one.
+///
+/// # Proved
+///
+/// ```text
+/// ensures { result ≡ width_alone c }
+/// ```
+fn width_alone(c: char) -> usize {
+    c.width().unwrap_or(1)
 }
 
 impl<'a> Iterator for Shown<'a> {
@@ -104,7 +139,7 @@ impl fmt::Display for Line<'_> {
 /// ensures columns { result ≡ columns (rendered_line line.now) bytes }
 /// ensures bound { result ≤ 2 * bytes }
 /// ```
-pub fn columns(line: &str, bytes: usize) -> usize {
+pub(crate) fn columns(line: &str, bytes: usize) -> usize {
     if begins_by_columns(line, bytes) {
         return bytes;
     }

@@ -3,7 +3,7 @@
 
 use crate::shim::prelude::*;
 use crate::proved::error::pieces::{Piece, print};
-use crate::proved::error::shown::{Line, columns};
+use crate::proved::error::shown::{Line, Shown, columns};
 use crate::proved::token::Span;
 use memchr::memchr;
 use crate::shim::alloc::{AllocError, Global};
@@ -30,7 +30,7 @@ impl<'a> Excerpt<'a> {
     /// ```text
     /// ensures { result ≡ excerpt contents.now span }
     /// ```
-    pub fn new(contents: &'a str, span: Span) -> Excerpt<'a> {
+    pub(crate) fn new(contents: &'a str, span: Span) -> Excerpt<'a> {
         let (line, column) = span.linecol_in(contents);
         let source = line_at(contents, span.offset(), column);
         let column = columns(source, column);
@@ -39,6 +39,41 @@ impl<'a> Excerpt<'a> {
             column: column + 1,
             source: Line(source),
         }
+    }
+}
+
+impl<'a> Excerpt<'a> {
+    /// Returns the line, counted from 1.
+    ///
+    /// # Proved
+    ///
+    /// ```text
+    /// ensures { result ≡ self.now.line }
+    /// ```
+    pub fn line(&self) -> usize {
+        self.line
+    }
+
+    /// Returns the column, counted from 1, in the displayed form of the line.
+    ///
+    /// # Proved
+    ///
+    /// ```text
+    /// ensures { result ≡ self.now.column }
+    /// ```
+    pub fn column(&self) -> usize {
+        self.column
+    }
+
+    /// Returns an iterator over the displayed characters of the line.
+    ///
+    /// # Proved
+    ///
+    /// ```text
+    /// ensures { result ≡ chars self.now.snippet }
+    /// ```
+    pub fn characters(&self) -> Shown<'a> {
+        Shown::of(self.source.0)
     }
 }
 
@@ -95,13 +130,28 @@ impl Text {
     /// ```text
     /// ensures { IfOk result (λ text. excerpt_of text ≡ excerpt contents.now span) }
     /// ```
-    pub fn new(alloc: Global, contents: &str, span: Span) -> Result<Text, AllocError> {
+    pub(crate) fn new(alloc: Global, contents: &str, span: Span) -> Result<Text, AllocError> {
         let excerpt = Excerpt::new(contents, span);
         Ok(Text {
             line: excerpt.line,
             column: excerpt.column,
             source: String::from_str(alloc, excerpt.source.0)?,
         })
+    }
+
+    /// Returns a borrowed copy.
+    ///
+    /// # Proved
+    ///
+    /// ```text
+    /// ensures { result ≡ excerpt_of self.now }
+    /// ```
+    pub(crate) fn excerpt(&self) -> Excerpt<'_> {
+        Excerpt {
+            line: self.line,
+            column: self.column,
+            source: Line(self.source.as_str()),
+        }
     }
 }
 
@@ -114,7 +164,7 @@ impl<'a> Excerpt<'a> {
     /// ```text
     /// ensures { flat_map piece_text result ≡ rendered_location self.now }
     /// ```
-    pub fn pieces(&self) -> [Piece<'a>; 10] {
+    pub(crate) fn pieces(&self) -> [Piece<'a>; 10] {
         let line = Piece::Decimal(self.line);
         let column = Piece::Decimal(self.column);
         let colon = Piece::Text(":");
@@ -146,11 +196,6 @@ impl fmt::Display for Excerpt<'_> {
 
 impl fmt::Display for Text {
     fn fmt(&self, f: &mut fmt::Formatter<'_>) -> fmt::Result {
-        let excerpt = Excerpt {
-            line: self.line,
-            column: self.column,
-            source: Line(self.source.as_str()),
-        };
-        write!(f, "{excerpt}")
+        write!(f, "{}", self.excerpt())
     }
 }

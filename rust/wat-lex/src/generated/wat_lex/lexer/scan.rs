@@ -9,7 +9,7 @@ use crate::proved::lexer::scan::classes::{
     idchar_len, idchar_len_by_block, is_idchar, is_run_char, keyword_len, whitespace_len, word_len,
 };
 use crate::proved::lexer::scan::comments::{
-    block_comment, block_comment_len, line_comment, line_comment_len,
+    block_comment, block_comment_len, line_comment, line_comment_len, short_block_comment_len,
 };
 use crate::proved::lexer::scan::runs::{
     classify_word, decimal_kind, letters_kind, long_number_kind, run, run_outline,
@@ -275,8 +275,12 @@ fn scan_run(text: &str, pos: usize, start: Start, flags: &Settings, stride: Stri
 /// ```
 #[inline(always)]
 fn opened(text: &str, pos: usize, flags: &Settings) -> Found {
-    if byte_at(&text.as_bytes()[pos..], 1) != b';' {
+    let bytes = &text.as_bytes()[pos..];
+    if byte_at(bytes, 1) != b';' {
         return lexeme(TokenKind::LParen, 1);
+    }
+    if let Some(len) = short_block_comment_len(bytes) {
+        return lexeme(TokenKind::BlockComment, len);
     }
     match block_comment_len(&text[pos..], *flags) {
         Some(len) => lexeme(TokenKind::BlockComment, len),

@@ -3,9 +3,14 @@
 
 use wat_lex::shim::prelude::*;
 use wat_lex::shim::alloc::{AllocError, AllocFailed, Global};
+use wat_lex::shim::borrow::CowStr;
 use wat_lex::shim::collections::BTreeMap;
 
 use wat_lex::proved::lexer::Token;
+
+/// The greatest number of registered names with each of which the name of an annotation is
+/// compared. Among more names it is looked up.
+const FEW: usize = 16;
 
 /// The registered annotation names, each with its number of registrations.
 pub struct Names {
@@ -74,6 +79,24 @@ fn has_key(counts: &BTreeMap<String, usize>, text: &str, token: Token) -> bool {
     counts.keys().any(|key| names_it(text, token, key.as_str()))
 }
 
+/// Returns the name of an annotation, or `None` if it is invalid or an allocation fails. Allocates
+/// only if the name has an escape.
+///
+/// # Proved
+///
+/// ```text
+/// requires token { IsTokenOf text.now token }
+/// requires kind { token.kind ≡ Annotation }
+/// ensures { IfSome result (λ name.
+///     name_value EmptyAnnotation (word_of text.now token) ≡ Ok (cow_str_bytes name)) }
+/// ```
+fn name_of<'a>(alloc: Global, text: &'a str, token: Token) -> Option<CowStr<'a>> {
+    match token.name(alloc, text) {
+        Ok(Ok(name)) => Some(name),
+        Ok(Err(_)) | Err(_) => None,
+    }
+}
+
 impl Names {
     /// Creates an empty set of names.
     ///
@@ -135,8 +158,9 @@ impl Names {
         self.count(name) > 0
     }
 
-    /// Returns `true` if an annotation's name is registered. Compares it with each registered name,
-    /// and does not allocate.
+    /// Returns `true` if an annotation's name is registered. Allocates only if more than 16 names
+    /// are registered and the name has an escape. If that fails, or if fewer names are registered,
+    /// it compares the name with each of them.
     ///
     /// # Proved
     ///
@@ -146,8 +170,14 @@ impl Names {
     /// ensures { (x : List ℕ) → name_value EmptyAnnotation (word_of text.now token) ≡ Ok x →
     ///     result ≡ is_registered self.now x }
     /// ```
-    pub fn has_name_of(&self, text: &str, token: Token) -> bool {
-        has_key(&self.counts, text, token)
+    pub fn has_name_of(&self, alloc: Global, text: &str, token: Token) -> bool {
+        if self.counts.len() <= FEW {
+            return has_key(&self.counts, text, token);
+        }
+        match name_of(alloc, text, token) {
+            Some(name) => self.is_registered(name.as_str()),
+            None => has_key(&self.counts, text, token),
+        }
     }
 
     /// Sets the number of registrations of a registered name. `times` must not be 0.

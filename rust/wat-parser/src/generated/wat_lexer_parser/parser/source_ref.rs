@@ -101,7 +101,8 @@ impl<'a> SourceRef<'a> {
         }
     }
 
-    /// Returns the token visible at a position, and the position after it. Does not allocate.
+    /// Returns the token visible at a position, and the position after it. Allocates only if more
+    /// than 16 names are registered and an annotation's name has an escape.
     ///
     /// # Proved
     ///

@@ -5,6 +5,7 @@ use wat_lex::shim::prelude::*;
 use crate::proved::parser::fault::{Fault, FaultKind, Step};
 use crate::proved::parser::names::Names;
 use crate::proved::parser::table::is_quoted;
+use wat_lex::shim::alloc::Global;
 use wat_lex::proved::lexer::{LexError, LexFault, Token, TokenKind};
 
 /// Returns the error that a peek reports for a lexical error.
@@ -93,8 +94,8 @@ pub fn is_unregistered(text: &str, token: Token, names: &Names) -> bool {
     token.len > 1
 }
 
-/// Returns the effect of a `(` that is followed by an annotation, by its name. Does not allocate: a
-/// name with escapes is compared with each registered name while it is decoded.
+/// Returns the effect of a `(` that is followed by an annotation, by its name. Allocates only if
+/// many names are registered and the name has an escape (`Names::has_name_of`).
 ///
 /// # Proved
 ///
@@ -104,14 +105,14 @@ pub fn is_unregistered(text: &str, token: Token, names: &Names) -> bool {
 /// requires short { token.offset < 2 ^ 32 }
 /// ensures { result ≡ step_named names.now token (name_at text.now token) }
 /// ```
-pub fn step_annotation(text: &str, token: Token, names: &Names) -> Step {
+pub fn step_annotation(alloc: Global, text: &str, token: Token, names: &Names) -> Step {
     if is_unregistered(text, token, names) {
         return Step::Skip;
     }
     match token.name_fault(text) {
         Some(error) => step_of_invalid_name(error, token),
         None => {
-            if names.has_name_of(text, token) {
+            if names.has_name_of(alloc, text, token) {
                 Step::Take
             } else {
                 Step::Skip
@@ -120,7 +121,7 @@ pub fn step_annotation(text: &str, token: Token, names: &Names) -> Step {
     }
 }
 
-/// Returns `true` if the group of an annotation is skipped. Does not allocate.
+/// Returns `true` if the group of an annotation is skipped. Allocates like [`step_annotation`].
 ///
 /// # Proved
 ///
@@ -131,9 +132,9 @@ pub fn step_annotation(text: &str, token: Token, names: &Names) -> Step {
 /// ensures { IsTrue result → step_named names.now token (name_at text.now token) ≡ Skip }
 /// ```
 #[inline(always)]
-pub fn is_skipped_annotation(text: &str, token: Token, names: &Names) -> bool {
+pub fn is_skipped_annotation(alloc: Global, text: &str, token: Token, names: &Names) -> bool {
     if is_unregistered(text, token, names) {
         return true;
     }
-    matches!(step_annotation(text, token, names), Step::Skip)
+    matches!(step_annotation(alloc, text, token, names), Step::Skip)
 }

@@ -147,7 +147,7 @@ impl<'a> TextRef<'a> {
     fn step_marked(&self, place: usize, byte: usize, names: &Names) -> Step {
         match self.token_at(place, byte) {
             Ok(Some(token)) => match token.kind {
-                TokenKind::Annotation => step_annotation(self.text(), token, names),
+                TokenKind::Annotation => step_annotation(self.alloc, self.text(), token, names),
                 _ => Step::Take,
             },
             Ok(None) => Step::Finish,
@@ -181,8 +181,9 @@ impl<'a> TextRef<'a> {
         }
     }
 
-    /// Returns the token visible at a position, and the position after it. Does not allocate. The
-    /// group of an unregistered annotation is lexed again by every call.
+    /// Returns the token visible at a position, and the position after it. Allocates only if more
+    /// than 16 names are registered and an annotation's name has an escape. The group of an
+    /// unregistered annotation is lexed again by every call.
     ///
     /// # Proved
     ///
@@ -508,8 +509,9 @@ impl<'a> TextRef<'a> {
         let Some(name) = self.some_token_at(place, byte) else {
             return None;
         };
+        let text = self.text();
         match name.kind {
-            TokenKind::Annotation if is_skipped_annotation(self.text(), name, names) => {
+            TokenKind::Annotation if is_skipped_annotation(self.alloc, text, name, names) => {
                 Some((place + 1, name.offset + name.len as usize))
             }
             _ => None,

@@ -22,6 +22,16 @@ elements-preserved-in-Some c =
           (reading_element c.args.elements.now rest c.elements.value.items after (c.in-Some.byte ∷ []) c.elements.invariant.1 c.in-Some.ensures.element c.in-Some.ensures.utf8),
     )
 
+pub elements-preserved-in-Some-letter_escape : goal.elements-preserved-in-Some-letter_escape
+elements-preserved-in-Some-letter_escape c =
+    let rest = c.elements.rest.now in
+    let after = c.in-Some-letter_escape.after.now in (
+      c.in-Some-letter_escape.ensures.utf8,
+      subst (Reading c.args.elements.now after) (sym c.in_ok-push-2.ensures.items)
+          (reading_element c.args.elements.now rest c.elements.value.items after (c.in-Some-letter_escape.byte ∷ []) c.elements.invariant.1 c.in-Some-letter_escape.ensures.element
+          c.in-Some-letter_escape.ensures.utf8),
+    )
+
 pub elements-preserved-in-Some-eq0 : goal.elements-preserved-in-Some-eq0
 elements-preserved-in-Some-eq0 c =
     let rest = c.elements.rest.now in

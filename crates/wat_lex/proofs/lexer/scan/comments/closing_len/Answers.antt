@@ -1,76 +1,64 @@
-use Rattle.std.proofs.Common.{arith, ◌≡◌, ◌≤◌, ◌+◌, ◌-◌, ℕ, List, length, take, drop, ap, ◌∙◌, subst, length-drop}
-use Rattle.std.specs.List.{prefix_len}
-use Rattle.std.proofs.lemmas.List.{drop_all, take_rest}
-use Rattle.std.proofs.lemmas.List.Sums.{prefix_len-le-length}
-use Rattle.wat_lex.specs.inside.Blocks.{other_than_semicolon}
+use Rattle.std.proofs.Common.{arith, ◌+◌, ◌-◌, drop, subst}
+use Rattle.std.proofs.lemmas.List.{drop_all}
 use Rattle.wat_lex.specs.inside.Nesting.{Reaches}
-use Rattle.wat_lex.proofs.grammar.Comments.{open_at, close_at, other_at, semicolon_reached, before_semicolon_reached, none_closes, all_closed}
+use Rattle.wat_lex.proofs.grammar.Comments.{open_at, close_at, other_at, none_closes, all_closed}
+use Rattle.wat_lex.proofs.inside.Nesting.{past_stretch}
 use Rattle.wat_lex.proofs.lexer.scan.comments.closing_len.Goals as goal
-use Rattle.wat_lex.proofs.lexer.scan.comments.closing_len.Goals.{else-text-i-eq40-via-then-text-i-eq40+then-i-text+else-text-i-eq59, else-text-i-eq40-via-then-text-i-eq40+else-i-text, else-text-i-eq40-via-else-text-i-eq40}
-use Rattle.wat_lex.proofs.lexer.scan.comments.closing_len.Goals.{else-text-i-eq59-2-via-then-text-i-eq59-2+then-i-text-2+else-text-i-eq41, else-text-i-eq59-2-via-then-text-i-eq59-2+else-i-text-2, else-text-i-eq59-2-via-else-text-i-eq59-2}
-use Rattle.wat_lex.proofs.lexer.scan.comments.closing_len.Goals.{else-i-next-via-then-i-next+else-text-i-eq40-2, else-i-next-via-else-i-next}
+use Rattle.wat_lex.proofs.lexer.scan.comments.closing_len.Goals.{else-i-text-via-then-i-text+then-text-i-eq40+else-text-i-eq59, else-i-text-via-then-i-text+else-text-i-eq40, else-i-text-via-else-i-text}
+use Rattle.wat_lex.proofs.lexer.scan.comments.closing_len.Goals.{else-i-text-2-via-then-i-text-2+then-text-i-eq59-2+else-text-i-eq41, else-i-text-2-via-then-i-text-2+else-text-i-eq59-2, else-i-text-2-via-else-i-text-2}
 
-counted : (s : List ℕ) (i m : ℕ) → m ≡ prefix_len other_than_semicolon (take (length s - i) (drop i s)) → m ≡ prefix_len other_than_semicolon (drop i s)
-counted s i m e = e ∙ ap (prefix_len other_than_semicolon) (take_rest s i)
+pub past_blocks-requires-clause-reaches : goal.past_blocks-requires-clause-reaches
+past_blocks-requires-clause-reaches c =
+    let s = c.args.text.now in
+    let n = c.next_delimiter-i.ensures in
+    let here = past_stretch s c.loop-i.i c.next_delimiter-i.result c.loop-i.level n.on n.range c.loop-i.invariant.some n.none c.loop-i.invariant.reaches in
+    open_at s c.next_delimiter-i.result c.loop-i.level c.if-i-text.true c.if-text-i-eq40.true c.if-text-i-eq59.true c.loop-i.invariant.some here
 
-within : (s : List ℕ) (i m : ℕ) → i ≤ length s → m ≡ prefix_len other_than_semicolon (take (length s - i) (drop i s)) → i + m ≤ length s
-within s i m l e = omega (arith, counted s i m e, prefix_len-le-length other_than_semicolon (drop i s), length-drop i s)
-
-pub past_blocks-opened-requires-clause-reaches : goal.past_blocks-opened-requires-clause-reaches
-past_blocks-opened-requires-clause-reaches c =
-    open_at c.args.text.now c.loop-i.i c.loop-i.level c.if-i-text.true c.if-text-i-eq40.true c.if-text-i-eq59.true c.loop-i.invariant.some c.loop-i.invariant.reaches
+pub loop-i-preserved-else-level-gt16 : goal.loop-i-preserved-else-level-gt16
+loop-i-preserved-else-level-gt16 c =
+    let s = c.args.text.now in
+    let n = c.next_delimiter-i.ensures in
+    let here = past_stretch s c.loop-i.i c.next_delimiter-i.result c.loop-i.level n.on n.range c.loop-i.invariant.some n.none c.loop-i.invariant.reaches in
+    record {
+      some = omega arith;
+      few = omega (arith, n.on, c.loop-i.invariant.few);
+      range = omega (arith, c.if-i-text.true);
+      reaches = open_at s c.next_delimiter-i.result c.loop-i.level c.if-i-text.true c.if-text-i-eq40.true c.if-text-i-eq59.true c.loop-i.invariant.some here;
+    }
 
 pub returns-then-level-eq0-clause-found : goal.returns-then-level-eq0-clause-found
 returns-then-level-eq0-clause-found c =
-    all_closed c.args.text.now (c.loop-i.level - 1) (drop (c.loop-i.i + 2) c.args.text.now) c.if-level-eq0.true
-    (close_at c.args.text.now c.loop-i.i c.loop-i.level c.if-i-text-2.true c.if-text-i-eq59-2.true c.if-text-i-eq41.true c.loop-i.invariant.some c.loop-i.invariant.reaches)
+    let s = c.args.text.now in
+    let n = c.next_delimiter-i.ensures in
+    let here = past_stretch s c.loop-i.i c.next_delimiter-i.result c.loop-i.level n.on n.range c.loop-i.invariant.some n.none c.loop-i.invariant.reaches in
+    all_closed s (c.loop-i.level - 1) (drop (c.next_delimiter-i.result + 2) s) c.if-level-eq0.true
+    (close_at s c.next_delimiter-i.result c.loop-i.level c.if-i-text-2.true c.if-text-i-eq59-2.true c.if-text-i-eq41.true c.loop-i.invariant.some here)
 
 pub loop-i-preserved-then-text-i-eq41 : goal.loop-i-preserved-then-text-i-eq41
-loop-i-preserved-then-text-i-eq41 c = record {
-  some = omega arith;
-  few = omega arith;
-  range = omega arith;
-  reaches = close_at c.args.text.now c.loop-i.i c.loop-i.level c.if-i-text-2.true c.if-text-i-eq59-2.true c.if-text-i-eq41.true c.loop-i.invariant.some c.loop-i.invariant.reaches;
-}
-
-pub overflow_add-i-else-text-i-eq59-2 : goal.overflow_add-i-else-text-i-eq59-2
-overflow_add-i-else-text-i-eq59-2 c =
-    let w = within c.args.text.now (c.loop-i.i + 1) _ (omega arith) c.semicolon_by_block.ensures in
-    record { fits = omega (arith, w) }
-
-pub bounds-text-i-then-i-next : goal.bounds-text-i-then-i-next
-bounds-text-i-then-i-next c =
-    let w = within c.args.text.now (c.loop-i.i + 1) _ (omega arith) c.semicolon_by_block.ensures in
-    omega (arith, w)
-
-pub loop-i-preserved-then-text-i-eq40-2 : goal.loop-i-preserved-then-text-i-eq40-2
-loop-i-preserved-then-text-i-eq40-2 c =
-    let w = within c.args.text.now (c.loop-i.i + 1) _ (omega arith) c.semicolon_by_block.ensures in
-    let e = counted c.args.text.now (c.loop-i.i + 1) _ c.semicolon_by_block.ensures in
-    let next = other_at c.args.text.now c.loop-i.i c.loop-i.level (omega arith) c.loop-i.invariant.some c.loop-i.invariant.reaches
-    (λ x y z. elim c.else-text-i-eq40.branch [ else-text-i-eq40-via-then-text-i-eq40+then-i-text+else-text-i-eq59 v ↦ omega arith | else-text-i-eq40-via-then-text-i-eq40+else-i-text v ↦ omega arith | else-text-i-eq40-via-else-text-i-eq40 v ↦ omega arith ])
-    (λ x y z. elim c.else-text-i-eq59-2.branch [ else-text-i-eq59-2-via-then-text-i-eq59-2+then-i-text-2+else-text-i-eq41 v ↦ omega arith | else-text-i-eq59-2-via-then-text-i-eq59-2+else-i-text-2 v ↦ omega arith | else-text-i-eq59-2-via-else-text-i-eq59-2 v ↦ omega arith ]) in
+loop-i-preserved-then-text-i-eq41 c =
+    let s = c.args.text.now in
+    let n = c.next_delimiter-i.ensures in
+    let here = past_stretch s c.loop-i.i c.next_delimiter-i.result c.loop-i.level n.on n.range c.loop-i.invariant.some n.none c.loop-i.invariant.reaches in
     record {
-      some = omega arith;
-      few = omega arith;
-      range = omega (arith, w);
-      reaches = before_semicolon_reached c.args.text.now (c.loop-i.i + 1) _ c.loop-i.level e w c.if-i-next.true c.loop-i.invariant.some next;
+      some = omega (arith, c.if-level-eq0.false);
+      few = omega (arith, n.on, c.loop-i.invariant.few);
+      range = omega (arith, c.if-i-text-2.true);
+      reaches = close_at s c.next_delimiter-i.result c.loop-i.level c.if-i-text-2.true c.if-text-i-eq59-2.true c.if-text-i-eq41.true c.loop-i.invariant.some here;
     }
 
 pub loop-i-preserved : goal.loop-i-preserved
 loop-i-preserved c =
-    let w = within c.args.text.now (c.loop-i.i + 1) _ (omega arith) c.semicolon_by_block.ensures in
-    let e = counted c.args.text.now (c.loop-i.i + 1) _ c.semicolon_by_block.ensures in
-    let next = other_at c.args.text.now c.loop-i.i c.loop-i.level (omega arith) c.loop-i.invariant.some c.loop-i.invariant.reaches
-    (λ x y z. elim c.else-text-i-eq40.branch [ else-text-i-eq40-via-then-text-i-eq40+then-i-text+else-text-i-eq59 v ↦ omega arith | else-text-i-eq40-via-then-text-i-eq40+else-i-text v ↦ omega arith | else-text-i-eq40-via-else-text-i-eq40 v ↦ omega arith ])
-    (λ x y z. elim c.else-text-i-eq59-2.branch [ else-text-i-eq59-2-via-then-text-i-eq59-2+then-i-text-2+else-text-i-eq41 v ↦ omega arith | else-text-i-eq59-2-via-then-text-i-eq59-2+else-i-text-2 v ↦ omega arith | else-text-i-eq59-2-via-else-text-i-eq59-2 v ↦ omega arith ]) in
+    let s = c.args.text.now in
+    let n = c.next_delimiter-i.ensures in
+    let here = past_stretch s c.loop-i.i c.next_delimiter-i.result c.loop-i.level n.on n.range c.loop-i.invariant.some n.none c.loop-i.invariant.reaches in
+    let short = n.short c.loop-i-test.true in
     record {
-      some = omega arith;
-      few = omega arith;
-      range = omega (arith, w);
-      reaches = semicolon_reached c.args.text.now (c.loop-i.i + 1) _ c.loop-i.level e w
-          (λ x y. elim c.else-i-next.branch [ else-i-next-via-then-i-next+else-text-i-eq40-2 v ↦ omega arith | else-i-next-via-else-i-next v ↦ omega arith ])
-          c.loop-i.invariant.some next;
+      some = c.loop-i.invariant.some;
+      few = omega (arith, n.on, c.loop-i.invariant.few);
+      range = omega (arith, short);
+      reaches = other_at s c.next_delimiter-i.result c.loop-i.level short c.loop-i.invariant.some here
+          (λ x y z. elim c.else-i-text.branch [ else-i-text-via-then-i-text+then-text-i-eq40+else-text-i-eq59 w ↦ omega arith | else-i-text-via-then-i-text+else-text-i-eq40 w ↦ omega arith | else-i-text-via-else-i-text w ↦ omega arith ])
+          (λ x y z. elim c.else-i-text-2.branch [ else-i-text-2-via-then-i-text-2+then-text-i-eq59-2+else-text-i-eq41 w ↦ omega arith | else-i-text-2-via-then-i-text-2+else-text-i-eq59-2 w ↦ omega arith | else-i-text-2-via-else-i-text-2 w ↦ omega arith ]);
     }
 
 pub returns-clause-none : goal.returns-clause-none

@@ -2,7 +2,7 @@
 //! The values of strings and names.
 
 use crate::shim::prelude::*;
-use crate::proved::lexer::scan::strings::{EscapeValue, escape, is_byte_escape};
+use crate::proved::lexer::scan::strings::{EscapeValue, escape, is_byte_escape, letter};
 use crate::proved::lexer::settings::Settings;
 use memchr::memchr;
 use crate::shim::alloc::{AllocError, Global};
@@ -66,6 +66,25 @@ fn digit(byte: u8) -> u8 {
     (byte & 15) + 9 * (byte >> 6)
 }
 
+/// Returns the byte of an escape of one letter at the start, and the text after it.
+///
+/// # Proved
+///
+/// ```text
+/// ensures element { IfSome result (λ found.
+///     Element lenient (chars text.now) (found.0 ∷ []) (chars found.1.now)) }
+/// ensures utf8 { IfSome result (λ found. IsUtf8 found.1.now) }
+/// ensures shorter { IfSome result (λ found. length found.1.now < length text.now) }
+/// ```
+#[inline]
+fn letter_escape(text: &str) -> Option<(u8, &str)> {
+    let [b'\\', second, ..] = text.as_bytes() else {
+        return None;
+    };
+    let byte = letter(*second as char)?;
+    Some((byte, &text[2..]))
+}
+
 /// Returns the byte of an escape of two hexadecimal digits at the start, and the text after it.
 ///
 /// # Proved
@@ -126,6 +145,11 @@ pub fn unescaped(alloc: Global, elements: &str) -> Result<Vec<u8>, AllocError> {
         }
         if let [b'"'] = rest.as_bytes() {
             return Ok(value);
+        }
+        if let Some((byte, after)) = letter_escape(rest) {
+            value.push(byte)?;
+            rest = after;
+            continue 'elements;
         }
         match memchr(b'\\', rest.as_bytes()) {
             Some(0) => {

@@ -44,7 +44,7 @@ fn is_control(c: char) -> bool {
 /// ```text
 /// ensures { result ≡ letter_value c }
 /// ```
-fn letter(c: char) -> Option<u8> {
+pub fn letter(c: char) -> Option<u8> {
     match c {
         '"' => Some(b'"'),
         '\'' => Some(b'\''),
@@ -291,6 +291,20 @@ pub fn is_byte_escape(text: &[u8]) -> bool {
     }
 }
 
+/// Returns `true` if an escape of one letter is at the start.
+///
+/// # Proved
+///
+/// ```text
+/// ensures { MatchBool result (BeginsLetterEscape text.now) (BeginsLetterEscape text.now → ⊥) }
+/// ```
+fn is_letter_escape(text: &[u8]) -> bool {
+    match text {
+        [b'\\', second, ..] => letter(*second as char).is_some(),
+        _ => false,
+    }
+}
+
 /// Returns a lexical error at an offset from the start of the scanned text.
 ///
 /// # Proved
@@ -313,6 +327,9 @@ fn fault_at(offset: usize, error: LexError) -> Result<usize, LexFault> {
 /// ensures err { IfErr result (StringFaultFound flags text.now) }
 /// ```
 fn element_len(text: &str, flags: Settings) -> Result<usize, LexFault> {
+    if is_letter_escape(text.as_bytes()) {
+        return Ok(2);
+    }
     let mut it = text.chars();
     let Some(c) = it.next() else {
         return fault_at(0, LexError::UnexpectedEof);
