@@ -11,7 +11,7 @@ both s i opens closes a b = ap₂ bit_or a b ∙ either (opens_at s) (closes_at 
 
 -- the tests before an offset and from it on
 before_both : (s : List ℕ) (from i j : ℕ) → ((k : ℕ) → from ≤ k → k < i → delimits s k ≡ false) → ((k : ℕ) → i ≤ k → k < j → delimits s k ≡ false) → (k : ℕ) → from ≤ k → k < j → delimits s k ≡ false
-before_both s from i j a b k x y = elim (cases_lt k i) [ | inl l ↦ a k x l | inr g ↦ b k g y ]
+before_both s from i j a b k x y = elim (cases_lt k i) [ inl l ↦ a k x l | inr g ↦ b k g y ]
 
 pub returns-then-found-ne0-clause-range : goal.returns-then-found-ne0-clause-range
 returns-then-found-ne0-clause-range c =
