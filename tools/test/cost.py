@@ -35,7 +35,7 @@ import texts
 TABLE = ROOT / "tools/test/cost/bounds.tsv"
 FACTORS = [1, 2, 4, 8]
 # The divisors of SIZE for kinds of which a call takes long.
-SHORTER = {"errors_comments": 8, "uses_by_functions": 4, "uses_by_imports": 4}
+SHORTER = {"errors_comments": 8}
 LINEAR = 3.0
 # Doubling a text may add this number of instructions for each byte that it adds, however fast it grows.
 QUIET = 5
@@ -47,11 +47,7 @@ GROWTH = 1.1
 # The commands that are run as processes, with a file. Their memory is not measured.
 COMMANDS = ["fmt --diff", "fmt --write", "fmt --check"]
 FILES = ["unformatted", "functions"]
-COMPILERS = {"module", "parse_str"}
 SUPERLINEAR = {
-    "labels_deep": (COMPILERS, "a label is searched from the innermost frame on"),
-    "uses_by_functions": (COMPILERS, "each use copies its type"),
-    "uses_by_imports": (COMPILERS, "each use copies its type"),
     "errors_comments": ({"wat_fill, wat_resume"}, "each unclosed comment is searched up to the end of the text"),
 }
 # The faults of `seeded` in rust/wat-tokens/tests/cost, with a part of the message that reports each, and the kind of the text.

@@ -58,6 +58,7 @@ named_use i ps rs = record { index = i; params = ps; results = rs }
 
 -- A type use without the identifiers of its parameters: in the abstract syntax (2.5.3, 2.5.11) the parameters of
 -- functions and imports have no identifiers. The identifiers of a function's parameters are in the context of its body only (6.6.5, `with_locals`).
+-- If the type use has an index, only the index remains.
 abbrev pub without_names : NamedUse → TypeUse
 without_names u = type_use u.index (function_type u.params u.results)
 

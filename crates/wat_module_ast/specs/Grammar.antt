@@ -30,7 +30,7 @@ use Rattle.wat_module_ast.specs.Memory.{offset, align}
 use Rattle.wat_module_ast.specs.Table.{Mnemonic, found, mnemonics}
 pub use Rattle.wat_module_tokens.specs.Terminals.{past, is_name}
 use Rattle.wat_module_tokens.specs.Terminals.{Terminal, Open, Close, Word, Id, Integer, Float, Label, Text, Other}
-use Rattle.wat_module_ast.specs.Types.{FunctionType, Types, TypeUse, from_to, indirect_call, same_type, type_use}
+use Rattle.wat_module_ast.specs.Types.{FunctionType, Types, TypeUse, Indexed, Inline, from_to, indirect_call, same_type}
 
 -- A syntax error: its kind, and the remaining tokens from the one at which it is reported.
 abbrev pub Fault : Type 0
@@ -345,13 +345,13 @@ list_nothing ps rs = false
 
 -- A type use without an index.
 abbrev pub listed_use : Result (FunctionType × List Terminal) Fault → Result (TypeUse × List Terminal) Fault
-listed_use (Ok (t, ts)) = Ok (type_use None t, ts)
+listed_use (Ok (t, ts)) = Ok (Inline t, ts)
 listed_use (Err f) = Err f
 
--- A type use with the index `i` and its type `t`, after which the lists must be empty or those of `t`; otherwise an
+-- A type use with the index `i` of the type `t`, after which the lists must be empty or those of `t`; otherwise an
 -- error at the tokens `all`, which begin with the index.
 abbrev pub agreed : ℕ → FunctionType → List Terminal → Result (FunctionType × List Terminal) Fault → Result (TypeUse × List Terminal) Fault
-agreed i t all (Ok (u, ts)) = if list_nothing u.params u.results || same_type u t then Ok (type_use (Some i) t, ts) else Err (OtherType, all)
+agreed i t all (Ok (u, ts)) = if list_nothing u.params u.results || same_type u t then Ok (Indexed i, ts) else Err (OtherType, all)
 agreed i t all (Err f) = Err f
 
 abbrev pub indexed_by : ℕ → Option FunctionType → List Terminal → List Terminal → Result (TypeUse × List Terminal) Fault
@@ -359,9 +359,9 @@ indexed_by i None all ts = Err (UnknownName, all)
 indexed_by i (Some t) all ts = agreed i t all (lists_of ts)
 
 -- A type use with an index, read before the types are known: its index is 0, regardless of
--- the text, and its type is that of the lists.
+-- the text, and its lists may be any.
 abbrev pub assumed : Result (FunctionType × List Terminal) Fault → Result (TypeUse × List Terminal) Fault
-assumed (Ok (t, ts)) = Ok (type_use (Some 0) t, ts)
+assumed (Ok (t, ts)) = Ok (Indexed 0, ts)
 assumed (Err f) = Err f
 
 abbrev pub closed_index : Types → ℕ → List Terminal → List Terminal → Result (TypeUse × List Terminal) Fault
@@ -550,16 +550,20 @@ is_then w = bytes_eq w (codes "then")
 abbrev pub is_if : ℕ → Bool
 is_if o = o == 0x04
 
--- 6.5.2, `blocktype`: `(result valtype)` or nothing, or a type use (6.6.3) whose parameters have no identifiers. A type
--- use with at most one result, without an index and without parameters, is one of the first two. Arguments: index,
--- parameters and results of the type use, and the type use.
-abbrev pub block_of : Option ℕ → List ValueType → List ValueType → TypeUse → Argument
-block_of None [] [] u = argument.Block None
-block_of None [] (t ∷ []) u = argument.Block (Some t)
-block_of i ps rs u = argument.BlockUse u
+-- 6.5.2, `blocktype`: the block type of a type use `u` without an index, by its parameters and results. With at most one
+-- result and no parameters it is `(result valtype)` or nothing, otherwise the type use.
+abbrev pub inline_block : List ValueType → List ValueType → TypeUse → Argument
+inline_block [] [] u = argument.Block None
+inline_block [] (t ∷ []) u = argument.Block (Some t)
+inline_block ps rs u = argument.BlockUse u
+
+-- 6.5.2, `blocktype`: the block type of a type use (6.6.3) whose parameters have no identifiers.
+abbrev pub block_of : TypeUse → Argument
+block_of (Indexed i) = argument.BlockUse (Indexed i)
+block_of (Inline t) = inline_block t.params t.results (Inline t)
 
 abbrev pub block_by : Result (TypeUse × List Terminal) Fault → Result (Argument × List Terminal) Fault
-block_by (Ok (u, ts)) = Ok (block_of u.index u.type.params u.type.results u, ts)
+block_by (Ok (u, ts)) = Ok (block_of u, ts)
 block_by (Err f) = Err f
 
 -- 6.5.2, `blocktype`.

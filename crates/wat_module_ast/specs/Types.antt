@@ -24,27 +24,25 @@ pub record Types : Type 0 where
   pub types : List FunctionType
   pub are_known : Bool
 
--- 6.6.3, type use, without the identifiers of its parameters: the index of its type, if it has one, and its type.
-pub record TypeUse : Type 0 where
-  pub index : Option ℕ
-  pub type : FunctionType
+-- 6.6.3, type use, without the identifiers of its parameters: the index of its type; or, if it has no index, its type.
+pub data TypeUse : Type 0 where
+  Indexed : ℕ → TypeUse
+  Inline : FunctionType → TypeUse
 
+-- The type use with this index, whatever the type; without an index, that of this type.
 abbrev pub type_use : Option ℕ → FunctionType → TypeUse
-type_use i t = record { index = i; type = t }
+type_use (Some i) t = Indexed i
+type_use None t = Inline t
 
--- The types that a type use with this optional index and this type adds.
-abbrev pub added_types_by : Option ℕ → FunctionType → List FunctionType
-added_types_by None t = t ∷ []
-added_types_by (Some i) t = []
-
--- 6.6.3: the types that a type use adds: its own type if it has no index, otherwise none.
+-- 6.6.3: the types that a type use adds: its type if it has no index, otherwise none.
 abbrev pub added_types : TypeUse → List FunctionType
-added_types u = added_types_by u.index u.type
+added_types (Indexed i) = []
+added_types (Inline t) = t ∷ []
 
--- The index, if there is one, otherwise `n`.
-abbrev pub index_or : Option ℕ → ℕ → ℕ
-index_or (Some i) n = i
-index_or None n = n
+-- The index of a type use, or 0 if it has none.
+abbrev pub index_or_zero : TypeUse → ℕ
+index_or_zero (Indexed i) = i
+index_or_zero (Inline t) = 0
 
 -- 6.5.2, `call_indirect`: the index of a table, and a type use.
 pub record IndirectCall : Type 0 where

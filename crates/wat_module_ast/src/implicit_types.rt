@@ -13,7 +13,7 @@ ghost use Rattle.wat_module_ast.specs.TypeViews.{type_of, use_of};
 use crate::fields::{ElemMode, Elements, ExternType, Field};
 use crate::indexed_types::IndexedTypes;
 use crate::instruction::{Argument, Instruction};
-use crate::types::{TypeUse, copied};
+use crate::types::{FunctionType, TypeUse, copied};
 use std::alloc::{AllocError, Global};
 
 /// Returns the types that type fields define, in the order of the fields.
@@ -30,27 +30,28 @@ fn defined_types(alloc: Global, fields: &[Field<'_>]) -> Result<IndexedTypes, Al
     Ok(types)
 }
 
-/// Returns the type use if it has no index, and therefore adds its type to the module.
-fn added_use(uses: &TypeUse) -> Option<&TypeUse>
+/// Returns the type that a type use adds to the module: its type if it has no index.
+fn added_type(uses: &TypeUse) -> Option<&FunctionType>
     ensures { MatchOption result
         (added_types (use_of uses.now) ≡ [])
-        (λ u. added_types (use_of uses.now) ≡ type_of u.now.of ∷ []) }
+        (λ t. added_types (use_of uses.now) ≡ type_of t.now ∷ []) }
 {
-    match uses.index {
-        Some(_) => None,
-        None => Some(uses),
+    match uses {
+        TypeUse::Index(_) => None,
+        TypeUse::Inline(of) => Some(of),
     }
 }
 
-/// Returns the type use of an instruction, of `call_indirect` or of a block, if it has no index.
-fn instruction_use(instruction: &Instruction) -> Option<&TypeUse>
+/// Returns the type that the type use of an instruction, of `call_indirect` or of a block, adds to
+/// the module, or `None` if it adds none.
+fn instruction_type(instruction: &Instruction) -> Option<&FunctionType>
     ensures { MatchOption result
         (instruction_types instruction.now ≡ [])
-        (λ u. instruction_types instruction.now ≡ type_of u.now.of ∷ []) }
+        (λ t. instruction_types instruction.now ≡ type_of t.now ∷ []) }
 {
     match &instruction.argument {
-        Argument::Indirect(call) => added_use(call.uses()),
-        Argument::BlockUse(uses) => added_use(uses.uses()),
+        Argument::Indirect(call) => added_type(call.uses()),
+        Argument::BlockUse(uses) => added_type(uses.uses()),
         _ => None,
     }
 }
@@ -60,8 +61,8 @@ fn add_instructions(types: &mut IndexedTypes, all: &[Instruction]) -> Result<(),
     ensures { OnOk result (types.new ≡ implicit.types_after types.old (expression_types all.now)) }
 {
     for instruction in all {
-        if let Some(uses) = instruction_use(instruction) {
-            types.add(&uses.of)?;
+        if let Some(of) = instruction_type(instruction) {
+            types.add(of)?;
         }
     }
     Ok(())
@@ -111,8 +112,8 @@ fn add_use(types: &mut IndexedTypes, uses: &TypeUse) -> Result<(), AllocError>
     ensures { OnOk result (types.new ≡ implicit.types_after types.old
         (added_types (use_of uses.now))) }
 {
-    if let Some(uses) = added_use(uses) {
-        types.add(&uses.of)?;
+    if let Some(of) = added_type(uses) {
+        types.add(of)?;
     }
     Ok(())
 }

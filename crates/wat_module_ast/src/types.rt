@@ -19,14 +19,14 @@ pub struct FunctionType {
 
 /// A type use without the names of its parameters.
 #[derive(Drop)]
-pub struct TypeUse {
+pub enum TypeUse {
     /// Index of the type, if the text has `(type index)`.
-    pub index: Option<usize>,
-    /// The type, even if the text does not list it.
-    pub of: FunctionType,
+    Index(usize),
+    /// The type, if the text has no index.
+    Inline(FunctionType),
 }
 
-/// Boxed type use. Its index is below 2^63, like the index of any item in memory.
+/// Boxed type use. Its index, if it has one, is below 2^63, like the index of any item in memory.
 #[derive(Drop)]
 pub struct BoxedUse {
     uses: Box<TypeUse>,
@@ -42,13 +42,13 @@ impl Model for BoxedUse {
 
     ghost view = { λ u. use_of u.uses.value };
 
-    ghost invariant = { λ u. spec.index_or u.uses.value.index 0 < 2 ^ 63 };
+    ghost invariant = { λ u. spec.index_or_zero (use_of u.uses.value) < 2 ^ 63 };
 }
 
 impl BoxedUse {
-    /// Boxes a type use, whose index must be below 2^63.
+    /// Boxes a type use. Its index, if it has one, must be below 2^63.
     pub fn new(alloc: Global, uses: TypeUse) -> Result<BoxedUse, AllocError>
-        requires { spec.index_or uses.index 0 < 2 ^ 63 }
+        requires { spec.index_or_zero (use_of uses) < 2 ^ 63 }
         ensures { IfOk result (λ u. u ≡ use_of uses) }
     {
         match Box::new(alloc, uses) {
@@ -60,7 +60,7 @@ impl BoxedUse {
     /// Returns the type use.
     pub fn uses(&self) -> &TypeUse
         ensures is { use_of result.now ≡ self.now }
-        ensures small { spec.index_or result.now.index 0 < 2 ^ 63 }
+        ensures small { spec.index_or_zero (use_of result.now) < 2 ^ 63 }
     {
         &self.uses
     }

@@ -22,7 +22,7 @@ use Rattle.wat_module_ast.specs.declared.instruction.ReferenceType.TheVariants a
 use Rattle.wat_module_ast.specs.declared.instruction.Opcode.{Opcode}
 use Rattle.wat_module_ast.specs.declared.instruction.Opcode.TheVariants.{Byte, Prefixed}
 use Rattle.wat_module_ast.specs.declared.instruction.ValueType.{ValueType}
-use Rattle.wat_module_ast.specs.Types.{FunctionType, TypeUse, index_or, reference_byte, type_byte}
+use Rattle.wat_module_ast.specs.Types.{FunctionType, TypeUse, Indexed, Inline, reference_byte, type_byte}
 use Rattle.wat_module_ast.specs.declared.fields.GlobalType.{GlobalType}
 use Rattle.wat_module_ast.specs.declared.fields.IndexSpace.{IndexSpace}
 use Rattle.wat_module_ast.specs.declared.fields.IndexSpace.TheVariants as space
@@ -42,10 +42,11 @@ block_byte (Some t) = type_byte t
 unfoldable pub type_bytes : FunctionType → List ℕ
 type_bytes t = 0x60 ∷ (text_encoding (map type_byte t.params) ++ text_encoding (map type_byte t.results))
 
--- 6.6.3: the index of a type use: its own, at which its type is (`TypeUseIs`; in instructions, `agreed`), or, if it has
--- none, the least index of its type (`TypesAreThere`).
+-- 6.6.3: the index of a type use: its own, which is that of a type (`TypeUseIs`; in instructions, `indexed_by`), or, if
+-- it has none, the least index of its type (`TypesAreThere`).
 abbrev pub use_index : List FunctionType → TypeUse → ℕ
-use_index types u = index_or u.index (type_index u.type types)
+use_index types (Indexed i) = i
+use_index types (Inline t) = type_index t types
 
 -- 5.4, instructions: the bytes after the opcode, in a module with these types. 5.1.3: vectors. 5.2.3: the bits of
 -- floats, lowest byte first. 5.4.1: for `br_table` the labels and the default label; for `call_indirect` the type and

@@ -1,6 +1,6 @@
 //! Encodes the type section, and finds the type indices of type uses.
 ghost use Rattle.std.specs.Prelude.{◌≡◌, ◌<◌, ◌+◌, ◌++◌, ◌^◌, OnOk, IfOk, map};
-ghost use Rattle.wat_module_ast.specs.Types.{index_or, type_byte};
+ghost use Rattle.wat_module_ast.specs.Types.{index_or_zero, type_byte};
 ghost use Rattle.wat_module_ast.specs.TypeViews.{type_of, use_of};
 ghost use Rattle.wat_lex.specs.binary.Encoding.{text_encoding};
 ghost use Rattle.wat_module_encoder.specs.Binary as binary;
@@ -23,15 +23,15 @@ pub(crate) fn put_values(out: &mut Vec<u8>, types: &[ValueType]) -> Result<(), A
     Ok(())
 }
 
-/// Returns the type index of a type use. If it states an index, that index; otherwise the least
-/// index of its function type in `types`, or the length of `types` if it is not there.
+/// Returns the type index of a type use: its own, or, if it has none, the least index of its type
+/// in `types`, or the length of `types` if the type is not there.
 pub(crate) fn use_index(types: &IndexedTypes, uses: &TypeUse) -> Result<usize, AllocError>
     ensures is { IfOk result (λ n. n ≡ binary.use_index types.now (use_of uses.now)) }
-    ensures small { index_or uses.now.index 0 < 2 ^ 63 → IfOk result (λ n. n < 2 ^ 63) }
+    ensures small { index_or_zero (use_of uses.now) < 2 ^ 63 → IfOk result (λ n. n < 2 ^ 63) }
 {
-    match uses.index {
-        Some(index) => Ok(index),
-        None => types.index(&uses.of),
+    match uses {
+        TypeUse::Index(index) => Ok(*index),
+        TypeUse::Inline(of) => types.index(of),
     }
 }
 

@@ -13,7 +13,7 @@ use Rattle.wat_module_ast.specs.Grammar.{Context, Fault, Instructions, plain, po
 use Rattle.wat_module_ast.specs.Grammar as grammar
 use Rattle.wat_module_ast.specs.Table.{Mnemonic, found, mnemonics}
 use Rattle.wat_module_tokens.specs.Terminals.{Terminal, Open, Close, Word, Id, Integer, Text, Float, Other, Label}
-use Rattle.wat_module_ast.specs.Types.{FunctionType, Types, TypeUse, added_types, indirect_call, same_type, type_use}
+use Rattle.wat_module_ast.specs.Types.{FunctionType, Types, TypeUse, Indexed, added_types, indirect_call, same_type}
 use Rattle.wat_module_ast.specs.Uses.{MoreTypesKeep, UnknownTypesBring, with_more_types, argument_types, expression_types, instruction_types, unknown, retyped}
 
 -- If the first result has a value, the second has one with the same rest, and the values are related.
@@ -27,7 +27,7 @@ follows Like like (Err f) = tt
 
 -- Type uses: equal, or, if `same` is false, both with an index.
 abbrev LikeUse : Bool → TypeUse → TypeUse → Type 0
-LikeUse same u v = (u ≡ v) ⊎ ((same ≡ false) × (i : ℕ) × (j : ℕ) × (u.index ≡ Some i) × (v.index ≡ Some j))
+LikeUse same u v = (u ≡ v) ⊎ ((same ≡ false) × (i : ℕ) × (j : ℕ) × (u ≡ Indexed i) × (v ≡ Indexed j))
 
 -- Immediates that are equal if `same` is true, and that add the same types.
 abbrev LikeArgument : Bool → Argument → Argument → Type 0
@@ -97,12 +97,12 @@ uses_more types more ts = use_by_more types more (grammar.after (codes "type") t
 
 -- Type uses, without the types.
 
-agreed_unknown : (b : Bool) (i : ℕ) (t u : FunctionType) (all ts : List Terminal) → Follows (LikeUse false) (if b then Ok (type_use (Some i) t, ts) else Err (OtherType, all)) (Ok (type_use (Some 0) u, ts))
-agreed_unknown true i t u all ts = (type_use (Some 0) u, refl, inr (refl, i, 0, refl, refl))
-agreed_unknown false i t u all ts = tt
+agreed_unknown : (b : Bool) (i : ℕ) (all ts : List Terminal) → Follows (LikeUse false) (if b then Ok (Indexed i, ts) else Err (OtherType, all)) (Ok (Indexed 0, ts))
+agreed_unknown true i all ts = (Indexed 0, refl, inr (refl, i, 0, refl, refl))
+agreed_unknown false i all ts = tt
 
 lists_unknown : (i : ℕ) (t : FunctionType) (all : List Terminal) (q : Result (FunctionType × List Terminal) Fault) → Follows (LikeUse false) (grammar.agreed i t all q) (grammar.assumed q)
-lists_unknown i t all (Ok (u, ts)) = agreed_unknown (grammar.list_nothing u.params u.results || same_type u t) i t u all ts
+lists_unknown i t all (Ok (u, ts)) = agreed_unknown (grammar.list_nothing u.params u.results || same_type u t) i all ts
 lists_unknown i t all (Err f) = tt
 
 indexed_unknown : (i : ℕ) (o : Option FunctionType) (all ts : List Terminal) → Follows (LikeUse false) (grammar.indexed_by i o all ts) (grammar.assumed (grammar.lists_of ts))
@@ -141,8 +141,8 @@ uses_unknown types ts = use_by_unknown types (grammar.after (codes "type") ts) t
 like_equal : (same : Bool) (a b : Argument) → a ≡ b → LikeArgument same a b
 like_equal same a b e = (λ k. e, ap argument_types e)
 
-indirect_brings : (n : ℕ) (u : TypeUse) (i : ℕ) → u.index ≡ Some i → argument_types (argument.Indirect (indirect_call n u)) ≡ []
-indirect_brings n u i e = ap (λ o. added_types (type_use o u.type)) e
+indirect_brings : (n : ℕ) (u : TypeUse) (i : ℕ) → u ≡ Indexed i → argument_types (argument.Indirect (indirect_call n u)) ≡ []
+indirect_brings n u i e = ap added_types e
 
 like_indirect : (same : Bool) (n : ℕ) (u v : TypeUse) → LikeUse same u v → LikeArgument same (argument.Indirect (indirect_call n u)) (argument.Indirect (indirect_call n v))
 like_indirect same n u v (inl e) = like_equal same _ _ (ap (λ x. argument.Indirect (indirect_call n x)) e)
@@ -230,15 +230,15 @@ plain_alike same context types locals ls c w ts = plain_by_alike same context ty
 
 -- Blocks.
 
-block_brings : (u : TypeUse) (i : ℕ) → u.index ≡ Some i → argument_types (grammar.block_of u.index u.type.params u.type.results u) ≡ []
-block_brings u i e = ap (λ o. argument_types (grammar.block_of o u.type.params u.type.results u)) e ∙ ap (λ o. added_types (type_use o u.type)) e
+block_brings : (u : TypeUse) (i : ℕ) → u ≡ Indexed i → argument_types (grammar.block_of u) ≡ []
+block_brings u i e = ap (λ x. argument_types (grammar.block_of x)) e
 
-like_block : (same : Bool) (u v : TypeUse) → LikeUse same u v → LikeArgument same (grammar.block_of u.index u.type.params u.type.results u) (grammar.block_of v.index v.type.params v.type.results v)
-like_block same u v (inl e) = like_equal same _ _ (ap (λ x. grammar.block_of x.index x.type.params x.type.results x) e)
+like_block : (same : Bool) (u v : TypeUse) → LikeUse same u v → LikeArgument same (grammar.block_of u) (grammar.block_of v)
+like_block same u v (inl e) = like_equal same _ _ (ap grammar.block_of e)
 like_block same u v (inr (f, i, j, a, b)) = (λ k. never same f k, block_brings u i a ∙ sym (block_brings v j b))
 
 block_by_alike : (same : Bool) (q p : Result (TypeUse × List Terminal) Fault) → Follows (LikeUse same) q p → Follows (LikeArgument same) (grammar.block_by q) (grammar.block_by p)
-block_by_alike same (Ok (u, ts)) p (v, e, l) = (grammar.block_of v.index v.type.params v.type.results v, ap grammar.block_by e, like_block same u v l)
+block_by_alike same (Ok (u, ts)) p (v, e, l) = (grammar.block_of v, ap grammar.block_by e, like_block same u v l)
 block_by_alike same (Err f) p h = tt
 
 block_alike : (same : Bool) (types others : Types) → LikeTypes same types others → (ts : List Terminal) → Follows (LikeArgument same) (block_type types ts) (block_type others ts)

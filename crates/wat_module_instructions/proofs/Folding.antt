@@ -2,11 +2,10 @@
 use Rattle.std.proofs.Common.{◌≡◌, ◌<◌, ◌≤◌, ℕ, zero, suc, Bool, true, false, List, [], ◌∷◌, ◌++◌, length, Option, Some, None, Result, Ok, Err, refl, sym, ap, subst, ◌∙◌, arith, append-nil}
 use Rattle.std.specs.Prelude.{if◌then◌else◌}
 use Rattle.wat_module_ast.specs.declared.instruction.Argument.{Argument}
-use Rattle.wat_module_instructions.specs.declared.frame.Frame.{Frame}
 use Rattle.wat_module_ast.specs.declared.instruction.Instruction.{Instruction}
 use Rattle.wat_module_ast.specs.declared.error.ParseFailure.{ParseFailure}
 use Rattle.wat_module_ast.specs.declared.error.ParseFailure.TheVariants as refusal
-use Rattle.wat_module_instructions.specs.Parts.{Faults, RunsInto, RunsTo, Stepped, stack}
+use Rattle.wat_module_instructions.specs.Parts.{Faults, RunsInto, RunsTo, Stepped}
 use Rattle.wat_module_tokens.specs.Terminals.{Terminal, Open, Close, Word, Id, Integer, Text, Float, Other, Label}
 use Rattle.wat_module_ast.specs.Grammar.{Context, Fault, Folded, Instructions, past, plain, label_of, structured, is_else, is_then, is_if, block_type, instruction, end, otherwise}
 use Rattle.wat_module_ast.specs.Grammar as grammar
@@ -246,7 +245,3 @@ begun_folded context qs ts us left before mid after b s k =
 pub begun_folded_into : (context : Context) (qs : List Part) (ts us : List Terminal) (before mid : List Instruction) (r : ParseFailure) → Stepped (first_step context ts) before mid qs us → RunsInto context qs us r → Faults (folded context ts) r
 begun_folded_into context qs ts us before mid (refusal.Text f) s k = ap (run_by (run context (suc (length ts)))) s.is ∙ ap (output_before s.output) (k (suc (length ts)) (first_short context ts _ s.is))
 begun_folded_into context qs ts us before mid (refusal.Memory m) s k = tt
-
-pub none_open : (fs : List Frame) → fs ≡ [] → stack fs ≡ []
-unfolding stack
-none_open fs e = ap (λ x. stack x) e

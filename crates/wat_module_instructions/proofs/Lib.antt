@@ -6,8 +6,11 @@ pub mod Opens
 pub mod Digits
 pub mod Exponents
 pub mod Distinct
+pub mod Unnamed
 pub mod Labels
 pub mod Listed
 pub mod Folding
 pub mod Lanes
 pub mod Alike
+pub mod Heights
+pub mod Named

@@ -17,7 +17,7 @@ use Rattle.wat_module_ast.specs.Branches.{Branches}
 use Rattle.wat_module_ast.specs.declared.table.Immediate.TheVariants as immediate
 use Rattle.wat_module_ast.specs.declared.vectors.Lane.TheVariants as lane
 use Rattle.wat_module_ast.specs.Table.{Mnemonic, found, mnemonics}
-use Rattle.wat_module_ast.specs.Types.{FunctionType, Types, TypeUse, same_type, type_use}
+use Rattle.wat_module_ast.specs.Types.{FunctionType, Types, TypeUse, Indexed, same_type}
 use Rattle.wat_module_tokens.specs.Terminals.{Terminal, Open, Close, Word, Id, Integer, Text, Float, Other, Label}
 use Rattle.wat_module_ast.specs.Grammar.{Context, Fault, Instructions, plain, label_of, end_label, block_type}
 use Rattle.wat_module_ast.specs.Grammar as grammar
@@ -284,12 +284,12 @@ listed_use_keeps : (q : Result (FunctionType × List Terminal) Fault) (ts : List
 listed_use_keeps (Ok (t, us)) ts h = h
 listed_use_keeps (Err f) ts h = tt
 
-agreed_by : (b : Bool) (i : ℕ) (t : FunctionType) (all ts us : List Terminal) → Passes ts us → Keeps (if b then Ok (type_use (Some i) t, us) else Err (OtherType, all)) ts
-agreed_by true i t all ts us h = h
-agreed_by false i t all ts us h = tt
+agreed_by : (b : Bool) (i : ℕ) (all ts us : List Terminal) → Passes ts us → Keeps (if b then Ok (Indexed i, us) else Err (OtherType, all)) ts
+agreed_by true i all ts us h = h
+agreed_by false i all ts us h = tt
 
 agreed_keeps : (i : ℕ) (t : FunctionType) (all : List Terminal) (q : Result (FunctionType × List Terminal) Fault) (ts : List Terminal) → Keeps q ts → Keeps (grammar.agreed i t all q) ts
-agreed_keeps i t all (Ok (u, us)) ts h = agreed_by (grammar.list_nothing u.params u.results || same_type u t) i t all ts us h
+agreed_keeps i t all (Ok (u, us)) ts h = agreed_by (grammar.list_nothing u.params u.results || same_type u t) i all ts us h
 agreed_keeps i t all (Err f) ts h = tt
 
 indexed_by_keeps : (i : ℕ) (o : Option FunctionType) (all ts : List Terminal) → Keeps (grammar.indexed_by i o all ts) ts

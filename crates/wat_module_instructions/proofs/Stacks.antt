@@ -1,10 +1,11 @@
 -- A frame that is pushed comes first.
-use Rattle.std.proofs.Common.{◌≡◌, ◌≤◌, ◌<◌, ◌+◌, ◌-◌, List, [], ◌∷◌, ◌++◌, length, take, get_or, refl, ap, sym, ◌∙◌, arith}
+use Rattle.std.proofs.Common.{◌≡◌, ◌≤◌, ◌<◌, ◌+◌, ◌-◌, List, [], ◌∷◌, ◌++◌, length, take, get_or, Some, None, refl, ap, sym, ◌∙◌, arith}
 use Rattle.std.proofs.lemmas.List.{take_more}
 use Rattle.std.proofs.Math.Seq.{take-length}
 use Rattle.wat_module_instructions.specs.declared.frame.Frame.{Frame}
 use Rattle.wat_module_instructions.specs.Machine.{Part}
-use Rattle.wat_module_instructions.specs.Parts.{part, stack, stack_on}
+use Rattle.wat_module_instructions.specs.Named.{innermost}
+use Rattle.wat_module_instructions.specs.Stack.{part, stack, stack_on}
 
 on-push : (fs : List Frame) (f : Frame) (ps : List Part) → stack_on (fs ++ f ∷ []) ps ≡ part f ∷ stack_on fs ps
 on-push [] f ps = refl
@@ -26,3 +27,12 @@ pub empty_is : (fs : List Frame) → length fs ≡ 0 → stack fs ≡ []
 unfolding stack
 empty_is [] e = refl
 empty_is (f ∷ fs) e = absurd (omega arith)
+
+-- the innermost part is on those outside it
+pub on_top : (qs : List Part) (p : Part) → innermost qs ≡ Some p → (ps : List Part) × (qs ≡ p ∷ ps)
+on_top [] p e = cc
+on_top (q ∷ ps) p e = let same : q ≡ p = cc in (ps, ap (λ r. r ∷ ps) same)
+
+pub is_empty : (qs : List Part) → innermost qs ≡ None → qs ≡ []
+is_empty [] e = refl
+is_empty (q ∷ qs) e = cc

@@ -1,12 +1,10 @@
--- The stack, the scope and the errors of the parser's code as values of the definitions, and what its calls return. Not part of the standard.
+-- The scope and the errors of the parser's code as values of the definitions, and what its calls return. Not part of the standard.
 use Rattle.std.specs.Prelude.{Bool, ◌≡◌, ◌<◌, ℕ, length, List, [], ◌∷◌, ◌++◌, map, Result, Ok, Err, MatchResult}
 use Rattle.wat_module_ast.specs.declared.error.Fault as declared
 use Rattle.wat_module_tokens.specs.declared.stream.TokenCursor.{TokenCursor}
 use Rattle.wat_module_ast.specs.declared.instruction.Instruction.{Instruction}
 use Rattle.wat_module_ast.specs.declared.error.ParseFailure.{ParseFailure}
 use Rattle.wat_module_ast.specs.declared.error.ParseFailure.TheVariants.{Text, Memory}
-use Rattle.wat_module_instructions.specs.declared.frame.Frame.{Frame}
-use Rattle.wat_module_instructions.specs.declared.frame.Frame.TheVariants as frame
 use Rattle.wat_module_ast.specs.declared.instruction.ValueType.{ValueType}
 use Rattle.wat_module_instructions.specs.declared.reading.Identifiers.{Identifiers}
 use Rattle.wat_module_instructions.specs.declared.reading.Identifiers.TheVariants as identifiers
@@ -14,28 +12,9 @@ use Rattle.wat_module_instructions.specs.declared.reading.Scope.{Scope}
 use Rattle.wat_module_ast.specs.TypeViews.{type_of}
 use Rattle.wat_module_ast.specs.Grammar.{Context, Fault, Lane, before_labels, before_type, labels_from, lane_bytes, lane_index, lane_of, listed}
 use Rattle.wat_module_ast.specs.Branches.{branches}
-use Rattle.wat_module_instructions.specs.Machine.{Part, Body, Block, Group, Operands, Condition, Then, Else, Step, labels_in, run}
+use Rattle.wat_module_instructions.specs.Machine.{Part, Step, labels_in, run}
 use Rattle.wat_module_tokens.specs.TokenCursor.{terminals_of}
-use Rattle.wat_module_tokens.specs.Terminals.{Terminal, Label, label}
-
--- A frame of the code's stack.
-abbrev pub part : Frame → Part
-part frame.Body = Body
-part (frame.Block b l) = Block b (label l)
-part (frame.Group l) = Group (label l)
-part (frame.Operands i) = Operands i
-part (frame.Condition i l) = Condition i (label l)
-part (frame.Then l) = Then (label l)
-part (frame.Else l) = Else (label l)
-
--- The frames on top of the stack `ps`; the last frame is the innermost.
-abbrev pub stack_on : List Frame → List Part → List Part
-stack_on [] ps = ps
-stack_on (f ∷ fs) ps = stack_on fs (part f ∷ ps)
-
--- The stack of these frames.
-unfoldable pub stack : List Frame → List Part
-stack fs = stack_on fs []
+use Rattle.wat_module_tokens.specs.Terminals.{Terminal, Label}
 
 -- The context that the code parses with.
 abbrev pub scope_of : Scope → Context
@@ -62,7 +41,7 @@ Faults q (Memory e) = Unit {0}
 -- The identifiers among which an index is looked up, in the order of their indices.
 abbrev pub identifiers_of : Identifiers → List Label
 identifiers_of (identifiers.Items names) = names.now
-identifiers_of (identifiers.Labels frames) = labels_in (stack frames.now)
+identifiers_of (identifiers.Labels frames) = labels_in frames.now
 
 -- `ReadsAs view expected result`: `expected` is what the definition parses: a value and the remaining tokens, or an
 -- error. A call returns a value whose `view` is that value, and the same remaining tokens. Otherwise it fails with
@@ -134,6 +113,11 @@ pub record Stepped (q : Result Step Fault) (before after : List Instruction) (fr
 -- it fails with the error of the definition, or with an allocation failure.
 abbrev pub StepsAs : Result Step Fault → List Instruction → List Instruction → List Part → Result TokenCursor ParseFailure → Type 0
 StepsAs expected before after frames result = MatchResult result (λ r. Stepped expected before after frames (terminals_of r)) (λ e. Faults expected e)
+
+-- `StepsFrom expected stack before after frames result`: the call makes the step of `expected` for the innermost part of
+-- `stack` and those outside it. If `stack` is empty, nothing is stated.
+abbrev pub StepsFrom : (Part → List Part → Result Step Fault) → List Part → List Instruction → List Instruction → List Part → Result TokenCursor ParseFailure → Type 0
+StepsFrom expected stack before after frames result = (p : Part) (ps : List Part) → stack ≡ p ∷ ps → StepsAs (expected p ps) before after frames result
 
 -- `RunsTo context ps ts before after left`: a run that may take more steps than there are tokens ends at `left`, and
 -- its instructions, appended to `before`, give `after`.

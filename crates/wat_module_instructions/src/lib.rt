@@ -10,6 +10,7 @@ pub mod laws;
 pub mod machine;
 mod memory;
 pub mod names;
+mod open_labels;
 pub mod reading;
 mod table_arguments;
 mod uses;

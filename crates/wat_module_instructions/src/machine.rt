@@ -1,15 +1,17 @@
 //! Parses the instructions of a body. A stack of frames holds its open parts.
-ghost use Rattle.wat_module_ast.specs.Grammar.{structured};
+ghost use Rattle.wat_module_ast.specs.Grammar.{is_then, structured};
 ghost use Rattle.wat_module_tokens.specs.TokenCursor.{terminals_of};
 ghost use Rattle.wat_module_instructions.specs.Machine as spec;
-ghost use Rattle.wat_module_instructions.specs.Parts.{ReadsAs, RunsInto, RunsTo, StepsAs, part};
+ghost use Rattle.wat_module_instructions.specs.Machine.{Part};
+ghost use Rattle.wat_module_instructions.specs.Parts.{ReadsAs, RunsInto, RunsTo, StepsAs};
+ghost use Rattle.wat_module_instructions.specs.Stack.{part};
+ghost use Rattle.wat_module_instructions.specs.Parts.{StepsFrom};
 ghost use Rattle.wat_module_instructions.specs.Parts.{scope_of};
-ghost use Rattle.wat_module_instructions.specs.Parts.{stack};
 ghost use Rattle.wat_module_tokens.specs.Terminals as terminals;
-ghost use Rattle.std.specs.Prelude.{◌≡◌, [], Ok, Err, MatchResult};
+ghost use Rattle.std.specs.Prelude.{◌≡◌, [], ◌∷◌, true, List, Ok, Err, MatchResult};
 
 use crate::faults::unexpected;
-use crate::frame::Frame;
+use crate::frame::{Frame, Frames};
 use crate::reading::{self, Scope};
 use crate::uses;
 use std::alloc::Global;
@@ -44,7 +46,7 @@ pub fn instructions<'p, 'a>(
         result }
 {
     let mut out = Vec::with_capacity(alloc, 1)?;
-    let mut frames = Vec::new(alloc);
+    let mut frames = Frames::new(alloc);
     frames.push(Frame::Body)?;
     match steps(alloc, scope, &mut frames, &mut out, cursor) {
         Ok(rest) => {
@@ -68,7 +70,7 @@ pub fn one_folded<'p, 'a>(
     // Most are a single instruction. A first push into an empty vector would reserve capacity for
     // four.
     let mut out = Vec::with_capacity(alloc, 1)?;
-    let mut frames = Vec::new(alloc);
+    let mut frames = Frames::new(alloc);
     match first_step(alloc, scope, &mut frames, &mut out, cursor) {
         Ok(rest) => match steps(alloc, scope, &mut frames, &mut out, rest) {
             Ok(rest) => Ok((out, rest)),
@@ -83,13 +85,13 @@ pub fn one_folded<'p, 'a>(
 fn first_step<'p, 'a>(
     alloc: Global,
     scope: &Scope<'_, '_>,
-    frames: &mut Vec<Frame<'p>>,
+    frames: &mut Frames<'p>,
     out: &mut Vec<Instruction>,
     cursor: TokenCursor<'p, 'a>,
 ) -> Result<TokenCursor<'p, 'a>, ParseFailure<'p, 'a>>
-    requires { stack frames.now.items ≡ [] }
+    requires { frames.now ≡ [] }
     ensures { StepsAs (spec.first_step (scope_of scope.now) (terminals_of cursor.entry))
-        out.old.items out.new.items (stack frames.new.items) result }
+        out.old.items out.new.items frames.new result }
 {
     match cursor.first() {
         Some((DecodedToken::Word(word), rest)) => folded_instruction(
@@ -104,20 +106,20 @@ fn first_step<'p, 'a>(
 fn steps<'p, 'a>(
     alloc: Global,
     scope: &Scope<'_, '_>,
-    frames: &mut Vec<Frame<'p>>,
+    frames: &mut Frames<'p>,
     out: &mut Vec<Instruction>,
     cursor: TokenCursor<'p, 'a>,
 ) -> Result<TokenCursor<'p, 'a>, ParseFailure<'p, 'a>>
     ensures { MatchResult result
-        (λ r. RunsTo (scope_of scope.now) (stack frames.old.items) (terminals_of cursor.entry)
+        (λ r. RunsTo (scope_of scope.now) frames.old (terminals_of cursor.entry)
         out.old.items out.new.items (terminals_of r))
-        (λ e. RunsInto (scope_of scope.now) (stack frames.old.items) (terminals_of cursor.entry)
+        (λ e. RunsInto (scope_of scope.now) frames.old (terminals_of cursor.entry)
         e) }
 {
     let mut left = cursor;
     'open: loop {
-        match frames.pop() {
-            Some(frame) => match step(alloc, scope, frame, frames, out, left) {
+        match frames.last() {
+            Some(_) => match step(alloc, scope, frames, out, left) {
                 Ok(next) => {
                     left = next;
                 }
@@ -128,45 +130,61 @@ fn steps<'p, 'a>(
     }
 }
 
-/// Parses the next instruction or part inside `frame`, or closes it. `frame` is the innermost open
-/// part, and is no longer on the stack. Consumes at least one token.
+/// Parses the next instruction or part inside the innermost part, or closes that part. Consumes at
+/// least one token.
 #[tactic(auto, unfolding(crate::specs::Machine::step))]
 fn step<'p, 'a>(
     alloc: Global,
     scope: &Scope<'_, '_>,
-    frame: Frame<'p>,
-    frames: &mut Vec<Frame<'p>>,
+    frames: &mut Frames<'p>,
     out: &mut Vec<Instruction>,
     cursor: TokenCursor<'p, 'a>,
 ) -> Result<TokenCursor<'p, 'a>, ParseFailure<'p, 'a>>
-    ensures { StepsAs
-        (spec.step (scope_of scope.now) (part frame.entry) (stack frames.old.items)
-        (terminals_of cursor.entry))
-        out.old.items out.new.items (stack frames.new.items) result }
+    ensures { StepsFrom
+        (λ p ps. spec.step (scope_of scope.now) p ps (terminals_of cursor.entry))
+        frames.old out.old.items out.new.items frames.new result }
 {
     match cursor.first() {
-        Some((DecodedToken::Open, rest)) => folded(alloc, scope, frame, frames, out, rest),
-        Some((DecodedToken::Close, rest)) => closed(frame, frames, out, cursor, rest),
+        Some((DecodedToken::Open, rest)) => folded(alloc, scope, frames, out, rest),
+        Some((DecodedToken::Close, rest)) => close(frames, out, cursor, rest),
         Some((DecodedToken::Word(word), rest)) => at_word(
-            alloc, scope, frame, frames, out, word, cursor, rest,
+            alloc, scope, frames, out, word, cursor, rest,
         ),
         _ => Err(ParseFailure::Text(unexpected(cursor))),
     }
 }
 
-/// Closes `frame` at `)`, with which `cursor` begins. Emits the instruction of operands, or `end`
-/// after a folded block. A `block .. end` and a folded `if` without `(then` do not end with `)`.
+/// Closes the innermost part at `)`. `cursor` begins with the `)`, and `rest` comes after it.
+fn close<'p, 'a>(
+    frames: &mut Frames<'p>,
+    out: &mut Vec<Instruction>,
+    cursor: TokenCursor<'p, 'a>,
+    rest: TokenCursor<'p, 'a>,
+) -> Result<TokenCursor<'p, 'a>, ParseFailure<'p, 'a>>
+    ensures { StepsFrom
+        (λ p ps. spec.close_step p (terminals_of cursor.entry) (terminals_of rest.entry) ps)
+        frames.old out.old.items out.new.items frames.new result }
+{
+    match frames.pop() {
+        Some(frame) => closed(frame, frames, out, cursor, rest),
+        None => Err(ParseFailure::Text(unexpected(cursor))),
+    }
+}
+
+/// Parses what follows the `)` that closes `frame`, which is no longer on the stack. Emits the
+/// instruction of operands, or `end` after a folded block. A `block .. end` and a folded `if`
+/// without `(then` do not end with `)`.
 fn closed<'p, 'a>(
     frame: Frame<'p>,
-    frames: &mut Vec<Frame<'p>>,
+    frames: &mut Frames<'p>,
     out: &mut Vec<Instruction>,
     cursor: TokenCursor<'p, 'a>,
     rest: TokenCursor<'p, 'a>,
 ) -> Result<TokenCursor<'p, 'a>, ParseFailure<'p, 'a>>
     ensures { StepsAs
         (spec.close_step (part frame.entry) (terminals_of cursor.entry) (terminals_of rest.entry)
-        (stack frames.old.items))
-        out.old.items out.new.items (stack frames.new.items) result }
+        frames.old)
+        out.old.items out.new.items frames.new result }
 {
     match frame {
         Frame::Body => Ok(rest),
@@ -187,12 +205,12 @@ fn closed<'p, 'a>(
 
 /// Parses the `)` of `(if` after the `)` of its `(else`.
 fn after_else<'p, 'a>(
-    frames: &mut Vec<Frame<'p>>,
+    frames: &mut Frames<'p>,
     out: &mut Vec<Instruction>,
     cursor: TokenCursor<'p, 'a>,
 ) -> Result<TokenCursor<'p, 'a>, ParseFailure<'p, 'a>>
-    ensures { StepsAs (spec.else_step (terminals_of cursor.entry) (stack frames.old.items))
-        out.old.items out.new.items (stack frames.new.items) result }
+    ensures { StepsAs (spec.else_step (terminals_of cursor.entry) frames.old)
+        out.old.items out.new.items frames.new result }
 {
     match cursor.first() {
         Some((DecodedToken::Close, rest)) => {
@@ -206,14 +224,14 @@ fn after_else<'p, 'a>(
 /// Parses the `)` of `(if`, or `(else`, after the `)` of its `(then`.
 fn after_then<'p, 'a>(
     label: Name<'p>,
-    frames: &mut Vec<Frame<'p>>,
+    frames: &mut Frames<'p>,
     out: &mut Vec<Instruction>,
     cursor: TokenCursor<'p, 'a>,
 ) -> Result<TokenCursor<'p, 'a>, ParseFailure<'p, 'a>>
     ensures { StepsAs
         (spec.then_step (terminals.label label.entry) (terminals_of cursor.entry)
-        (stack frames.old.items))
-        out.old.items out.new.items (stack frames.new.items) result }
+        frames.old)
+        out.old.items out.new.items frames.new result }
 {
     match cursor.first() {
         Some((DecodedToken::Close, rest)) => {
@@ -226,17 +244,16 @@ fn after_then<'p, 'a>(
 }
 
 /// Parses `else` after the `(` that follows the `)` of `(then`.
-#[tactic(auto, using(crate::proofs::Stacks::stack_push))]
 fn other_part<'p, 'a>(
     label: Name<'p>,
-    frames: &mut Vec<Frame<'p>>,
+    frames: &mut Frames<'p>,
     out: &mut Vec<Instruction>,
     cursor: TokenCursor<'p, 'a>,
 ) -> Result<TokenCursor<'p, 'a>, ParseFailure<'p, 'a>>
     ensures { StepsAs
         (spec.other_step (terminals.label label.entry) (terminals_of cursor.entry)
-        (stack frames.old.items))
-        out.old.items out.new.items (stack frames.new.items) result }
+        frames.old)
+        out.old.items out.new.items frames.new result }
 {
     match cursor.first() {
         Some((DecodedToken::Word(word), rest)) => {
@@ -251,40 +268,38 @@ fn other_part<'p, 'a>(
 }
 
 /// Emits `else` and pushes the frame of `(else`, after that keyword.
-#[tactic(auto, using(crate::proofs::Stacks::stack_push))]
 fn step_at_else<'p, 'a>(
     label: Name<'p>,
-    frames: &mut Vec<Frame<'p>>,
+    frames: &mut Frames<'p>,
     out: &mut Vec<Instruction>,
     rest: TokenCursor<'p, 'a>,
 ) -> Result<TokenCursor<'p, 'a>, ParseFailure<'p, 'a>>
     ensures { StepsAs
         (spec.other_part (terminals.label label.entry) (terminals_of rest.entry)
-        (stack frames.old.items))
-        out.old.items out.new.items (stack frames.new.items) result }
+        frames.old)
+        out.old.items out.new.items frames.new result }
 {
     frames.push(Frame::Else(label))?;
     out.push(ELSE)?;
     Ok(rest)
 }
 
-/// Parses the keyword after a `(` inside `frame`: `then`, or that of a folded instruction.
+/// Parses the keyword after a `(` inside the innermost part: `then`, or that of a folded
+/// instruction.
 fn folded<'p, 'a>(
     alloc: Global,
     scope: &Scope<'_, '_>,
-    frame: Frame<'p>,
-    frames: &mut Vec<Frame<'p>>,
+    frames: &mut Frames<'p>,
     out: &mut Vec<Instruction>,
     cursor: TokenCursor<'p, 'a>,
 ) -> Result<TokenCursor<'p, 'a>, ParseFailure<'p, 'a>>
-    ensures { StepsAs
-        (spec.open_step (scope_of scope.now) (part frame.entry) (terminals_of cursor.entry)
-        (stack frames.old.items))
-        out.old.items out.new.items (stack frames.new.items) result }
+    ensures { StepsFrom
+        (λ p ps. spec.open_step (scope_of scope.now) p (terminals_of cursor.entry) ps)
+        frames.old out.old.items out.new.items frames.new result }
 {
     match cursor.first() {
         Some((DecodedToken::Word(word), rest)) => folded_word(
-            alloc, scope, frame, frames, out, word, cursor, rest,
+            alloc, scope, frames, out, word, cursor, rest,
         ),
         _ => Err(ParseFailure::Text(unexpected(cursor))),
     }
@@ -292,31 +307,53 @@ fn folded<'p, 'a>(
 
 /// Parses `then` after a condition, or a folded instruction, after `(`. `cursor` begins with the
 /// keyword `word`, and `rest` comes after it.
-#[tactic(auto, using(crate::proofs::Stacks::stack_push))]
 fn folded_word<'p, 'a>(
     alloc: Global,
     scope: &Scope<'_, '_>,
-    frame: Frame<'p>,
-    frames: &mut Vec<Frame<'p>>,
+    frames: &mut Frames<'p>,
     out: &mut Vec<Instruction>,
     word: &str,
     cursor: TokenCursor<'p, 'a>,
     rest: TokenCursor<'p, 'a>,
 ) -> Result<TokenCursor<'p, 'a>, ParseFailure<'p, 'a>>
+    ensures { StepsFrom
+        (λ p ps. spec.folded_by (scope_of scope.now) p word.now (terminals_of cursor.entry)
+        (terminals_of rest.entry) ps)
+        frames.old out.old.items out.new.items frames.new result }
+{
+    if !reading::is_then(word) {
+        return folded_instruction(alloc, scope, frames, out, word, cursor, rest);
+    }
+    match frames.pop() {
+        Some(frame) => then_inside(alloc, scope, frame, frames, out, word, cursor, rest),
+        None => Err(ParseFailure::Text(unexpected(cursor))),
+    }
+}
+
+/// Parses `then` after `(` inside `frame`, which is no longer on the stack. After a condition it
+/// begins a branch; in any other part it is an unknown instruction. `cursor` begins with the
+/// keyword `word`, and `rest` comes after it.
+fn then_inside<'p, 'a>(
+    alloc: Global,
+    scope: &Scope<'_, '_>,
+    frame: Frame<'p>,
+    frames: &mut Frames<'p>,
+    out: &mut Vec<Instruction>,
+    word: &str,
+    cursor: TokenCursor<'p, 'a>,
+    rest: TokenCursor<'p, 'a>,
+) -> Result<TokenCursor<'p, 'a>, ParseFailure<'p, 'a>>
+    requires { is_then word.now ≡ true }
     ensures { StepsAs
         (spec.folded_by (scope_of scope.now) (part frame.entry) word.now (terminals_of cursor.entry)
-        (terminals_of rest.entry) (stack frames.old.items))
-        out.old.items out.new.items (stack frames.new.items) result }
+        (terminals_of rest.entry) frames.old)
+        out.old.items out.new.items frames.new result }
 {
     match frame {
         Frame::Condition(instruction, label) => {
-            if reading::is_then(word) {
-                frames.push(Frame::Then(label))?;
-                out.push(instruction)?;
-                return Ok(rest);
-            }
-            frames.push(Frame::Condition(instruction, label))?;
-            folded_instruction(alloc, scope, frames, out, word, cursor, rest)
+            frames.push(Frame::Then(label))?;
+            out.push(instruction)?;
+            Ok(rest)
         }
         Frame::Body
         | Frame::Block(_, _)
@@ -332,11 +369,10 @@ fn folded_word<'p, 'a>(
 
 /// Parses the keyword and the immediates of a folded instruction, and pushes its frame. `cursor`
 /// begins with the keyword `word`, and `rest` comes after it.
-#[tactic(auto, using(crate::proofs::Stacks::stack_push))]
 fn folded_instruction<'p, 'a>(
     alloc: Global,
     scope: &Scope<'_, '_>,
-    frames: &mut Vec<Frame<'p>>,
+    frames: &mut Frames<'p>,
     out: &mut Vec<Instruction>,
     word: &str,
     cursor: TokenCursor<'p, 'a>,
@@ -344,8 +380,8 @@ fn folded_instruction<'p, 'a>(
 ) -> Result<TokenCursor<'p, 'a>, ParseFailure<'p, 'a>>
     ensures { StepsAs
         (spec.open_by (scope_of scope.now) (structured word.now) (terminals_of cursor.entry)
-        (terminals_of rest.entry) (stack frames.old.items))
-        out.old.items out.new.items (stack frames.new.items) result }
+        (terminals_of rest.entry) frames.old)
+        out.old.items out.new.items frames.new result }
 {
     match reading::structured(word) {
         Some(opcode) => folded_block(alloc, scope, frames, out, opcode, rest),
@@ -359,19 +395,18 @@ fn folded_instruction<'p, 'a>(
 
 /// Parses the label and the type of a folded `block`, `loop` or `if` after its keyword, and pushes
 /// its frame. An `if` is emitted later, after its condition.
-#[tactic(auto, using(crate::proofs::Stacks::stack_push))]
 fn folded_block<'p, 'a>(
     alloc: Global,
     scope: &Scope<'_, '_>,
-    frames: &mut Vec<Frame<'p>>,
+    frames: &mut Frames<'p>,
     out: &mut Vec<Instruction>,
     opcode: u8,
     cursor: TokenCursor<'p, 'a>,
 ) -> Result<TokenCursor<'p, 'a>, ParseFailure<'p, 'a>>
     ensures { StepsAs
         (spec.open_block (scope_of scope.now) opcode (terminals_of cursor.entry)
-        (stack frames.old.items))
-        out.old.items out.new.items (stack frames.new.items) result }
+        frames.old)
+        out.old.items out.new.items frames.new result }
 {
     let (label, rest) = reading::label(cursor);
     let (argument, rest) = uses::block_type(alloc, scope, rest)?;
@@ -388,56 +423,92 @@ fn folded_block<'p, 'a>(
     Ok(rest)
 }
 
-/// Parses `end`, `else` or an instruction that is not folded inside `frame`. Operands and
-/// conditions must be folded. `cursor` begins with the keyword `word`, and `rest` comes after it.
-#[tactic(auto, using(crate::proofs::Stacks::stack_push))]
+/// Parses `end`, `else` or an instruction that is not folded inside the innermost part. Operands
+/// and conditions must be folded. `cursor` begins with the keyword `word`, and `rest` comes after
+/// it.
 fn at_word<'p, 'a>(
     alloc: Global,
     scope: &Scope<'_, '_>,
-    frame: Frame<'p>,
-    frames: &mut Vec<Frame<'p>>,
+    frames: &mut Frames<'p>,
     out: &mut Vec<Instruction>,
     word: &str,
     cursor: TokenCursor<'p, 'a>,
     rest: TokenCursor<'p, 'a>,
 ) -> Result<TokenCursor<'p, 'a>, ParseFailure<'p, 'a>>
-    ensures { StepsAs
-        (spec.word_step (scope_of scope.now) (part frame.entry) word.now (terminals_of cursor.entry)
-        (terminals_of rest.entry) (stack frames.old.items))
-        out.old.items out.new.items (stack frames.new.items) result }
+    ensures { StepsFrom
+        (λ p ps. spec.word_step (scope_of scope.now) p word.now (terminals_of cursor.entry)
+        (terminals_of rest.entry) ps)
+        frames.old out.old.items out.new.items frames.new result }
 {
-    match frame {
-        Frame::Operands(_) => Err(ParseFailure::Text(unexpected(cursor))),
-        Frame::Condition(_, _) => Err(ParseFailure::Text(unexpected(cursor))),
-        Frame::Block(may_have_else, label) => {
-            if reading::is_end(word) {
-                let rest = reading::end_label(label, rest)?;
-                out.push(END)?;
-                return Ok(rest);
-            }
-            if may_have_else && reading::is_else(word) {
-                let rest = reading::end_label(label, rest)?;
-                frames.push(Frame::Block(false, label))?;
-                out.push(ELSE)?;
-                return Ok(rest);
-            }
-            frames.push(Frame::Block(may_have_else, label))?;
-            instruction(alloc, scope, frames, out, word, cursor, rest)
+    match frames.last() {
+        Some(Frame::Block(may_have_else, label)) => {
+            let (may_have_else, label) = (*may_have_else, *label);
+            at_block_word(
+                alloc,
+                scope,
+                may_have_else,
+                label,
+                frames,
+                out,
+                word,
+                cursor,
+                rest,
+            )
         }
-        Frame::Body | Frame::Group(_) | Frame::Then(_) | Frame::Else(_) => {
-            frames.push(frame)?;
-            instruction(alloc, scope, frames, out, word, cursor, rest)
-        }
+        Some(Frame::Body | Frame::Group(_) | Frame::Then(_) | Frame::Else(_)) => instruction(
+            alloc, scope, frames, out, word, cursor, rest,
+        ),
+        Some(Frame::Operands(_) | Frame::Condition(_, _)) | None => Err(ParseFailure::Text(
+            unexpected(cursor),
+        )),
     }
+}
+
+/// Parses `end`, `else` or an instruction that is not folded inside the innermost part, a
+/// `block .. end` with this label. It may have an `else` if `may_have_else` is `true`. `cursor`
+/// begins with the keyword `word`, and `rest` comes after it.
+fn at_block_word<'p, 'a>(
+    alloc: Global,
+    scope: &Scope<'_, '_>,
+    may_have_else: bool,
+    label: Name<'p>,
+    frames: &mut Frames<'p>,
+    out: &mut Vec<Instruction>,
+    word: &str,
+    cursor: TokenCursor<'p, 'a>,
+    rest: TokenCursor<'p, 'a>,
+) -> Result<TokenCursor<'p, 'a>, ParseFailure<'p, 'a>>
+    ensures { (ps : List Part) →
+        frames.old ≡ spec.Block may_have_else (terminals.label label.entry) ∷ ps →
+        StepsAs
+        (spec.word_step (scope_of scope.now)
+        (spec.Block may_have_else (terminals.label label.entry)) word.now
+        (terminals_of cursor.entry) (terminals_of rest.entry) ps)
+        out.old.items out.new.items frames.new result }
+{
+    if reading::is_end(word) {
+        let rest = reading::end_label(label, rest)?;
+        frames.pop();
+        out.push(END)?;
+        return Ok(rest);
+    }
+    if may_have_else && reading::is_else(word) {
+        let rest = reading::end_label(label, rest)?;
+        frames.pop();
+        frames.push(Frame::Block(false, label))?;
+        out.push(ELSE)?;
+        return Ok(rest);
+    }
+    instruction(alloc, scope, frames, out, word, cursor, rest)
 }
 
 /// Parses an instruction that is not folded: a plain one, or the label and the type of a block,
 /// whose frame is pushed. `cursor` begins with the keyword `word`, and `rest` comes after it.
-#[tactic(auto, using(crate::proofs::Stacks::stack_push))]
+#[inline(always)]
 fn instruction<'p, 'a>(
     alloc: Global,
     scope: &Scope<'_, '_>,
-    frames: &mut Vec<Frame<'p>>,
+    frames: &mut Frames<'p>,
     out: &mut Vec<Instruction>,
     word: &str,
     cursor: TokenCursor<'p, 'a>,
@@ -445,8 +516,8 @@ fn instruction<'p, 'a>(
 ) -> Result<TokenCursor<'p, 'a>, ParseFailure<'p, 'a>>
     ensures { StepsAs
         (spec.word_by (scope_of scope.now) (structured word.now) (terminals_of cursor.entry)
-        (terminals_of rest.entry) (stack frames.old.items))
-        out.old.items out.new.items (stack frames.new.items) result }
+        (terminals_of rest.entry) frames.old)
+        out.old.items out.new.items frames.new result }
 {
     match reading::structured(word) {
         Some(opcode) => {

@@ -1,5 +1,6 @@
 //! Identifiers and their indices.
-ghost use Rattle.std.specs.Prelude.{◌≡◌, ◌≤◌, [], length, map, is_some, IfOk, IfSome};
+ghost use Rattle.std.specs.Prelude.{◌≡◌, ◌≤◌, ◌<◌, ◌^◌, ◌++◌, [], None, length, map, is_some};
+ghost use Rattle.std.specs.Prelude.{replicate, IfOk, IfSome};
 ghost use Rattle.wat_module_ast.specs.Grammar.{position};
 ghost use Rattle.wat_module_instructions.specs.Indices.{AreIndices, IndicesOf};
 ghost use Rattle.wat_module_ast.specs.Names.{are_distinct, has_name};
@@ -13,21 +14,24 @@ use wat_module_tokens::token::Name;
 /// Identifiers of the items of an index space, in the order of their indices.
 #[derive(Drop)]
 pub struct IndexedNames<'n> {
+    /// Number of items before those of `names`. They have no identifiers.
+    unnamed: usize,
     names: Vec<Name<'n>>,
-    /// Index of each identifier, if there are more than `FEW` items. Otherwise empty.
+    /// Position in `names` of each identifier, if `names` has more than `FEW` items. Otherwise
+    /// empty.
     indices: BTreeMap<&'n str, usize>,
 }
 
 impl<'n> Model for IndexedNames<'n> {
-    ghost use Rattle.std.specs.Prelude.{List, map};
+    ghost use Rattle.std.specs.Prelude.{◌<◌, ◌^◌, ◌++◌, List, None, map, replicate};
     ghost use Rattle.wat_module_instructions.specs.Indices.{IndicesOf};
     ghost use Rattle.wat_module_tokens.specs.Terminals.{Label, label};
 
     ghost Value = { List Label };
 
-    ghost view = { λ n. map label n.names.items };
+    ghost view = { λ n. replicate n.unnamed None ++ map label n.names.items };
 
-    ghost invariant = { λ n. IndicesOf n.indices (map label n.names.items) };
+    ghost invariant = { λ n. IndicesOf n.indices (map label n.names.items) × n.unnamed < 2 ^ 63 };
 }
 
 /// Maximum number of items whose identifiers are searched one by one.
@@ -39,6 +43,7 @@ impl<'n> IndexedNames<'n> {
         ensures { result ≡ [] }
     {
         IndexedNames {
+            unnamed: 0,
             names: Vec::new(alloc),
             indices: BTreeMap::new(alloc),
         }
@@ -51,11 +56,31 @@ impl<'n> IndexedNames<'n> {
         ensures distinct { IfOk result (λ found. is_some found ≡
             are_distinct (map label names.entry.items)) }
     {
+        IndexedNames::after_unnamed(alloc, 0, names)
+    }
+
+    /// Indexes the identifiers of items that come after `unnamed` items without identifiers.
+    /// `unnamed` must be below 2^63. Returns `None` if two items have the same identifier.
+    pub fn after_unnamed(
+        alloc: Global,
+        unnamed: usize,
+        names: Vec<Name<'n>>,
+    ) -> Result<Option<IndexedNames<'n>>, AllocError>
+        requires { unnamed < 2 ^ 63 }
+        ensures these { IfOk result (λ found. IfSome found (λ these. these ≡
+            replicate unnamed None ++ map label names.entry.items)) }
+        ensures distinct { IfOk result (λ found. is_some found ≡
+            are_distinct (map label names.entry.items)) }
+    {
         if names.len() <= FEW {
-            return Ok(few(alloc, names));
+            return Ok(few(alloc, unnamed, names));
         }
         match indices(alloc, &names)? {
-            Some(indices) => Ok(Some(IndexedNames { names, indices })),
+            Some(indices) => Ok(Some(IndexedNames {
+                unnamed,
+                names,
+                indices,
+            })),
             None => Ok(None),
         }
     }
@@ -64,21 +89,37 @@ impl<'n> IndexedNames<'n> {
     pub fn position(&self, name: &str) -> Option<usize>
         ensures { result ≡ position 0 name.now self.now }
     {
-        if self.names.len() <= FEW {
-            return first(&self.names, name);
+        match named(&self.names, &self.indices, name) {
+            Some(i) => Some(self.unnamed + i),
+            None => None,
         }
-        self.indices.get(name).copied()
     }
 }
 
-/// Returns the identifiers of at most `FEW` items, or `None` if two items have the same one.
-fn few<'n>(alloc: Global, names: Vec<Name<'n>>) -> Option<IndexedNames<'n>>
-    requires { length names.items ≤ 16 }
-    ensures these { IfSome result (λ these. these ≡ map label names.entry.items) }
+/// Returns the position in `names` of an identifier. The map is read only if there are more than
+/// `FEW` names.
+fn named<'n>(names: &[Name<'n>], indices: &BTreeMap<&'n str, usize>, name: &str) -> Option<usize>
+    requires { IndicesOf indices.now (map label names.now) }
+    ensures { result ≡ position 0 name.now (map label names.now) }
+{
+    if names.len() <= FEW {
+        return first(names, name);
+    }
+    indices.get(name).copied()
+}
+
+/// Returns the identifiers of at most `FEW` items that come after `unnamed` items without
+/// identifiers, or `None` if two items have the same one.
+fn few<'n>(alloc: Global, unnamed: usize, names: Vec<Name<'n>>) -> Option<IndexedNames<'n>>
+    requires few { length names.items ≤ 16 }
+    requires small { unnamed < 2 ^ 63 }
+    ensures these { IfSome result (λ these. these ≡
+        replicate unnamed None ++ map label names.entry.items) }
     ensures distinct { is_some result ≡ are_distinct (map label names.entry.items) }
 {
     if are_distinct(&names) {
         return Some(IndexedNames {
+            unnamed,
             names,
             indices: BTreeMap::new(alloc),
         });

@@ -8,16 +8,15 @@ ghost use Rattle.wat_module_ast.specs.Grammar.{opcode_of, plain, position, refer
 ghost use Rattle.wat_module_ast.specs.Grammar.{signed, structured, value_type, with_f32};
 ghost use Rattle.wat_module_ast.specs.Grammar.{with_f64, with_index, with_labels, with_zero};
 ghost use Rattle.wat_module_tokens.specs.TokenCursor.{terminals_of};
-ghost use Rattle.wat_module_instructions.specs.Machine.{bound, labels_in};
+ghost use Rattle.wat_module_instructions.specs.Machine.{labels_in};
 ghost use Rattle.wat_module_ast.specs.Branches.{branches};
 ghost use Rattle.wat_module_instructions.specs.Parts.{Faults, IsLabel, IsMemory, NoLabel, ReadsAs};
 ghost use Rattle.wat_module_instructions.specs.Parts.{identifiers_of, ReadsExactly, SkipsExactly};
-ghost use Rattle.wat_module_instructions.specs.Parts.{part};
-ghost use Rattle.wat_module_instructions.specs.Parts.{scope_of, stack};
+ghost use Rattle.wat_module_instructions.specs.Parts.{scope_of};
 ghost use Rattle.wat_module_tokens.specs.Terminals.{Word, label};
 
 use crate::faults::{fault, unexpected};
-use crate::frame::Frame;
+use crate::frame::Frames;
 use crate::names::IndexedNames;
 use crate::{floats, memory, table_arguments, uses, vector_arguments};
 use std::alloc::Global;
@@ -56,46 +55,12 @@ pub struct Scope<'s, 'n> {
     pub datas: &'s IndexedNames<'n>,
 }
 
-/// Returns the label that a frame binds, if it binds one. The body binds a label without an
-/// identifier.
-fn bound<'n>(frame: &Frame<'n>) -> Option<Name<'n>>
-    ensures { MatchOption result
-        (bound (part frame.now) ≡ [])
-        (λ l. bound (part frame.now) ≡ label l ∷ []) }
-{
-    match *frame {
-        Frame::Body => Some(Name::Absent),
-        Frame::Block(_, label) | Frame::Group(label) | Frame::Then(label) | Frame::Else(label) =>
-            Some(label),
-        Frame::Operands(_) | Frame::Condition(_, _) => None,
-    }
-}
-
-/// Returns the index of the innermost label with this identifier: the number of open labels inside
-/// it. Returns `None` if no open label has it.
-fn label_index(frames: &[Frame<'_>], name: &str) -> Option<usize>
-    ensures { result ≡ position 0 name.now (labels_in (stack frames.now)) }
-{
-    let mut outer = frames;
-    let mut depth = 0;
-    while let [below @ .., frame] = outer {
-        if let Some(label) = bound(frame) {
-            if label.is(name) {
-                return Some(depth);
-            }
-            depth += 1;
-        }
-        outer = below;
-    }
-    None
-}
-
 /// The identifiers that may be written for an index: those of the items of an index space, or the
 /// labels of the open frames.
 #[derive(Clone, Copy)]
 enum Identifiers<'s, 'n> {
     Items(&'s IndexedNames<'n>),
-    Labels(&'s [Frame<'n>]),
+    Labels(&'s Frames<'n>),
 }
 
 /// Returns the index of the first item, or of the innermost label, with this identifier, or `None`.
@@ -104,7 +69,7 @@ fn position(among: Identifiers<'_, '_>, name: &str) -> Option<usize>
 {
     match among {
         Identifiers::Items(names) => names.position(name),
-        Identifiers::Labels(frames) => label_index(frames, name),
+        Identifiers::Labels(frames) => frames.position(name),
     }
 }
 
@@ -144,11 +109,11 @@ pub fn index<'p, 'a>(
 
 /// Parses the index of a label: an unsigned 32-bit integer, or the label's identifier.
 fn label_number<'p, 'a>(
-    frames: &[Frame<'_>],
+    frames: &Frames<'_>,
     cursor: TokenCursor<'p, 'a>,
 ) -> Result<(usize, TokenCursor<'p, 'a>), Fault<'p, 'a>>
     ensures { ReadsExactly (λ v. v)
-        (index (labels_in (stack frames.now)) (terminals_of cursor.entry)) result }
+        (index (labels_in frames.now) (terminals_of cursor.entry)) result }
 {
     index_among(Identifiers::Labels(frames), cursor)
 }
@@ -179,11 +144,11 @@ fn name_and_zero<'p, 'a>(
 
 /// Parses the index of a label as an immediate.
 fn label_argument<'p, 'a>(
-    frames: &[Frame<'_>],
+    frames: &Frames<'_>,
     cursor: TokenCursor<'p, 'a>,
 ) -> Result<(Argument, TokenCursor<'p, 'a>), Fault<'p, 'a>>
     ensures { ReadsExactly (λ v. v)
-        (with_index (index (labels_in (stack frames.now)) (terminals_of cursor.entry))) result }
+        (with_index (index (labels_in frames.now) (terminals_of cursor.entry))) result }
 {
     let (n, rest) = label_number(frames, cursor)?;
     Ok((Argument::Index(n), rest))
@@ -199,12 +164,12 @@ struct LastLabel<'p, 'a> {
 /// Parses the labels of `br_table`, at least one. The last is the default.
 fn labels_argument<'p, 'a>(
     alloc: Global,
-    frames: &[Frame<'_>],
+    frames: &Frames<'_>,
     cursor: TokenCursor<'p, 'a>,
 ) -> Result<(Argument, TokenCursor<'p, 'a>), ParseFailure<'p, 'a>>
     ensures { ReadsAs (λ v. v)
-        (labels_by (labels_in (stack frames.now))
-        (index (labels_in (stack frames.now)) (terminals_of cursor.entry)))
+        (labels_by (labels_in frames.now)
+        (index (labels_in frames.now) (terminals_of cursor.entry)))
         result }
 {
     let (label, cursor) = label_number(frames, cursor)?;
@@ -243,19 +208,19 @@ fn branch_table<'p, 'a>(
 /// the next token is neither an integer nor an identifier.
 #[tactic(auto, unfolding(wat_module_ast::specs::Grammar::labels_from))]
 fn next_label<'p, 'a>(
-    frames: &[Frame<'_>],
+    frames: &Frames<'_>,
     labels: &mut Vec<usize>,
     last: LastLabel<'p, 'a>,
 ) -> Result<Option<LastLabel<'p, 'a>>, ParseFailure<'p, 'a>>
     ensures is { MatchResult result
         (λ o. MatchOption o
-        (NoLabel (labels_in (stack frames.now)) last.entry.label
+        (NoLabel (labels_in frames.now) last.entry.label
         (terminals_of last.entry.cursor) labels.old.items labels.new.items)
-        (λ l. IsLabel (labels_in (stack frames.now)) last.entry.label
+        (λ l. IsLabel (labels_in frames.now) last.entry.label
         (terminals_of last.entry.cursor) labels.old.items labels.new.items l.label
         (terminals_of l.cursor)))
         (λ e. Faults
-        (labels_from (labels_in (stack frames.now)) last.entry.label
+        (labels_from (labels_in frames.now) last.entry.label
         (terminals_of last.entry.cursor))
         e) }
     ensures shorter { IfOk result (λ o. IfSome o (λ l. length (terminals_of l.cursor) <
@@ -417,12 +382,12 @@ fn heap_argument<'p, 'a>(
 fn immediate<'p, 'a>(
     alloc: Global,
     scope: &Scope<'_, '_>,
-    frames: &[Frame<'_>],
+    frames: &Frames<'_>,
     kind: Immediate,
     cursor: TokenCursor<'p, 'a>,
 ) -> Result<(Argument, TokenCursor<'p, 'a>), ParseFailure<'p, 'a>>
     ensures { ReadsAs (λ v. v)
-        (immediate_of (scope_of scope.now) (labels_in (stack frames.now)) kind
+        (immediate_of (scope_of scope.now) (labels_in frames.now) kind
         (terminals_of cursor.entry))
         result }
 {
@@ -490,11 +455,11 @@ fn opcode_of(opcode: Opcode, argument: &Argument) -> Opcode
 pub fn plain<'p, 'a>(
     alloc: Global,
     scope: &Scope<'_, '_>,
-    frames: &[Frame<'_>],
+    frames: &Frames<'_>,
     cursor: TokenCursor<'p, 'a>,
 ) -> Result<(Instruction, TokenCursor<'p, 'a>), ParseFailure<'p, 'a>>
     ensures { ReadsAs (λ v. v)
-        (plain (scope_of scope.now) (labels_in (stack frames.now)) (terminals_of cursor.entry))
+        (plain (scope_of scope.now) (labels_in frames.now) (terminals_of cursor.entry))
         result }
 {
     match cursor.first() {

@@ -17,7 +17,7 @@ use std::alloc::{AllocError, Global};
 use wat_module_ast::error::{Fault, FaultKind, ParseFailure};
 use wat_module_ast::instruction::{Argument, ValueType};
 use wat_module_ast::types::{
-    BoxedUse, FunctionType, IndirectCall, SelectTypes, TypeUse, copied, same_type, type_at_index,
+    BoxedUse, FunctionType, IndirectCall, SelectTypes, TypeUse, same_type, type_at_index,
 };
 use wat_module_tokens::stream::TokenCursor;
 use wat_module_tokens::token::DecodedToken;
@@ -158,7 +158,7 @@ fn type_use<'p, 'a>(
 ) -> Result<(TypeUse, TokenCursor<'p, 'a>), ParseFailure<'p, 'a>>
     ensures is { ReadsAs use_of
         (grammar.use_of (scope_of scope.now).types (terminals_of cursor.entry)) result }
-    ensures small { IfOk result (λ r. spec.index_or r.0.index 0 < 2 ^ 63) }
+    ensures small { IfOk result (λ r. spec.index_or_zero (use_of r.0) < 2 ^ 63) }
 {
     match after("type", cursor) {
         Some(rest) => indexed_use(alloc, scope, rest),
@@ -173,11 +173,10 @@ fn listed_use<'p, 'a>(
 ) -> Result<(TypeUse, TokenCursor<'p, 'a>), ParseFailure<'p, 'a>>
     ensures is { ReadsAs use_of (grammar.listed_use (grammar.lists_of (terminals_of cursor.entry)))
         result }
-    ensures small { IfOk result (λ r. spec.index_or r.0.index 0 < 2 ^ 63) }
+    ensures small { IfOk result (λ r. spec.index_or_zero (use_of r.0) < 2 ^ 63) }
 {
     let (of, rest) = lists(alloc, cursor)?;
-    let index = None;
-    Ok((TypeUse { index, of }, rest))
+    Ok((TypeUse::Inline(of), rest))
 }
 
 /// Parses a type use after `(type`.
@@ -190,7 +189,7 @@ fn indexed_use<'p, 'a>(
         (grammar.indexed_use (scope_of scope.now).types (terminals_of cursor.entry)
         (grammar.index (scope_of scope.now).types.names (terminals_of cursor.entry)))
         result }
-    ensures small { IfOk result (λ r. spec.index_or r.0.index 0 < 2 ^ 63) }
+    ensures small { IfOk result (λ r. spec.index_or_zero (use_of r.0) < 2 ^ 63) }
 {
     let (index, rest) = index(scope.type_names, cursor)?;
     closed_use(alloc, scope, index, cursor, rest)
@@ -209,7 +208,7 @@ fn closed_use<'p, 'a>(
         (grammar.closed_index (scope_of scope.now).types index (terminals_of all.entry)
         (terminals_of cursor.entry))
         result }
-    ensures small { IfOk result (λ r. spec.index_or r.0.index 0 < 2 ^ 63) }
+    ensures small { IfOk result (λ r. spec.index_or_zero (use_of r.0) < 2 ^ 63) }
 {
     match cursor.first() {
         Some((DecodedToken::Close, rest)) => {
@@ -224,18 +223,17 @@ fn closed_use<'p, 'a>(
 }
 
 /// Parses the rest of a type use after `(type index)`, if types are not known. The result has index
-/// 0 and the listed type.
+/// 0.
 fn assumed_use<'p, 'a>(
     alloc: Global,
     cursor: TokenCursor<'p, 'a>,
 ) -> Result<(TypeUse, TokenCursor<'p, 'a>), ParseFailure<'p, 'a>>
     ensures is { ReadsAs use_of (grammar.assumed (grammar.lists_of (terminals_of cursor.entry)))
         result }
-    ensures small { IfOk result (λ r. spec.index_or r.0.index 0 < 2 ^ 63) }
+    ensures small { IfOk result (λ r. spec.index_or_zero (use_of r.0) < 2 ^ 63) }
 {
-    let (of, rest) = lists(alloc, cursor)?;
-    let index = Some(0);
-    Ok((TypeUse { index, of }, rest))
+    let (_, rest) = lists(alloc, cursor)?;
+    Ok((TypeUse::Index(0), rest))
 }
 
 /// Parses the rest of a type use after `(type index)`, if types are known. Returns `UnknownName` if
@@ -251,7 +249,7 @@ fn typed_use<'p, 'a>(
         (grammar.indexed_by index (slice_get (map type_of types.now) index) (terminals_of all.entry)
         (terminals_of cursor.entry))
         result }
-    ensures small { IfOk result (λ r. spec.index_or r.0.index 0 < 2 ^ 63) }
+    ensures small { IfOk result (λ r. spec.index_or_zero (use_of r.0) < 2 ^ 63) }
 {
     match type_at_index(types, index) {
         Some(of) => agreed(alloc, index, of, all, cursor),
@@ -280,13 +278,11 @@ fn agreed<'p, 'a>(
         (grammar.agreed index (type_of of.now) (terminals_of all.entry)
         (grammar.lists_of (terminals_of cursor.entry)))
         result }
-    ensures small { IfOk result (λ r. spec.index_or r.0.index 0 < 2 ^ 63) }
+    ensures small { IfOk result (λ r. spec.index_or_zero (use_of r.0) < 2 ^ 63) }
 {
     let (listed, rest) = lists(alloc, cursor)?;
     if list_nothing(&listed.params, &listed.results) || same_type(&listed, of) {
-        let of = copied(alloc, of)?;
-        let index = Some(index);
-        return Ok((TypeUse { index, of }, rest));
+        return Ok((TypeUse::Index(index), rest));
     }
     Err(ParseFailure::Text(fault(FaultKind::OtherType, all)))
 }
@@ -359,19 +355,24 @@ pub(crate) fn block_type<'p, 'a>(
 
 /// Returns the result of a block type that has at most one result, no parameters and no type index.
 /// Returns `None` for any other block type.
-fn short_form(
-    index: Option<usize>,
-    params: &[ValueType],
-    results: &[ValueType],
-) -> Option<Option<ValueType>>
+fn short_form(uses: &TypeUse) -> Option<Option<ValueType>>
     ensures { MatchOption result
-        ((u : spec.TypeUse) → grammar.block_of index params.now results.now u ≡ argument.BlockUse u)
-        (λ of. (u : spec.TypeUse) →
-        grammar.block_of index params.now results.now u ≡ argument.Block of) }
+        (grammar.block_of (use_of uses.now) ≡ argument.BlockUse (use_of uses.now))
+        (λ of. grammar.block_of (use_of uses.now) ≡ argument.Block of) }
 {
-    if index.is_some() {
-        return None;
+    match uses {
+        TypeUse::Index(_) => None,
+        TypeUse::Inline(of) => only_result(&of.params, &of.results),
     }
+}
+
+/// Returns the result if there is at most one result and no parameter, otherwise `None`.
+fn only_result(params: &[ValueType], results: &[ValueType]) -> Option<Option<ValueType>>
+    ensures { MatchOption result
+        ((u : spec.TypeUse) → grammar.inline_block params.now results.now u ≡ argument.BlockUse u)
+        (λ of. (u : spec.TypeUse) →
+        grammar.inline_block params.now results.now u ≡ argument.Block of) }
+{
     match params {
         [] => match results {
             [] => Some(None),
@@ -384,11 +385,10 @@ fn short_form(
 
 /// Returns the immediate of a block with this type use.
 fn block_argument(alloc: Global, uses: TypeUse) -> Result<Argument, AllocError>
-    requires { spec.index_or uses.index 0 < 2 ^ 63 }
-    ensures { IfOk result (λ a. a ≡
-        grammar.block_of uses.index uses.of.params.items uses.of.results.items (use_of uses)) }
+    requires { spec.index_or_zero (use_of uses) < 2 ^ 63 }
+    ensures { IfOk result (λ a. a ≡ grammar.block_of (use_of uses)) }
 {
-    match short_form(uses.index, &uses.of.params, &uses.of.results) {
+    match short_form(&uses) {
         Some(of) => Ok(Argument::Block(of)),
         None => {
             let uses = BoxedUse::new(alloc, uses)?;

@@ -10,3 +10,5 @@ pub mod Headers
 pub mod OtherTypes
 pub mod Modules
 pub mod Utf8
+pub mod Unnamed
+pub mod Listing

@@ -1,3 +1,4 @@
 pub mod Reading
 pub mod Law
 pub mod Views
+pub mod Groups

@@ -5,15 +5,16 @@ use Rattle.wat_module_ast.specs.declared.error.ParseFailure.{ParseFailure}
 use Rattle.wat_module_ast.specs.declared.error.ParseFailure.TheVariants as refusal
 use Rattle.wat_module_instructions.specs.Parts.{fault_of}
 use Rattle.wat_module_ast.specs.Grammar.{Context}
-use Rattle.wat_module_tokens.specs.TokenCursor.{terminals_of}
 use Rattle.wat_module_tokens.specs.Terminals.{Terminal, Label, label}
 use Rattle.wat_module_ast.specs.Types.{Types}
 use Rattle.wat_module_ast.specs.TypeViews.{type_of}
 use Rattle.wat_module_parser.specs.declared.names.Binding as declared_binding
 use Rattle.wat_module_parser.specs.declared.names.Names as declared_names
+use Rattle.wat_module_parser.specs.declared.variables.ListedUse as declared_list
 use Rattle.wat_module_parser.specs.declared.variables.NamedUse as declared_use
+use Rattle.wat_module_parser.specs.declared.variables.NamedUse.TheVariants as uses
 use Rattle.wat_module_parser.specs.declared.variables.Variable as declared_variable
-use Rattle.wat_module_ast.specs.Fields.{Binding, NamedUse, Variable, binding, named_use, variable}
+use Rattle.wat_module_ast.specs.Fields.{Binding, NamedUse, Variable, binding, named_use, unnamed, variable}
 use Rattle.wat_module_parser.specs.Reading.{Item}
 
 -- An item of an index space of the code.
@@ -24,9 +25,14 @@ binding_of h = binding h.space (label h.name)
 abbrev pub variable_of : declared_variable.Variable → Variable
 variable_of v = variable (label v.name) v.of
 
+-- A type use of the code that lists its parameters and results.
+abbrev pub listed_use_of : declared_list.ListedUse → NamedUse
+listed_use_of u = named_use u.index (map variable_of u.params.items) (map variable_of u.results.items)
+
 -- A type use of the code, with the identifiers of its parameters.
 abbrev pub use_of : declared_use.NamedUse → NamedUse
-use_of u = named_use u.index (map variable_of u.params.items) (map variable_of u.results.items)
+use_of (uses.Listed u) = listed_use_of u
+use_of (uses.Indexed i t) = named_use (Some i) (map unnamed t.now.params.items) (map unnamed t.now.results.items)
 
 -- The types that the code parses with.
 abbrev pub types_of : declared_names.Names → Types

@@ -1,16 +1,16 @@
 //! Parses inline exports, and groups of parameters, results and locals.
-ghost use Rattle.std.specs.Prelude.{◌≡◌, [], ◌++◌, ◌∷◌, Ok, Err, map, true, false, IfOk, OnOk};
+ghost use Rattle.std.specs.Prelude.{◌≡◌, [], ◌++◌, ◌∷◌, Ok, Err, map, true, false};
 ghost use Rattle.std.specs.Prelude.{None, Some, MatchOption, MatchResult};
 ghost use Rattle.std.specs.Str.{is_utf8};
-ghost use Rattle.wat_module_ast.specs.Fields.{unnamed};
+ghost use Rattle.wat_module_parser.specs.Groups.{AreListed, IsListed, NoneListed};
 ghost use Rattle.wat_module_parser.specs.Reading as reading;
 ghost use Rattle.wat_module_ast.specs.Views.{text_of};
 ghost use Rattle.wat_module_parser.specs.Views.{IsItem, ItemFaults, NoItem, variable_of};
 ghost use Rattle.wat_module_tokens.specs.TokenCursor.{terminals_of};
-ghost use Rattle.wat_module_instructions.specs.Parts.{ReadsAs, ReadsExactly, SkipsExactly};
+ghost use Rattle.wat_module_instructions.specs.Parts.{Faults, ReadsAs, ReadsExactly, SkipsExactly};
 
 use crate::variables::Variable;
-use std::alloc::{AllocError, Global};
+use std::alloc::Global;
 use std::str;
 use wat_module_ast::error::{Fault, FaultKind, ParseFailure};
 use wat_module_ast::instruction::ValueType;
@@ -40,6 +40,9 @@ pub(crate) fn exports<'p, 'a>(
     }
 }
 
+/// Initial capacity of a list of variables that is not empty.
+const FEW: usize = 4;
+
 /// Parses groups of variables as long as one comes next. A group begins with an opening parenthesis
 /// and `word`, which is `param`, `result` or `local`. A variable may have an identifier only if
 /// `may_have_name`.
@@ -56,7 +59,7 @@ pub(crate) fn variables<'p, 'a>(
     let mut found = Vec::new(alloc);
     let mut left = cursor;
     'groups: loop {
-        match next_group(alloc, word, may_have_name, &mut found, left) {
+        match next_group(word, may_have_name, &mut found, left) {
             Ok(Some(next)) => {
                 left = next;
             }
@@ -66,22 +69,24 @@ pub(crate) fn variables<'p, 'a>(
     }
 }
 
-/// Parses value types as long as a keyword comes next, which must be that of a value type.
+/// Parses value types as long as a keyword comes next, which must be that of a value type. Appends
+/// a variable of each type, without an identifier, to `found`.
 fn values<'p, 'a>(
-    alloc: Global,
+    found: &mut Vec<Variable<'a>>,
     cursor: TokenCursor<'p, 'a>,
-) -> Result<(Vec<ValueType>, TokenCursor<'p, 'a>), ParseFailure<'p, 'a>>
-    ensures { ReadsAs (λ v. v.items) (reading.all reading.value_item (terminals_of cursor.entry))
-        result }
+) -> Result<TokenCursor<'p, 'a>, ParseFailure<'p, 'a>>
+    ensures { MatchResult result
+        (λ l. AreListed (terminals_of cursor.entry) (map variable_of found.old.items)
+        (map variable_of found.new.items) (terminals_of l))
+        (λ e. Faults (reading.all reading.value_item (terminals_of cursor.entry)) e) }
 {
-    let mut found = Vec::new(alloc);
     let mut left = cursor;
     'values: loop {
-        match next_value(&mut found, left) {
+        match next_value(found, left) {
             Ok(Some(next)) => {
                 left = next;
             }
-            Ok(None) => return Ok((found, left)),
+            Ok(None) => return Ok(left),
             Err(refusal) => return Err(refusal),
         }
     }
@@ -168,7 +173,6 @@ fn next_export<'p, 'a>(
 /// `None` if no group of this keyword comes next.
 #[tactic(auto, unfolding(crate::specs::Reading::group_item))]
 fn next_group<'p, 'a>(
-    alloc: Global,
     word: &str,
     may_have_name: bool,
     found: &mut Vec<Variable<'a>>,
@@ -185,48 +189,36 @@ fn next_group<'p, 'a>(
 {
     match after(word, left) {
         Some(rest) => {
-            let (variables, cursor) = group(alloc, may_have_name, rest)?;
-            put_variables(found, variables)?;
-            Ok(Some(cursor))
+            if found.is_empty() {
+                found.reserve(FEW)?;
+            }
+            let next = group(may_have_name, found, rest)?;
+            Ok(Some(next))
         }
         None => Ok(None),
     }
 }
 
-/// Appends variables to `found`. The first group, usually the only one, is moved instead of copied.
-fn put_variables<'a>(
-    found: &mut Vec<Variable<'a>>,
-    variables: Vec<Variable<'a>>,
-) -> Result<(), AllocError>
-    ensures { OnOk result (map variable_of found.new.items ≡
-        map variable_of found.old.items ++ map variable_of variables.entry.items) }
-{
-    if found.is_empty() {
-        *found = variables;
-        return Ok(());
-    }
-    found.extend_from_slice(&variables)
-}
-
-/// Parses a value type and appends it to `found`. Returns the tokens after it, or `None` if no
-/// keyword comes next.
+/// Parses a value type and appends a variable of this type, without an identifier, to `found`.
+/// Returns the tokens after it, or `None` if no keyword comes next.
 #[tactic(auto, unfolding(crate::specs::Reading::value_item))]
 fn next_value<'p, 'a>(
-    found: &mut Vec<ValueType>,
+    found: &mut Vec<Variable<'a>>,
     left: TokenCursor<'p, 'a>,
 ) -> Result<Option<TokenCursor<'p, 'a>>, ParseFailure<'p, 'a>>
     ensures { MatchResult result
         (λ o. MatchOption o
-        (NoItem (reading.value_item (terminals_of left.entry)) (found.old.items)
-        (found.new.items))
-        (λ l. IsItem (reading.value_item (terminals_of left.entry)) (found.old.items)
-        (found.new.items) (terminals_of l)))
+        (NoneListed (terminals_of left.entry) (map variable_of found.old.items)
+        (map variable_of found.new.items))
+        (λ l. IsListed (terminals_of left.entry) (map variable_of found.old.items)
+        (map variable_of found.new.items) (terminals_of l)))
         (λ e. ItemFaults (reading.value_item (terminals_of left.entry)) e) }
 {
     match left.first() {
         Some((DecodedToken::Word(word), cursor)) => match value_type(word) {
             Some(of) => {
-                found.push(of)?;
+                let name = Name::Absent;
+                found.push(Variable { name, of })?;
                 Ok(Some(cursor))
             }
             None => Err(ParseFailure::Text(fault(FaultKind::UnknownWord, left))),
@@ -235,92 +227,89 @@ fn next_value<'p, 'a>(
     }
 }
 
-/// Parses a group of variables after its keyword: an identifier and a type, or any number of types;
-/// and the closing parenthesis.
+/// Parses a group of variables after its keyword and appends them to `found`: an identifier and a
+/// type, or any number of types; and the closing parenthesis.
 #[tactic(auto, unfolding(crate::specs::Reading::group))]
 fn group<'p, 'a>(
-    alloc: Global,
     may_have_name: bool,
+    found: &mut Vec<Variable<'a>>,
     cursor: TokenCursor<'p, 'a>,
-) -> Result<(Vec<Variable<'a>>, TokenCursor<'p, 'a>), ParseFailure<'p, 'a>>
-    ensures { ReadsAs (λ v. map variable_of v.items)
-        (reading.group may_have_name (terminals_of cursor.entry)) result }
+) -> Result<TokenCursor<'p, 'a>, ParseFailure<'p, 'a>>
+    ensures { MatchResult result
+        (λ l. IsItem (Some (reading.group may_have_name (terminals_of cursor.entry)))
+        (map variable_of found.old.items) (map variable_of found.new.items) (terminals_of l))
+        (λ e. Faults (reading.group may_have_name (terminals_of cursor.entry)) e) }
 {
     match cursor.first() {
         Some((DecodedToken::Id(name), rest)) => {
             if may_have_name {
-                named_group(alloc, name, rest)
+                named_group(name, found, rest)
             } else {
                 Err(ParseFailure::Text(unexpected(cursor)))
             }
         }
-        _ => listed(alloc, cursor),
+        _ => listed(found, cursor),
     }
 }
 
-/// Parses a group of one variable after its identifier: a type and the closing parenthesis.
+/// Parses a group of one variable after its identifier, and appends it to `found`: a type and the
+/// closing parenthesis.
 fn named_group<'p, 'a>(
-    alloc: Global,
     name: &'a str,
+    found: &mut Vec<Variable<'a>>,
     cursor: TokenCursor<'p, 'a>,
-) -> Result<(Vec<Variable<'a>>, TokenCursor<'p, 'a>), ParseFailure<'p, 'a>>
-    ensures { ReadsAs (λ v. map variable_of v.items)
-        (reading.named_group name.now (terminals_of cursor.entry)) result }
+) -> Result<TokenCursor<'p, 'a>, ParseFailure<'p, 'a>>
+    ensures { MatchResult result
+        (λ l. IsItem (Some (reading.named_group name.now (terminals_of cursor.entry)))
+        (map variable_of found.old.items) (map variable_of found.new.items) (terminals_of l))
+        (λ e. Faults (reading.named_group name.now (terminals_of cursor.entry)) e) }
 {
     match cursor.first() {
         Some((DecodedToken::Word(word), rest)) => match value_type(word) {
-            Some(of) => named_type(alloc, name, of, rest),
+            Some(of) => named_type(name, of, found, rest),
             None => Err(ParseFailure::Text(fault(FaultKind::UnknownWord, cursor))),
         },
         _ => Err(ParseFailure::Text(unexpected(cursor))),
     }
 }
 
-/// Parses a group of one variable after its identifier and type: the closing parenthesis.
+/// Parses a group of one variable after its identifier and type, and appends it to `found`: the
+/// closing parenthesis.
 fn named_type<'p, 'a>(
-    alloc: Global,
     name: &'a str,
     of: ValueType,
+    found: &mut Vec<Variable<'a>>,
     cursor: TokenCursor<'p, 'a>,
-) -> Result<(Vec<Variable<'a>>, TokenCursor<'p, 'a>), ParseFailure<'p, 'a>>
-    ensures { ReadsAs (λ v. map variable_of v.items)
+) -> Result<TokenCursor<'p, 'a>, ParseFailure<'p, 'a>>
+    ensures { MatchResult result
+        (λ l. IsItem
+        (Some (reading.named_type name.now (Some of) (terminals_of cursor.entry)
+        (terminals_of cursor.entry)))
+        (map variable_of found.old.items) (map variable_of found.new.items) (terminals_of l))
+        (λ e. Faults
         (reading.named_type name.now (Some of) (terminals_of cursor.entry)
         (terminals_of cursor.entry))
-        result }
+        e) }
 {
     let rest = closed(cursor)?;
     let name = Name::Given(name);
-    let mut variables = Vec::new(alloc);
-    variables.push(Variable { name, of })?;
-    Ok((variables, rest))
+    found.push(Variable { name, of })?;
+    Ok(rest)
 }
 
-/// Parses a group of variables without identifiers: types and the closing parenthesis.
-#[tactic(auto, unfolding(crate::specs::Reading::listed))]
+/// Parses a group of variables without identifiers, and appends them to `found`: types and the
+/// closing parenthesis.
+#[tactic(auto, using(crate::proofs::Listing::listed_is), unfolding(crate::specs::Reading::listed))]
 fn listed<'p, 'a>(
-    alloc: Global,
+    found: &mut Vec<Variable<'a>>,
     cursor: TokenCursor<'p, 'a>,
-) -> Result<(Vec<Variable<'a>>, TokenCursor<'p, 'a>), ParseFailure<'p, 'a>>
-    ensures { ReadsAs (λ v. map variable_of v.items) (reading.listed (terminals_of cursor.entry))
-        result }
+) -> Result<TokenCursor<'p, 'a>, ParseFailure<'p, 'a>>
+    ensures { MatchResult result
+        (λ l. IsItem (Some (reading.listed (terminals_of cursor.entry)))
+        (map variable_of found.old.items) (map variable_of found.new.items) (terminals_of l))
+        (λ e. Faults (reading.listed (terminals_of cursor.entry)) e) }
 {
-    let (types, rest) = values(alloc, cursor)?;
+    let rest = values(found, cursor)?;
     let rest = closed(rest)?;
-    let variables = unnamed(alloc, &types)?;
-    Ok((variables, rest))
-}
-
-/// Returns variables of these types, without identifiers.
-pub(crate) fn unnamed<'a>(
-    alloc: Global,
-    types: &[ValueType],
-) -> Result<Vec<Variable<'a>>, AllocError>
-    ensures { IfOk result (λ variables. map variable_of variables.items ≡ map unnamed types.now) }
-{
-    let mut variables = Vec::with_capacity(alloc, types.len())?;
-    let name = Name::Absent;
-    for of in types {
-        variables.push(Variable { name, of: *of })?;
-    }
-    Ok(variables)
+    Ok(rest)
 }

@@ -69,7 +69,7 @@ fn extern_type<'p, 'a>(
 /// `all` starts at the type use, for errors.
 fn func_type<'p, 'a>(
     alloc: Global,
-    uses: NamedUse<'a>,
+    uses: NamedUse<'_, 'a>,
     all: TokenCursor<'p, 'a>,
     rest: TokenCursor<'p, 'a>,
 ) -> Result<(ExternType, TokenCursor<'p, 'a>), ParseFailure<'p, 'a>>
@@ -77,7 +77,7 @@ fn func_type<'p, 'a>(
         (reading.func_type (use_of uses.entry) (terminals_of all.entry) (terminals_of rest.entry))
         result }
 {
-    if variable_names(alloc, &uses.params, &[])?.is_none() {
+    if variable_names(alloc, &uses, &[])?.is_none() {
         return Err(ParseFailure::Text(fault(FaultKind::Duplicate, all)));
     }
     let uses = without_names(alloc, &uses)?;

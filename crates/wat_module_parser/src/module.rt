@@ -20,7 +20,7 @@ ghost use Rattle.wat_module_ast.specs.Modules.{Module};
 ghost use Rattle.wat_module_parser.specs.Reading as reading;
 ghost use Rattle.wat_module_ast.specs.Views.{field_of, fields_of, text_of};
 ghost use Rattle.wat_module_parser.specs.Views.{IsItem, ItemFaults, NoItem, context_of, types_of};
-ghost use Rattle.wat_module_parser.specs.Views.{variable_of, with_names};
+ghost use Rattle.wat_module_parser.specs.Views.{use_of, variable_of, with_names};
 ghost use Rattle.wat_module_ast.specs.Grammar.{label_of};
 ghost use Rattle.wat_module_tokens.specs.TokenCursor.{terminals_of};
 ghost use Rattle.wat_module_instructions.specs.Parts.{Faults, IsMemory, ReadsAs, ReadsExactly};
@@ -38,7 +38,7 @@ use crate::names::{Names, names_of, variable_names, with_types, without_types};
 use crate::segments::{memory_at, segment};
 use crate::types::{global_type, space_of};
 use crate::uses::{type_at, type_use};
-use crate::variables::{Variable, locals_of, without_names};
+use crate::variables::{NamedUse, Variable, locals_of, without_names};
 use std::alloc::Global;
 use wat_module_ast::error::{Fault, FaultKind, ParseFailure};
 use wat_module_ast::fields::{Field, Function, GlobalVariable, IndexSpace};
@@ -464,7 +464,7 @@ fn func<'p, 'a>(
 {
     let (uses, rest) = type_use(alloc, names, cursor)?;
     let (locals, rest) = variables(alloc, "local", true, rest)?;
-    let (body, rest) = instructions(alloc, names, &uses.params, &locals, rest)?;
+    let (body, rest) = instructions(alloc, names, &uses, &locals, rest)?;
     let uses = without_names(alloc, &uses)?;
     let locals = locals_of(alloc, &locals)?;
     Ok((
@@ -580,21 +580,22 @@ pub(crate) fn scope<'s, 'n>(names: &'s Names<'n>, locals: &'s IndexedNames<'n>) 
 }
 
 /// Parses the instructions of a function after its locals, up to and including the closing
-/// parenthesis of the function. The identifiers of parameters and locals must be distinct.
+/// parenthesis of the function. The identifiers of its parameters, which are those of `uses`, and
+/// of its locals must be distinct.
 #[tactic(auto, unfolding(crate::specs::Reading::instructions))]
 fn instructions<'p, 'a>(
     alloc: Global,
     names: &Names<'a>,
-    params: &[Variable<'a>],
+    uses: &NamedUse<'_, 'a>,
     locals: &[Variable<'a>],
     cursor: TokenCursor<'p, 'a>,
 ) -> Result<(Vec<Instruction>, TokenCursor<'p, 'a>), ParseFailure<'p, 'a>>
     ensures { ReadsAs (λ v. v.items)
-        (reading.instructions (context_of names.now) (map variable_of params.now)
+        (reading.instructions (context_of names.now) (use_of uses.now).params
         (map variable_of locals.now) (terminals_of cursor.entry))
         result }
 {
-    let Some(locals) = variable_names(alloc, params, locals)? else {
+    let Some(locals) = variable_names(alloc, uses, locals)? else {
         return Err(ParseFailure::Text(fault(FaultKind::Duplicate, cursor)));
     };
     let scope = scope(names, &locals);

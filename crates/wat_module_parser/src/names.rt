@@ -5,11 +5,11 @@ ghost use Rattle.std.specs.Prelude.{map};
 ghost use Rattle.std.specs.List.{flat_map};
 ghost use Rattle.wat_module_ast.specs.Fields.{all_distinct, definition_name, definition_type};
 ghost use Rattle.wat_module_ast.specs.Fields.{is_space};
-ghost use Rattle.wat_module_ast.specs.Fields.{name_of, names_in, names_of};
+ghost use Rattle.wat_module_ast.specs.Fields.{name_of, names_in, names_of, unnamed};
 ghost use Rattle.wat_module_parser.specs.Reading as reading;
 ghost use Rattle.wat_module_ast.specs.Views.{definition_of};
 ghost use Rattle.wat_module_parser.specs.Views.{binding_of, context_of, types_of};
-ghost use Rattle.wat_module_parser.specs.Views.{variable_of};
+ghost use Rattle.wat_module_parser.specs.Views.{use_of, variable_of};
 ghost use Rattle.wat_module_ast.specs.Grammar.{label_of};
 ghost use Rattle.wat_module_tokens.specs.TokenCursor.{terminals_of};
 ghost use Rattle.wat_module_ast.specs.Names.{are_distinct};
@@ -20,10 +20,11 @@ ghost use Rattle.wat_module_ast.specs.TypeViews.{type_of};
 use crate::header::exports;
 use crate::types::space_of;
 use crate::uses::type_at;
-use crate::variables::Variable;
+use crate::variables::{NamedUse, Variable};
 use std::alloc::{AllocError, Global};
 use wat_module_ast::error::ParseFailure;
 use wat_module_ast::fields::{Definition, IndexSpace};
+use wat_module_ast::instruction::ValueType;
 use wat_module_ast::types::FunctionType;
 use wat_module_instructions::names::IndexedNames;
 use wat_module_instructions::reading::{after, label};
@@ -527,9 +528,46 @@ fn definition_after<'p, 'a>(
     }
 }
 
+/// Returns the identifiers of the parameters of a type use and of locals, in the order of their
+/// indices, or `None` if two of them are equal.
+pub(crate) fn variable_names<'a>(
+    alloc: Global,
+    uses: &NamedUse<'_, 'a>,
+    locals: &[Variable<'a>],
+) -> Result<Option<IndexedNames<'a>>, AllocError>
+    ensures these { IfOk result (λ found. IfSome found (λ names. names ≡
+        map name_of ((use_of uses.now).params ++ map variable_of locals.now))) }
+    ensures distinct { IfOk result (λ found. is_some found ≡
+        are_distinct (map name_of ((use_of uses.now).params ++ map variable_of locals.now))) }
+{
+    match uses {
+        NamedUse::Listed(listed) => listed_names(alloc, &listed.params, locals),
+        NamedUse::Indexed(_, of) => names_after(alloc, &of.params, locals),
+    }
+}
+
+/// Returns the identifiers of locals, in the order of their indices, after parameters of these
+/// types without identifiers. Returns `None` if two identifiers are equal.
+fn names_after<'a>(
+    alloc: Global,
+    params: &[ValueType],
+    locals: &[Variable<'a>],
+) -> Result<Option<IndexedNames<'a>>, AllocError>
+    ensures these { IfOk result (λ found. IfSome found (λ names. names ≡
+        map name_of (map unnamed params.now ++ map variable_of locals.now))) }
+    ensures distinct { IfOk result (λ found. is_some found ≡
+        are_distinct (map name_of (map unnamed params.now ++ map variable_of locals.now))) }
+{
+    let mut names = Vec::new(alloc);
+    for local in locals {
+        names.push(local.name)?;
+    }
+    IndexedNames::after_unnamed(alloc, params.len(), names)
+}
+
 /// Returns the identifiers of parameters and locals, in the order of their indices, or `None` if
 /// two of them are equal.
-pub(crate) fn variable_names<'a>(
+fn listed_names<'a>(
     alloc: Global,
     params: &[Variable<'a>],
     locals: &[Variable<'a>],

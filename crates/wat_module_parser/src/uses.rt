@@ -1,6 +1,5 @@
 //! Parses type uses, and type fields.
-ghost use Rattle.std.specs.Prelude.{◌≡◌, Ok, Err, Some, None, slice_get, map, IfOk};
-ghost use Rattle.wat_module_ast.specs.Fields as grammar;
+ghost use Rattle.std.specs.Prelude.{◌≡◌, Ok, Err, Some, None, slice_get, map};
 ghost use Rattle.wat_module_parser.specs.Reading as reading;
 ghost use Rattle.wat_module_ast.specs.Views.{definition_of};
 ghost use Rattle.wat_module_parser.specs.Views.{types_of, use_of, variable_of};
@@ -9,11 +8,11 @@ ghost use Rattle.wat_module_instructions.specs.Parts.{ReadsAs};
 ghost use Rattle.wat_module_tokens.specs.Terminals.{label};
 ghost use Rattle.wat_module_ast.specs.TypeViews.{type_of};
 
-use crate::header::{closed, unnamed, variables};
+use crate::header::{closed, variables};
 use crate::names::Names;
 use crate::types::skip_two_closes;
-use crate::variables::{NamedUse, Variable, function_type};
-use std::alloc::{AllocError, Global};
+use crate::variables::{ListedUse, NamedUse, Variable, function_type};
+use std::alloc::Global;
 use wat_module_ast::error::{FaultKind, ParseFailure};
 use wat_module_ast::fields::Definition;
 use wat_module_ast::types::{FunctionType, same_type, type_at_index};
@@ -24,67 +23,66 @@ use wat_module_tokens::token::Name;
 
 /// Parses a type use: `(type index)`, if it comes next, and then parameters and results.
 #[tactic(auto, unfolding(crate::specs::Reading::use_at))]
-pub(crate) fn type_use<'p, 'a>(
+pub(crate) fn type_use<'s, 'p, 'a>(
     alloc: Global,
-    names: &Names<'a>,
+    names: &'s Names<'a>,
     cursor: TokenCursor<'p, 'a>,
-) -> Result<(NamedUse<'a>, TokenCursor<'p, 'a>), ParseFailure<'p, 'a>>
+) -> Result<(NamedUse<'s, 'a>, TokenCursor<'p, 'a>), ParseFailure<'p, 'a>>
     ensures { ReadsAs use_of (reading.use_at (types_of names.now) (terminals_of cursor.entry))
         result }
 {
-    match after("type", cursor) {
-        Some(rest) => indexed_use(alloc, names, rest),
-        None => listed_use(alloc, cursor),
+    if let Some(rest) = after("type", cursor) {
+        return indexed_use(alloc, names, rest);
     }
+    listed_use(alloc, cursor)
 }
 
 /// Parses a type use without an index: parameters and results.
-fn listed_use<'p, 'a>(
+fn listed_use<'s, 'p, 'a>(
     alloc: Global,
     cursor: TokenCursor<'p, 'a>,
-) -> Result<(NamedUse<'a>, TokenCursor<'p, 'a>), ParseFailure<'p, 'a>>
+) -> Result<(NamedUse<'s, 'a>, TokenCursor<'p, 'a>), ParseFailure<'p, 'a>>
     ensures { ReadsAs use_of (reading.listed_use (terminals_of cursor.entry)) result }
 {
     let (params, rest) = variables(alloc, "param", true, cursor)?;
     let (results, rest) = variables(alloc, "result", false, rest)?;
     let index = None;
     Ok((
-        NamedUse {
+        NamedUse::Listed(ListedUse {
             index,
             params,
             results,
-        },
+        }),
         rest,
     ))
 }
 
 /// Parses a type use after `(type`.
-fn indexed_use<'p, 'a>(
+fn indexed_use<'s, 'p, 'a>(
     alloc: Global,
-    names: &Names<'a>,
+    names: &'s Names<'a>,
     cursor: TokenCursor<'p, 'a>,
-) -> Result<(NamedUse<'a>, TokenCursor<'p, 'a>), ParseFailure<'p, 'a>>
+) -> Result<(NamedUse<'s, 'a>, TokenCursor<'p, 'a>), ParseFailure<'p, 'a>>
     ensures { ReadsAs use_of (reading.indexed_use (types_of names.now) (terminals_of cursor.entry))
         result }
 {
     let (index, rest) = reading::index(&names.type_names, cursor)?;
     let rest = closed(rest)?;
     if names.are_types_known {
-        known_use(alloc, names, index, cursor, rest)
-    } else {
-        assumed_use(alloc, index, rest)
+        return known_use(alloc, names, index, cursor, rest);
     }
+    assumed_use(alloc, index, rest)
 }
 
 /// Parses a type use after `(type index)`, with the types known: the index must be that of a type.
 /// `all` starts at the index, for errors.
-fn known_use<'p, 'a>(
+fn known_use<'s, 'p, 'a>(
     alloc: Global,
-    names: &Names<'a>,
+    names: &'s Names<'a>,
     index: usize,
     all: TokenCursor<'p, 'a>,
     cursor: TokenCursor<'p, 'a>,
-) -> Result<(NamedUse<'a>, TokenCursor<'p, 'a>), ParseFailure<'p, 'a>>
+) -> Result<(NamedUse<'s, 'a>, TokenCursor<'p, 'a>), ParseFailure<'p, 'a>>
     ensures { ReadsAs use_of
         (reading.lists_after index (slice_get (types_of names.now).types index)
         (terminals_of all.entry) (terminals_of cursor.entry))
@@ -98,35 +96,35 @@ fn known_use<'p, 'a>(
 
 /// Parses a type use after `(type index)`, with the types unknown: any index is accepted, with any
 /// parameters and results.
-fn assumed_use<'p, 'a>(
+fn assumed_use<'s, 'p, 'a>(
     alloc: Global,
     index: usize,
     cursor: TokenCursor<'p, 'a>,
-) -> Result<(NamedUse<'a>, TokenCursor<'p, 'a>), ParseFailure<'p, 'a>>
+) -> Result<(NamedUse<'s, 'a>, TokenCursor<'p, 'a>), ParseFailure<'p, 'a>>
     ensures { ReadsAs use_of (reading.assumed_use index (terminals_of cursor.entry)) result }
 {
     let (params, rest) = variables(alloc, "param", true, cursor)?;
     let (results, rest) = variables(alloc, "result", false, rest)?;
     let index = Some(index);
     Ok((
-        NamedUse {
+        NamedUse::Listed(ListedUse {
             index,
             params,
             results,
-        },
+        }),
         rest,
     ))
 }
 
 /// Parses a type use after `(type index)`, where the type with this index is `of`: parameters and
 /// results, which must agree with `of` if there are any. `all` starts at the index, for errors.
-fn lists<'p, 'a>(
+fn lists<'s, 'p, 'a>(
     alloc: Global,
     index: usize,
-    of: &FunctionType,
+    of: &'s FunctionType,
     all: TokenCursor<'p, 'a>,
     cursor: TokenCursor<'p, 'a>,
-) -> Result<(NamedUse<'a>, TokenCursor<'p, 'a>), ParseFailure<'p, 'a>>
+) -> Result<(NamedUse<'s, 'a>, TokenCursor<'p, 'a>), ParseFailure<'p, 'a>>
     ensures { ReadsAs use_of
         (reading.lists_after index (Some (type_of of.now)) (terminals_of all.entry)
         (terminals_of cursor.entry))
@@ -135,8 +133,7 @@ fn lists<'p, 'a>(
     let (params, rest) = variables(alloc, "param", true, cursor)?;
     let (results, rest) = variables(alloc, "result", false, rest)?;
     if list_nothing(&params, &results) {
-        let uses = index_use(alloc, index, of)?;
-        return Ok((uses, rest));
+        return Ok((NamedUse::Indexed(index, of), rest));
     }
     let listed = function_type(alloc, &params, &results)?;
     if !same_type(&listed, of) {
@@ -144,11 +141,11 @@ fn lists<'p, 'a>(
     }
     let index = Some(index);
     Ok((
-        NamedUse {
+        NamedUse::Listed(ListedUse {
             index,
             params,
             results,
-        },
+        }),
         rest,
     ))
 }
@@ -159,22 +156,6 @@ fn list_nothing(params: &[Variable<'_>], results: &[Variable<'_>]) -> bool
         reading.list_nothing (map variable_of params.now) (map variable_of results.now) }
 {
     params.is_empty() && results.is_empty()
-}
-
-/// Returns the type use of the type `of` with its index, whose variables have no identifiers.
-fn index_use<'a>(alloc: Global, index: usize, of: &FunctionType) -> Result<NamedUse<'a>, AllocError>
-    ensures { IfOk result (λ u. use_of u ≡
-        grammar.named_use (Some index) (map grammar.unnamed of.now.params.items)
-        (map grammar.unnamed of.now.results.items)) }
-{
-    let params = unnamed(alloc, &of.params)?;
-    let results = unnamed(alloc, &of.results)?;
-    let index = Some(index);
-    Ok(NamedUse {
-        index,
-        params,
-        results,
-    })
 }
 
 /// Parses a type field after its keyword.

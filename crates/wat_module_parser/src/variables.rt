@@ -3,7 +3,7 @@ ghost use Rattle.std.specs.Prelude.{◌≡◌, ◌∷◌, map, IfOk};
 ghost use Rattle.std.specs.List.{flat_map};
 ghost use Rattle.wat_module_ast.specs.Fields as grammar;
 ghost use Rattle.wat_module_ast.specs.Views.{local_types};
-ghost use Rattle.wat_module_parser.specs.Views.{use_of, variable_of};
+ghost use Rattle.wat_module_parser.specs.Views.{listed_use_of, use_of, variable_of};
 ghost use Rattle.wat_module_ast.specs.TypeViews as bare;
 ghost use Rattle.wat_module_ast.specs.TypeViews.{type_of};
 
@@ -24,7 +24,16 @@ pub(crate) struct Variable<'a> {
 
 /// A type use whose parameters keep their identifiers.
 #[derive(Drop)]
-pub(crate) struct NamedUse<'a> {
+pub(crate) enum NamedUse<'s, 'a> {
+    /// Any other type use. While the types are not known, also one with an index only.
+    Listed(ListedUse<'a>),
+    /// A type use with an index that lists no parameters and no results: the index, and its type.
+    Indexed(usize, &'s FunctionType),
+}
+
+/// A type use by its parameters and results.
+#[derive(Drop)]
+pub(crate) struct ListedUse<'a> {
     /// Type index, if given.
     pub(crate) index: Option<usize>,
     /// Parameters.
@@ -41,7 +50,7 @@ pub(crate) fn value_types(
     ensures { IfOk result (λ types. types.items ≡
         map grammar.type_of (map variable_of variables.now)) }
 {
-    let mut types = Vec::new(alloc);
+    let mut types = Vec::with_capacity(alloc, variables.len())?;
     for variable in variables {
         types.push(variable.of)?;
     }
@@ -103,12 +112,25 @@ pub(crate) fn function_type(
 }
 
 /// Returns the type use without the identifiers of its parameters.
-pub(crate) fn without_names(alloc: Global, uses: &NamedUse<'_>) -> Result<TypeUse, AllocError>
+pub(crate) fn without_names(alloc: Global, uses: &NamedUse<'_, '_>) -> Result<TypeUse, AllocError>
     ensures { IfOk result (λ u. bare.use_of u ≡ grammar.without_names (use_of uses.now)) }
 {
-    let of = function_type(alloc, &uses.params, &uses.results)?;
-    Ok(TypeUse {
-        index: uses.index,
-        of,
-    })
+    match uses {
+        NamedUse::Indexed(index, _) => Ok(TypeUse::Index(*index)),
+        NamedUse::Listed(listed) => listed_without_names(alloc, listed),
+    }
+}
+
+/// Returns the type use without the identifiers of its parameters. Its type is not returned if it
+/// has an index.
+fn listed_without_names(alloc: Global, uses: &ListedUse<'_>) -> Result<TypeUse, AllocError>
+    ensures { IfOk result (λ u. bare.use_of u ≡ grammar.without_names (listed_use_of uses.now)) }
+{
+    match uses.index {
+        Some(index) => Ok(TypeUse::Index(index)),
+        None => {
+            let of = function_type(alloc, &uses.params, &uses.results)?;
+            Ok(TypeUse::Inline(of))
+        }
+    }
 }

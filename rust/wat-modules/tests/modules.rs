@@ -136,6 +136,55 @@ fn no_depth_of_the_text_is_a_depth_of_the_stack() {
     });
 }
 
+/// Returns a module of one function with `count` nested blocks, whose labels `label` gives. After the beginning of each block, and after the end of
+/// each but the outermost, it branches where `branch` says, by the number of the open blocks.
+fn nested(
+    count: usize,
+    label: impl Fn(usize) -> String,
+    branch: impl Fn(usize) -> String,
+) -> String {
+    let begin = |at: usize| format!("block {} br {}\n", label(at), branch(at + 1));
+    let end = |at: usize| format!("end br {}\n", branch(at));
+    let begins = (0..count).map(begin).collect::<String>();
+    let ends = (1..count).rev().map(end).collect::<String>();
+    format!("(func {begins}(drop (i32.const 0)) {ends}end)")
+}
+
+#[test]
+fn a_label_is_found_at_any_depth() {
+    let unnamed = |_| String::new();
+    let one_name = |_| "$again".to_owned();
+    let numbered = |at| format!("$l{at}");
+    let compiled = |text: String| parse_str(text).unwrap();
+    for depth in [1, 15, 16, 17, 18, 40] {
+        let first = |at| if at == 0 { numbered(0) } else { one_name(at) };
+        let outermost = nested(depth, unnamed, |open| (open - 1).to_string());
+        assert_eq!(
+            compiled(nested(depth, first, |_| numbered(0))),
+            compiled(outermost)
+        );
+        let innermost = nested(depth, unnamed, |_| "0".to_owned());
+        assert_eq!(
+            compiled(nested(depth, one_name, one_name)),
+            compiled(innermost)
+        );
+        let begins = (0..depth).map(|at| format!("block {} ", numbered(at)));
+        let ends = "end ".repeat(depth);
+        let closed = format!(
+            "{}end br {} {ends}",
+            begins.collect::<String>(),
+            numbered(depth - 1)
+        );
+        let error = parse_str(format!("(func block {closed})")).unwrap_err();
+        assert_eq!(error.message(), "unknown identifier");
+    }
+    for depth in [2_000, 100_000] {
+        let half = nested(depth, unnamed, |open| (open - 1 - open / 2).to_string());
+        let named = nested(depth, numbered, |open| numbered(open / 2));
+        assert_eq!(compiled(named), compiled(half));
+    }
+}
+
 /// Returns a type of six parameters as text and as bytes, a different one for each `number` below 64.
 fn parameters(number: usize) -> (String, Vec<u8>) {
     let is_wide = |digit: &usize| number >> digit & 1 == 1;

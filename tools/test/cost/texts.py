@@ -104,10 +104,10 @@ MODULES = {
     "folded_deep": body(lambda i: "(block ", ")"),
     "blocks_deep": body(lambda i: "block ", "end "),
     "labels": body(lambda i: f"block $l{i} br $l{i} end\n"),
+    "labels_deep": body(lambda i: f"block $l{i} br $l0\n", "end "),
     "branch_tables": lines(lambda i: " $a $b 0 1", "(module (func block $a block $b br_table", " end end))\n"),
     "error_of_module": lines(lambda i: f"(func $f{i} i32.const {i})\n", tail="(func frob))\n"),
-    # Today these take time or memory in proportion to the square of the size.
-    "labels_deep": body(lambda i: f"block $l{i} br $l0\n", "end "),
+    # Half of the text is a type, and half are its uses. None of these takes time or memory in proportion to the type.
     "uses_by_functions": lines(lambda _: "(func (type 0))\n", wide_type),
     "uses_by_imports": lines(lambda _: '(import "" "" (func (type 0)))\n', wide_type),
     "uses_by_blocks": lines(lambda _: "(block (type 0))\n", lambda size: wide_type(size) + "(func\n", "))\n"),

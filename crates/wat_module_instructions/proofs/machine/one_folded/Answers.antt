@@ -1,15 +1,12 @@
 use Rattle.wat_module_tokens.specs.TokenCursor.{terminals_of}
-use Rattle.wat_module_instructions.specs.Parts.{stack, scope_of}
-use Rattle.wat_module_instructions.proofs.Folding.{begun_folded, begun_folded_into, none_open}
+use Rattle.wat_module_instructions.specs.Parts.{scope_of}
+use Rattle.wat_module_instructions.proofs.Folding.{begun_folded, begun_folded_into}
 use Rattle.wat_module_instructions.proofs.machine.one_folded.Goals as goal
-
-pub first_step-requires : goal.first_step-requires
-first_step-requires c = none_open c.new-frames.result.items c.new-frames.ensures.items
 
 pub returns-in-Ok-steps : goal.returns-in-Ok-steps
 returns-in-Ok-steps c =
-    begun_folded (scope_of c.args.scope.now) (stack c.first_step.new.frames.items) (terminals_of c.args.cursor) (terminals_of c.in-Ok.rest) (terminals_of c.in-Ok-steps.rest) c.in_ok-out.out.items c.first_step.new.out.items c.steps.new.out.items c.in_ok-out.ensures.items c.in-Ok.ensures c.in-Ok-steps.ensures
+    begun_folded (scope_of c.args.scope.now) c.first_step.new.frames (terminals_of c.args.cursor) (terminals_of c.in-Ok.rest) (terminals_of c.in-Ok-steps.rest) c.in_ok-out.out.items c.first_step.new.out.items c.steps.new.out.items c.in_ok-out.ensures.items c.in-Ok.ensures c.in-Ok-steps.ensures
 
 pub returns-in-Ok : goal.returns-in-Ok
 returns-in-Ok c =
-    begun_folded_into (scope_of c.args.scope.now) (stack c.first_step.new.frames.items) (terminals_of c.args.cursor) (terminals_of c.in-Ok.rest) c.in_ok-out.out.items c.first_step.new.out.items c.in-Err-steps.refusal c.in-Ok.ensures c.in-Err-steps.ensures
+    begun_folded_into (scope_of c.args.scope.now) c.first_step.new.frames (terminals_of c.args.cursor) (terminals_of c.in-Ok.rest) c.in_ok-out.out.items c.first_step.new.out.items c.in-Err-steps.refusal c.in-Ok.ensures c.in-Err-steps.ensures

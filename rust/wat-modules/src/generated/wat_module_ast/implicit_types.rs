@@ -6,7 +6,7 @@ use wat_lex::shim::prelude::*;
 use crate::ast::fields::{ElemMode, Elements, ExternType, Field};
 use crate::ast::indexed_types::IndexedTypes;
 use crate::ast::instruction::{Argument, Instruction};
-use crate::ast::types::{TypeUse, copied};
+use crate::ast::types::{FunctionType, TypeUse, copied};
 use wat_lex::shim::alloc::{AllocError, Global};
 
 /// Returns the types that type fields define, in the order of the fields.
@@ -27,35 +27,36 @@ fn defined_types(alloc: Global, fields: &[Field<'_>]) -> Result<IndexedTypes, Al
     Ok(types)
 }
 
-/// Returns the type use if it has no index, and therefore adds its type to the module.
+/// Returns the type that a type use adds to the module: its type if it has no index.
 ///
 /// # Proved
 ///
 /// ```text
 /// ensures { MatchOption result
 /// (added_types (use_of uses.now) ≡ [])
-/// (λ u. added_types (use_of uses.now) ≡ type_of u.now.of ∷ []) }
+/// (λ t. added_types (use_of uses.now) ≡ type_of t.now ∷ []) }
 /// ```
-fn added_use(uses: &TypeUse) -> Option<&TypeUse> {
-    match uses.index {
-        Some(_) => None,
-        None => Some(uses),
+fn added_type(uses: &TypeUse) -> Option<&FunctionType> {
+    match uses {
+        TypeUse::Index(_) => None,
+        TypeUse::Inline(of) => Some(of),
     }
 }
 
-/// Returns the type use of an instruction, of `call_indirect` or of a block, if it has no index.
+/// Returns the type that the type use of an instruction, of `call_indirect` or of a block, adds to
+/// the module, or `None` if it adds none.
 ///
 /// # Proved
 ///
 /// ```text
 /// ensures { MatchOption result
 /// (instruction_types instruction.now ≡ [])
-/// (λ u. instruction_types instruction.now ≡ type_of u.now.of ∷ []) }
+/// (λ t. instruction_types instruction.now ≡ type_of t.now ∷ []) }
 /// ```
-fn instruction_use(instruction: &Instruction) -> Option<&TypeUse> {
+fn instruction_type(instruction: &Instruction) -> Option<&FunctionType> {
     match &instruction.argument {
-        Argument::Indirect(call) => added_use(call.uses()),
-        Argument::BlockUse(uses) => added_use(uses.uses()),
+        Argument::Indirect(call) => added_type(call.uses()),
+        Argument::BlockUse(uses) => added_type(uses.uses()),
         _ => None,
     }
 }
@@ -69,8 +70,8 @@ fn instruction_use(instruction: &Instruction) -> Option<&TypeUse> {
 /// ```
 fn add_instructions(types: &mut IndexedTypes, all: &[Instruction]) -> Result<(), AllocError> {
     for instruction in all {
-        if let Some(uses) = instruction_use(instruction) {
-            types.add(&uses.of)?;
+        if let Some(of) = instruction_type(instruction) {
+            types.add(of)?;
         }
     }
     Ok(())
@@ -135,8 +136,8 @@ fn add_mode(types: &mut IndexedTypes, mode: &ElemMode) -> Result<(), AllocError>
 /// (added_types (use_of uses.now))) }
 /// ```
 fn add_use(types: &mut IndexedTypes, uses: &TypeUse) -> Result<(), AllocError> {
-    if let Some(uses) = added_use(uses) {
-        types.add(&uses.of)?;
+    if let Some(of) = added_type(uses) {
+        types.add(of)?;
     }
     Ok(())
 }

@@ -14,25 +14,25 @@ pub struct FunctionType {
 }
 
 /// A type use without the names of its parameters.
-pub struct TypeUse {
+pub enum TypeUse {
     /// Index of the type, if the text has `(type index)`.
-    pub index: Option<usize>,
-    /// The type, even if the text does not list it.
-    pub of: FunctionType,
+    Index(usize),
+    /// The type, if the text has no index.
+    Inline(FunctionType),
 }
 
-/// Boxed type use. Its index is below 2^63, like the index of any item in memory.
+/// Boxed type use. Its index, if it has one, is below 2^63, like the index of any item in memory.
 pub struct BoxedUse {
     uses: Box<TypeUse>,
 }
 
 impl BoxedUse {
-    /// Boxes a type use, whose index must be below 2^63.
+    /// Boxes a type use. Its index, if it has one, must be below 2^63.
     ///
     /// # Proved
     ///
     /// ```text
-    /// requires { spec.index_or uses.index 0 < 2 ^ 63 }
+    /// requires { spec.index_or_zero (use_of uses) < 2 ^ 63 }
     /// ensures { IfOk result (λ u. u ≡ use_of uses) }
     /// ```
     pub fn new(alloc: Global, uses: TypeUse) -> Result<BoxedUse, AllocError> {
@@ -48,7 +48,7 @@ impl BoxedUse {
     ///
     /// ```text
     /// ensures is { use_of result.now ≡ self.now }
-    /// ensures small { spec.index_or result.now.index 0 < 2 ^ 63 }
+    /// ensures small { spec.index_or_zero (use_of result.now) < 2 ^ 63 }
     /// ```
     pub fn uses(&self) -> &TypeUse {
         &self.uses

@@ -24,19 +24,19 @@ pub(crate) fn put_values(out: &mut Vec<u8>, types: &[ValueType]) -> Result<(), A
     Ok(())
 }
 
-/// Returns the type index of a type use. If it states an index, that index; otherwise the least
-/// index of its function type in `types`, or the length of `types` if it is not there.
+/// Returns the type index of a type use: its own, or, if it has none, the least index of its type
+/// in `types`, or the length of `types` if the type is not there.
 ///
 /// # Proved
 ///
 /// ```text
 /// ensures is { IfOk result (λ n. n ≡ binary.use_index types.now (use_of uses.now)) }
-/// ensures small { index_or uses.now.index 0 < 2 ^ 63 → IfOk result (λ n. n < 2 ^ 63) }
+/// ensures small { index_or_zero (use_of uses.now) < 2 ^ 63 → IfOk result (λ n. n < 2 ^ 63) }
 /// ```
 pub(crate) fn use_index(types: &IndexedTypes, uses: &TypeUse) -> Result<usize, AllocError> {
-    match uses.index {
-        Some(index) => Ok(index),
-        None => types.index(&uses.of),
+    match uses {
+        TypeUse::Index(index) => Ok(*index),
+        TypeUse::Inline(of) => types.index(of),
     }
 }
 

@@ -2,6 +2,9 @@
 //! The stack of the parser of instructions.
 
 use wat_lex::shim::prelude::*;
+use crate::instructions::open_labels::Labels;
+use wat_lex::shim::alloc::{AllocError, Global};
+
 use crate::ast::instruction::Instruction;
 use crate::tokens::token::Name;
 
@@ -22,4 +25,138 @@ pub enum Frame<'p> {
     Then(Name<'p>),
     /// The `(else ..)` of a folded `if`, and the label of the `if`.
     Else(Name<'p>),
+}
+
+/// The stack of open parts, and the labels that they bind.
+pub struct Frames<'p> {
+    /// The innermost part is last.
+    open: Vec<Frame<'p>>,
+    /// Number of labels that the parts bind.
+    height: usize,
+    /// The labels that have an identifier.
+    labels: Labels<'p>,
+}
+
+impl<'p> Frames<'p> {
+    /// Returns an empty stack. Does not allocate.
+    ///
+    /// # Proved
+    ///
+    /// ```text
+    /// ensures { result ≡ [] }
+    /// ```
+    pub fn new(alloc: Global) -> Frames<'p> {
+        Frames {
+            open: Vec::new(alloc),
+            height: 0,
+            labels: Labels::none(alloc),
+        }
+    }
+
+    /// Opens a part inside the others.
+    ///
+    /// # Proved
+    ///
+    /// ```text
+    /// ensures { OnOk result (self.new ≡ part frame.entry ∷ self.old) }
+    /// ```
+    #[inline(always)]
+    pub fn push(&mut self, frame: Frame<'p>) -> Result<(), AllocError> {
+        match bound(&frame) {
+            None => {
+                self.open.push(frame)?;
+            }
+            Some(Name::Absent) => {
+                self.open.push(frame)?;
+                self.height += 1;
+            }
+            Some(Name::Given(name)) => {
+                self.open.reserve(1)?;
+                self.labels.push(name, self.height)?;
+                self.open.push(frame)?;
+                self.height += 1;
+            }
+        }
+        Ok(())
+    }
+
+    /// Closes the innermost part and returns it. Does not allocate.
+    ///
+    /// # Proved
+    ///
+    /// ```text
+    /// ensures { MatchOption result
+    /// (self.old ≡ [])
+    /// (λ f. self.old ≡ part f ∷ self.new) }
+    /// ```
+    #[inline(always)]
+    pub fn pop(&mut self) -> Option<Frame<'p>> {
+        let Some(frame) = self.open.pop() else {
+            return None;
+        };
+        match bound(&frame) {
+            None => {}
+            Some(Name::Absent) => {
+                self.height -= 1;
+            }
+            Some(Name::Given(_)) => {
+                self.height -= 1;
+                self.labels.pop();
+            }
+        }
+        Some(frame)
+    }
+
+    /// Returns the innermost part.
+    ///
+    /// # Proved
+    ///
+    /// ```text
+    /// ensures { MatchOption result
+    /// (innermost self.now ≡ None)
+    /// (λ f. innermost self.now ≡ Some (part f.now)) }
+    /// ```
+    #[inline(always)]
+    pub fn last(&self) -> Option<&Frame<'p>> {
+        match self.open.as_slice() {
+            [.., frame] => Some(frame),
+            [] => None,
+        }
+    }
+
+    /// Returns the index of the innermost label with this identifier: the number of open labels
+    /// inside it. Returns `None` if no open label has it.
+    ///
+    /// # Proved
+    ///
+    /// ```text
+    /// ensures { result ≡ position 0 name.now (labels_in self.now) }
+    /// ```
+    pub fn position(&self, name: &str) -> Option<usize> {
+        match self.labels.height(name) {
+            Some(height) => Some(self.height - 1 - height),
+            None => None,
+        }
+    }
+}
+
+/// Returns the label that a frame binds, if it binds one. The body binds a label without an
+/// identifier.
+///
+/// # Proved
+///
+/// ```text
+/// ensures { MatchOption result
+/// (bound (part frame.now) ≡ [])
+/// (λ l. bound (part frame.now) ≡ label l ∷ []) }
+/// ```
+#[inline(always)]
+fn bound<'p>(frame: &Frame<'p>) -> Option<Name<'p>> {
+    match *frame {
+        Frame::Body => Some(Name::Absent),
+        Frame::Block(_, label) | Frame::Group(label) | Frame::Then(label) | Frame::Else(label) => {
+            Some(label)
+        }
+        Frame::Operands(_) | Frame::Condition(_, _) => None,
+    }
 }

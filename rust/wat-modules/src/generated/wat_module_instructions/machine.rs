@@ -3,7 +3,7 @@
 
 use wat_lex::shim::prelude::*;
 use crate::instructions::faults::unexpected;
-use crate::instructions::frame::Frame;
+use crate::instructions::frame::{Frame, Frames};
 use crate::instructions::reading::{self, Scope};
 use crate::instructions::uses;
 use wat_lex::shim::alloc::Global;
@@ -42,7 +42,7 @@ pub fn instructions<'p, 'a>(
     cursor: TokenCursor<'p, 'a>,
 ) -> Result<(Vec<Instruction>, TokenCursor<'p, 'a>), ParseFailure<'p, 'a>> {
     let mut out = Vec::with_capacity(alloc, 1)?;
-    let mut frames = Vec::new(alloc);
+    let mut frames = Frames::new(alloc);
     frames.push(Frame::Body)?;
     match steps(alloc, scope, &mut frames, &mut out, cursor) {
         Ok(rest) => {
@@ -70,7 +70,7 @@ pub fn one_folded<'p, 'a>(
     // Most are a single instruction. A first push into an empty vector would reserve capacity for
     // four.
     let mut out = Vec::with_capacity(alloc, 1)?;
-    let mut frames = Vec::new(alloc);
+    let mut frames = Frames::new(alloc);
     match first_step(alloc, scope, &mut frames, &mut out, cursor) {
         Ok(rest) => match steps(alloc, scope, &mut frames, &mut out, rest) {
             Ok(rest) => Ok((out, rest)),
@@ -86,14 +86,14 @@ pub fn one_folded<'p, 'a>(
 /// # Proved
 ///
 /// ```text
-/// requires { stack frames.now.items ≡ [] }
+/// requires { frames.now ≡ [] }
 /// ensures { StepsAs (spec.first_step (scope_of scope.now) (terminals_of cursor.entry))
-///     out.old.items out.new.items (stack frames.new.items) result }
+///     out.old.items out.new.items frames.new result }
 /// ```
 fn first_step<'p, 'a>(
     alloc: Global,
     scope: &Scope<'_, '_>,
-    frames: &mut Vec<Frame<'p>>,
+    frames: &mut Frames<'p>,
     out: &mut Vec<Instruction>,
     cursor: TokenCursor<'p, 'a>,
 ) -> Result<TokenCursor<'p, 'a>, ParseFailure<'p, 'a>> {
@@ -112,22 +112,22 @@ fn first_step<'p, 'a>(
 ///
 /// ```text
 /// ensures { MatchResult result
-/// (λ r. RunsTo (scope_of scope.now) (stack frames.old.items) (terminals_of cursor.entry)
+/// (λ r. RunsTo (scope_of scope.now) frames.old (terminals_of cursor.entry)
 /// out.old.items out.new.items (terminals_of r))
-/// (λ e. RunsInto (scope_of scope.now) (stack frames.old.items) (terminals_of cursor.entry)
+/// (λ e. RunsInto (scope_of scope.now) frames.old (terminals_of cursor.entry)
 /// e) }
 /// ```
 fn steps<'p, 'a>(
     alloc: Global,
     scope: &Scope<'_, '_>,
-    frames: &mut Vec<Frame<'p>>,
+    frames: &mut Frames<'p>,
     out: &mut Vec<Instruction>,
     cursor: TokenCursor<'p, 'a>,
 ) -> Result<TokenCursor<'p, 'a>, ParseFailure<'p, 'a>> {
     let mut left = cursor;
     'open: loop {
-        match frames.pop() {
-            Some(frame) => match step(alloc, scope, frame, frames, out, left) {
+        match frames.last() {
+            Some(_) => match step(alloc, scope, frames, out, left) {
                 Ok(next) => {
                     left = next;
                 }
@@ -138,49 +138,69 @@ fn steps<'p, 'a>(
     }
 }
 
-/// Parses the next instruction or part inside `frame`, or closes it. `frame` is the innermost open
-/// part, and is no longer on the stack. Consumes at least one token.
+/// Parses the next instruction or part inside the innermost part, or closes that part. Consumes at
+/// least one token.
 ///
 /// # Proved
 ///
 /// ```text
-/// ensures { StepsAs
-/// (spec.step (scope_of scope.now) (part frame.entry) (stack frames.old.items)
-/// (terminals_of cursor.entry))
-/// out.old.items out.new.items (stack frames.new.items) result }
+/// ensures { StepsFrom
+/// (λ p ps. spec.step (scope_of scope.now) p ps (terminals_of cursor.entry))
+/// frames.old out.old.items out.new.items frames.new result }
 /// ```
 fn step<'p, 'a>(
     alloc: Global,
     scope: &Scope<'_, '_>,
-    frame: Frame<'p>,
-    frames: &mut Vec<Frame<'p>>,
+    frames: &mut Frames<'p>,
     out: &mut Vec<Instruction>,
     cursor: TokenCursor<'p, 'a>,
 ) -> Result<TokenCursor<'p, 'a>, ParseFailure<'p, 'a>> {
     match cursor.first() {
-        Some((DecodedToken::Open, rest)) => folded(alloc, scope, frame, frames, out, rest),
-        Some((DecodedToken::Close, rest)) => closed(frame, frames, out, cursor, rest),
+        Some((DecodedToken::Open, rest)) => folded(alloc, scope, frames, out, rest),
+        Some((DecodedToken::Close, rest)) => close(frames, out, cursor, rest),
         Some((DecodedToken::Word(word), rest)) => {
-            at_word(alloc, scope, frame, frames, out, word, cursor, rest)
+            at_word(alloc, scope, frames, out, word, cursor, rest)
         }
         _ => Err(ParseFailure::Text(unexpected(cursor))),
     }
 }
 
-/// Closes `frame` at `)`, with which `cursor` begins. Emits the instruction of operands, or `end`
-/// after a folded block. A `block .. end` and a folded `if` without `(then` do not end with `)`.
+/// Closes the innermost part at `)`. `cursor` begins with the `)`, and `rest` comes after it.
+///
+/// # Proved
+///
+/// ```text
+/// ensures { StepsFrom
+/// (λ p ps. spec.close_step p (terminals_of cursor.entry) (terminals_of rest.entry) ps)
+/// frames.old out.old.items out.new.items frames.new result }
+/// ```
+fn close<'p, 'a>(
+    frames: &mut Frames<'p>,
+    out: &mut Vec<Instruction>,
+    cursor: TokenCursor<'p, 'a>,
+    rest: TokenCursor<'p, 'a>,
+) -> Result<TokenCursor<'p, 'a>, ParseFailure<'p, 'a>> {
+    match frames.pop() {
+        Some(frame) => closed(frame, frames, out, cursor, rest),
+        None => Err(ParseFailure::Text(unexpected(cursor))),
+    }
+}
+
+/// Parses what follows the `)` that closes `frame`, which is no longer on the stack. Emits the
+/// instruction of operands, or `end` after a folded block. A `block .. end` and a folded `if`
+/// without `(then` do not end with `)`.
 ///
 /// # Proved
 ///
 /// ```text
 /// ensures { StepsAs
 /// (spec.close_step (part frame.entry) (terminals_of cursor.entry) (terminals_of rest.entry)
-/// (stack frames.old.items))
-/// out.old.items out.new.items (stack frames.new.items) result }
+/// frames.old)
+/// out.old.items out.new.items frames.new result }
 /// ```
 fn closed<'p, 'a>(
     frame: Frame<'p>,
-    frames: &mut Vec<Frame<'p>>,
+    frames: &mut Frames<'p>,
     out: &mut Vec<Instruction>,
     cursor: TokenCursor<'p, 'a>,
     rest: TokenCursor<'p, 'a>,
@@ -207,11 +227,11 @@ fn closed<'p, 'a>(
 /// # Proved
 ///
 /// ```text
-/// ensures { StepsAs (spec.else_step (terminals_of cursor.entry) (stack frames.old.items))
-/// out.old.items out.new.items (stack frames.new.items) result }
+/// ensures { StepsAs (spec.else_step (terminals_of cursor.entry) frames.old)
+/// out.old.items out.new.items frames.new result }
 /// ```
 fn after_else<'p, 'a>(
-    frames: &mut Vec<Frame<'p>>,
+    frames: &mut Frames<'p>,
     out: &mut Vec<Instruction>,
     cursor: TokenCursor<'p, 'a>,
 ) -> Result<TokenCursor<'p, 'a>, ParseFailure<'p, 'a>> {
@@ -231,12 +251,12 @@ fn after_else<'p, 'a>(
 /// ```text
 /// ensures { StepsAs
 /// (spec.then_step (terminals.label label.entry) (terminals_of cursor.entry)
-/// (stack frames.old.items))
-/// out.old.items out.new.items (stack frames.new.items) result }
+/// frames.old)
+/// out.old.items out.new.items frames.new result }
 /// ```
 fn after_then<'p, 'a>(
     label: Name<'p>,
-    frames: &mut Vec<Frame<'p>>,
+    frames: &mut Frames<'p>,
     out: &mut Vec<Instruction>,
     cursor: TokenCursor<'p, 'a>,
 ) -> Result<TokenCursor<'p, 'a>, ParseFailure<'p, 'a>> {
@@ -257,12 +277,12 @@ fn after_then<'p, 'a>(
 /// ```text
 /// ensures { StepsAs
 /// (spec.other_step (terminals.label label.entry) (terminals_of cursor.entry)
-/// (stack frames.old.items))
-/// out.old.items out.new.items (stack frames.new.items) result }
+/// frames.old)
+/// out.old.items out.new.items frames.new result }
 /// ```
 fn other_part<'p, 'a>(
     label: Name<'p>,
-    frames: &mut Vec<Frame<'p>>,
+    frames: &mut Frames<'p>,
     out: &mut Vec<Instruction>,
     cursor: TokenCursor<'p, 'a>,
 ) -> Result<TokenCursor<'p, 'a>, ParseFailure<'p, 'a>> {
@@ -285,12 +305,12 @@ fn other_part<'p, 'a>(
 /// ```text
 /// ensures { StepsAs
 /// (spec.other_part (terminals.label label.entry) (terminals_of rest.entry)
-/// (stack frames.old.items))
-/// out.old.items out.new.items (stack frames.new.items) result }
+/// frames.old)
+/// out.old.items out.new.items frames.new result }
 /// ```
 fn step_at_else<'p, 'a>(
     label: Name<'p>,
-    frames: &mut Vec<Frame<'p>>,
+    frames: &mut Frames<'p>,
     out: &mut Vec<Instruction>,
     rest: TokenCursor<'p, 'a>,
 ) -> Result<TokenCursor<'p, 'a>, ParseFailure<'p, 'a>> {
@@ -299,27 +319,26 @@ fn step_at_else<'p, 'a>(
     Ok(rest)
 }
 
-/// Parses the keyword after a `(` inside `frame`: `then`, or that of a folded instruction.
+/// Parses the keyword after a `(` inside the innermost part: `then`, or that of a folded
+/// instruction.
 ///
 /// # Proved
 ///
 /// ```text
-/// ensures { StepsAs
-/// (spec.open_step (scope_of scope.now) (part frame.entry) (terminals_of cursor.entry)
-/// (stack frames.old.items))
-/// out.old.items out.new.items (stack frames.new.items) result }
+/// ensures { StepsFrom
+/// (λ p ps. spec.open_step (scope_of scope.now) p (terminals_of cursor.entry) ps)
+/// frames.old out.old.items out.new.items frames.new result }
 /// ```
 fn folded<'p, 'a>(
     alloc: Global,
     scope: &Scope<'_, '_>,
-    frame: Frame<'p>,
-    frames: &mut Vec<Frame<'p>>,
+    frames: &mut Frames<'p>,
     out: &mut Vec<Instruction>,
     cursor: TokenCursor<'p, 'a>,
 ) -> Result<TokenCursor<'p, 'a>, ParseFailure<'p, 'a>> {
     match cursor.first() {
         Some((DecodedToken::Word(word), rest)) => {
-            folded_word(alloc, scope, frame, frames, out, word, cursor, rest)
+            folded_word(alloc, scope, frames, out, word, cursor, rest)
         }
         _ => Err(ParseFailure::Text(unexpected(cursor))),
     }
@@ -331,16 +350,47 @@ fn folded<'p, 'a>(
 /// # Proved
 ///
 /// ```text
-/// ensures { StepsAs
-/// (spec.folded_by (scope_of scope.now) (part frame.entry) word.now (terminals_of cursor.entry)
-/// (terminals_of rest.entry) (stack frames.old.items))
-/// out.old.items out.new.items (stack frames.new.items) result }
+/// ensures { StepsFrom
+/// (λ p ps. spec.folded_by (scope_of scope.now) p word.now (terminals_of cursor.entry)
+/// (terminals_of rest.entry) ps)
+/// frames.old out.old.items out.new.items frames.new result }
 /// ```
 fn folded_word<'p, 'a>(
     alloc: Global,
     scope: &Scope<'_, '_>,
+    frames: &mut Frames<'p>,
+    out: &mut Vec<Instruction>,
+    word: &str,
+    cursor: TokenCursor<'p, 'a>,
+    rest: TokenCursor<'p, 'a>,
+) -> Result<TokenCursor<'p, 'a>, ParseFailure<'p, 'a>> {
+    if !reading::is_then(word) {
+        return folded_instruction(alloc, scope, frames, out, word, cursor, rest);
+    }
+    match frames.pop() {
+        Some(frame) => then_inside(alloc, scope, frame, frames, out, word, cursor, rest),
+        None => Err(ParseFailure::Text(unexpected(cursor))),
+    }
+}
+
+/// Parses `then` after `(` inside `frame`, which is no longer on the stack. After a condition it
+/// begins a branch; in any other part it is an unknown instruction. `cursor` begins with the
+/// keyword `word`, and `rest` comes after it.
+///
+/// # Proved
+///
+/// ```text
+/// requires { is_then word.now ≡ true }
+/// ensures { StepsAs
+///     (spec.folded_by (scope_of scope.now) (part frame.entry) word.now (terminals_of cursor.entry)
+///     (terminals_of rest.entry) frames.old)
+///     out.old.items out.new.items frames.new result }
+/// ```
+fn then_inside<'p, 'a>(
+    alloc: Global,
+    scope: &Scope<'_, '_>,
     frame: Frame<'p>,
-    frames: &mut Vec<Frame<'p>>,
+    frames: &mut Frames<'p>,
     out: &mut Vec<Instruction>,
     word: &str,
     cursor: TokenCursor<'p, 'a>,
@@ -348,13 +398,9 @@ fn folded_word<'p, 'a>(
 ) -> Result<TokenCursor<'p, 'a>, ParseFailure<'p, 'a>> {
     match frame {
         Frame::Condition(instruction, label) => {
-            if reading::is_then(word) {
-                frames.push(Frame::Then(label))?;
-                out.push(instruction)?;
-                return Ok(rest);
-            }
-            frames.push(Frame::Condition(instruction, label))?;
-            folded_instruction(alloc, scope, frames, out, word, cursor, rest)
+            frames.push(Frame::Then(label))?;
+            out.push(instruction)?;
+            Ok(rest)
         }
         Frame::Body
         | Frame::Block(_, _)
@@ -376,13 +422,13 @@ fn folded_word<'p, 'a>(
 /// ```text
 /// ensures { StepsAs
 /// (spec.open_by (scope_of scope.now) (structured word.now) (terminals_of cursor.entry)
-/// (terminals_of rest.entry) (stack frames.old.items))
-/// out.old.items out.new.items (stack frames.new.items) result }
+/// (terminals_of rest.entry) frames.old)
+/// out.old.items out.new.items frames.new result }
 /// ```
 fn folded_instruction<'p, 'a>(
     alloc: Global,
     scope: &Scope<'_, '_>,
-    frames: &mut Vec<Frame<'p>>,
+    frames: &mut Frames<'p>,
     out: &mut Vec<Instruction>,
     word: &str,
     cursor: TokenCursor<'p, 'a>,
@@ -406,13 +452,13 @@ fn folded_instruction<'p, 'a>(
 /// ```text
 /// ensures { StepsAs
 /// (spec.open_block (scope_of scope.now) opcode (terminals_of cursor.entry)
-/// (stack frames.old.items))
-/// out.old.items out.new.items (stack frames.new.items) result }
+/// frames.old)
+/// out.old.items out.new.items frames.new result }
 /// ```
 fn folded_block<'p, 'a>(
     alloc: Global,
     scope: &Scope<'_, '_>,
-    frames: &mut Vec<Frame<'p>>,
+    frames: &mut Frames<'p>,
     out: &mut Vec<Instruction>,
     opcode: u8,
     cursor: TokenCursor<'p, 'a>,
@@ -432,50 +478,91 @@ fn folded_block<'p, 'a>(
     Ok(rest)
 }
 
-/// Parses `end`, `else` or an instruction that is not folded inside `frame`. Operands and
-/// conditions must be folded. `cursor` begins with the keyword `word`, and `rest` comes after it.
+/// Parses `end`, `else` or an instruction that is not folded inside the innermost part. Operands
+/// and conditions must be folded. `cursor` begins with the keyword `word`, and `rest` comes after
+/// it.
 ///
 /// # Proved
 ///
 /// ```text
-/// ensures { StepsAs
-/// (spec.word_step (scope_of scope.now) (part frame.entry) word.now (terminals_of cursor.entry)
-/// (terminals_of rest.entry) (stack frames.old.items))
-/// out.old.items out.new.items (stack frames.new.items) result }
+/// ensures { StepsFrom
+/// (λ p ps. spec.word_step (scope_of scope.now) p word.now (terminals_of cursor.entry)
+/// (terminals_of rest.entry) ps)
+/// frames.old out.old.items out.new.items frames.new result }
 /// ```
 fn at_word<'p, 'a>(
     alloc: Global,
     scope: &Scope<'_, '_>,
-    frame: Frame<'p>,
-    frames: &mut Vec<Frame<'p>>,
+    frames: &mut Frames<'p>,
     out: &mut Vec<Instruction>,
     word: &str,
     cursor: TokenCursor<'p, 'a>,
     rest: TokenCursor<'p, 'a>,
 ) -> Result<TokenCursor<'p, 'a>, ParseFailure<'p, 'a>> {
-    match frame {
-        Frame::Operands(_) => Err(ParseFailure::Text(unexpected(cursor))),
-        Frame::Condition(_, _) => Err(ParseFailure::Text(unexpected(cursor))),
-        Frame::Block(may_have_else, label) => {
-            if reading::is_end(word) {
-                let rest = reading::end_label(label, rest)?;
-                out.push(END)?;
-                return Ok(rest);
-            }
-            if may_have_else && reading::is_else(word) {
-                let rest = reading::end_label(label, rest)?;
-                frames.push(Frame::Block(false, label))?;
-                out.push(ELSE)?;
-                return Ok(rest);
-            }
-            frames.push(Frame::Block(may_have_else, label))?;
+    match frames.last() {
+        Some(Frame::Block(may_have_else, label)) => {
+            let (may_have_else, label) = (*may_have_else, *label);
+            at_block_word(
+                alloc,
+                scope,
+                may_have_else,
+                label,
+                frames,
+                out,
+                word,
+                cursor,
+                rest,
+            )
+        }
+        Some(Frame::Body | Frame::Group(_) | Frame::Then(_) | Frame::Else(_)) => {
             instruction(alloc, scope, frames, out, word, cursor, rest)
         }
-        Frame::Body | Frame::Group(_) | Frame::Then(_) | Frame::Else(_) => {
-            frames.push(frame)?;
-            instruction(alloc, scope, frames, out, word, cursor, rest)
+        Some(Frame::Operands(_) | Frame::Condition(_, _)) | None => {
+            Err(ParseFailure::Text(unexpected(cursor)))
         }
     }
+}
+
+/// Parses `end`, `else` or an instruction that is not folded inside the innermost part, a
+/// `block .. end` with this label. It may have an `else` if `may_have_else` is `true`. `cursor`
+/// begins with the keyword `word`, and `rest` comes after it.
+///
+/// # Proved
+///
+/// ```text
+/// ensures { (ps : List Part) →
+/// frames.old ≡ spec.Block may_have_else (terminals.label label.entry) ∷ ps →
+/// StepsAs
+/// (spec.word_step (scope_of scope.now)
+/// (spec.Block may_have_else (terminals.label label.entry)) word.now
+/// (terminals_of cursor.entry) (terminals_of rest.entry) ps)
+/// out.old.items out.new.items frames.new result }
+/// ```
+fn at_block_word<'p, 'a>(
+    alloc: Global,
+    scope: &Scope<'_, '_>,
+    may_have_else: bool,
+    label: Name<'p>,
+    frames: &mut Frames<'p>,
+    out: &mut Vec<Instruction>,
+    word: &str,
+    cursor: TokenCursor<'p, 'a>,
+    rest: TokenCursor<'p, 'a>,
+) -> Result<TokenCursor<'p, 'a>, ParseFailure<'p, 'a>> {
+    if reading::is_end(word) {
+        let rest = reading::end_label(label, rest)?;
+        frames.pop();
+        out.push(END)?;
+        return Ok(rest);
+    }
+    if may_have_else && reading::is_else(word) {
+        let rest = reading::end_label(label, rest)?;
+        frames.pop();
+        frames.push(Frame::Block(false, label))?;
+        out.push(ELSE)?;
+        return Ok(rest);
+    }
+    instruction(alloc, scope, frames, out, word, cursor, rest)
 }
 
 /// Parses an instruction that is not folded: a plain one, or the label and the type of a block,
@@ -486,13 +573,14 @@ fn at_word<'p, 'a>(
 /// ```text
 /// ensures { StepsAs
 /// (spec.word_by (scope_of scope.now) (structured word.now) (terminals_of cursor.entry)
-/// (terminals_of rest.entry) (stack frames.old.items))
-/// out.old.items out.new.items (stack frames.new.items) result }
+/// (terminals_of rest.entry) frames.old)
+/// out.old.items out.new.items frames.new result }
 /// ```
+#[inline(always)]
 fn instruction<'p, 'a>(
     alloc: Global,
     scope: &Scope<'_, '_>,
-    frames: &mut Vec<Frame<'p>>,
+    frames: &mut Frames<'p>,
     out: &mut Vec<Instruction>,
     word: &str,
     cursor: TokenCursor<'p, 'a>,

@@ -9,8 +9,11 @@ use crate::tokens::token::Name;
 
 /// Identifiers of the items of an index space, in the order of their indices.
 pub struct IndexedNames<'n> {
+    /// Number of items before those of `names`. They have no identifiers.
+    unnamed: usize,
     names: Vec<Name<'n>>,
-    /// Index of each identifier, if there are more than `FEW` items. Otherwise empty.
+    /// Position in `names` of each identifier, if `names` has more than `FEW` items. Otherwise
+    /// empty.
     indices: BTreeMap<&'n str, usize>,
 }
 
@@ -27,6 +30,7 @@ impl<'n> IndexedNames<'n> {
     /// ```
     pub fn none(alloc: Global) -> IndexedNames<'n> {
         IndexedNames {
+            unnamed: 0,
             names: Vec::new(alloc),
             indices: BTreeMap::new(alloc),
         }
@@ -46,11 +50,35 @@ impl<'n> IndexedNames<'n> {
         alloc: Global,
         names: Vec<Name<'n>>,
     ) -> Result<Option<IndexedNames<'n>>, AllocError> {
+        IndexedNames::after_unnamed(alloc, 0, names)
+    }
+
+    /// Indexes the identifiers of items that come after `unnamed` items without identifiers.
+    /// `unnamed` must be below 2^63. Returns `None` if two items have the same identifier.
+    ///
+    /// # Proved
+    ///
+    /// ```text
+    /// requires { unnamed < 2 ^ 63 }
+    /// ensures these { IfOk result (λ found. IfSome found (λ these. these ≡
+    ///     replicate unnamed None ++ map label names.entry.items)) }
+    /// ensures distinct { IfOk result (λ found. is_some found ≡
+    ///     are_distinct (map label names.entry.items)) }
+    /// ```
+    pub fn after_unnamed(
+        alloc: Global,
+        unnamed: usize,
+        names: Vec<Name<'n>>,
+    ) -> Result<Option<IndexedNames<'n>>, AllocError> {
         if names.len() <= FEW {
-            return Ok(few(alloc, names));
+            return Ok(few(alloc, unnamed, names));
         }
         match indices(alloc, &names)? {
-            Some(indices) => Ok(Some(IndexedNames { names, indices })),
+            Some(indices) => Ok(Some(IndexedNames {
+                unnamed,
+                names,
+                indices,
+            })),
             None => Ok(None),
         }
     }
@@ -63,25 +91,45 @@ impl<'n> IndexedNames<'n> {
     /// ensures { result ≡ position 0 name.now self.now }
     /// ```
     pub fn position(&self, name: &str) -> Option<usize> {
-        if self.names.len() <= FEW {
-            return first(&self.names, name);
+        match named(&self.names, &self.indices, name) {
+            Some(i) => Some(self.unnamed + i),
+            None => None,
         }
-        self.indices.get(name).copied()
     }
 }
 
-/// Returns the identifiers of at most `FEW` items, or `None` if two items have the same one.
+/// Returns the position in `names` of an identifier. The map is read only if there are more than
+/// `FEW` names.
 ///
 /// # Proved
 ///
 /// ```text
-/// requires { length names.items ≤ 16 }
-/// ensures these { IfSome result (λ these. these ≡ map label names.entry.items) }
+/// requires { IndicesOf indices.now (map label names.now) }
+/// ensures { result ≡ position 0 name.now (map label names.now) }
+/// ```
+fn named<'n>(names: &[Name<'n>], indices: &BTreeMap<&'n str, usize>, name: &str) -> Option<usize> {
+    if names.len() <= FEW {
+        return first(names, name);
+    }
+    indices.get(name).copied()
+}
+
+/// Returns the identifiers of at most `FEW` items that come after `unnamed` items without
+/// identifiers, or `None` if two items have the same one.
+///
+/// # Proved
+///
+/// ```text
+/// requires few { length names.items ≤ 16 }
+/// requires small { unnamed < 2 ^ 63 }
+/// ensures these { IfSome result (λ these. these ≡
+///     replicate unnamed None ++ map label names.entry.items) }
 /// ensures distinct { is_some result ≡ are_distinct (map label names.entry.items) }
 /// ```
-fn few<'n>(alloc: Global, names: Vec<Name<'n>>) -> Option<IndexedNames<'n>> {
+fn few<'n>(alloc: Global, unnamed: usize, names: Vec<Name<'n>>) -> Option<IndexedNames<'n>> {
     if are_distinct(&names) {
         return Some(IndexedNames {
+            unnamed,
             names,
             indices: BTreeMap::new(alloc),
         });

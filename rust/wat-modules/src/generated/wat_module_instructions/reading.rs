@@ -3,7 +3,7 @@
 
 use wat_lex::shim::prelude::*;
 use crate::instructions::faults::{fault, unexpected};
-use crate::instructions::frame::Frame;
+use crate::instructions::frame::Frames;
 use crate::instructions::names::IndexedNames;
 use crate::instructions::{floats, memory, table_arguments, uses, vector_arguments};
 use wat_lex::shim::alloc::Global;
@@ -42,55 +42,12 @@ pub struct Scope<'s, 'n> {
     pub datas: &'s IndexedNames<'n>,
 }
 
-/// Returns the label that a frame binds, if it binds one. The body binds a label without an
-/// identifier.
-///
-/// # Proved
-///
-/// ```text
-/// ensures { MatchOption result
-/// (bound (part frame.now) ≡ [])
-/// (λ l. bound (part frame.now) ≡ label l ∷ []) }
-/// ```
-fn bound<'n>(frame: &Frame<'n>) -> Option<Name<'n>> {
-    match *frame {
-        Frame::Body => Some(Name::Absent),
-        Frame::Block(_, label) | Frame::Group(label) | Frame::Then(label) | Frame::Else(label) => {
-            Some(label)
-        }
-        Frame::Operands(_) | Frame::Condition(_, _) => None,
-    }
-}
-
-/// Returns the index of the innermost label with this identifier: the number of open labels inside
-/// it. Returns `None` if no open label has it.
-///
-/// # Proved
-///
-/// ```text
-/// ensures { result ≡ position 0 name.now (labels_in (stack frames.now)) }
-/// ```
-fn label_index(frames: &[Frame<'_>], name: &str) -> Option<usize> {
-    let mut outer = frames;
-    let mut depth = 0;
-    while let [below @ .., frame] = outer {
-        if let Some(label) = bound(frame) {
-            if label.is(name) {
-                return Some(depth);
-            }
-            depth += 1;
-        }
-        outer = below;
-    }
-    None
-}
-
 /// The identifiers that may be written for an index: those of the items of an index space, or the
 /// labels of the open frames.
 #[derive(Clone, Copy)]
 enum Identifiers<'s, 'n> {
     Items(&'s IndexedNames<'n>),
-    Labels(&'s [Frame<'n>]),
+    Labels(&'s Frames<'n>),
 }
 
 /// Returns the index of the first item, or of the innermost label, with this identifier, or `None`.
@@ -103,7 +60,7 @@ enum Identifiers<'s, 'n> {
 fn position(among: Identifiers<'_, '_>, name: &str) -> Option<usize> {
     match among {
         Identifiers::Items(names) => names.position(name),
-        Identifiers::Labels(frames) => label_index(frames, name),
+        Identifiers::Labels(frames) => frames.position(name),
     }
 }
 
@@ -155,10 +112,10 @@ pub fn index<'p, 'a>(
 ///
 /// ```text
 /// ensures { ReadsExactly (λ v. v)
-/// (index (labels_in (stack frames.now)) (terminals_of cursor.entry)) result }
+/// (index (labels_in frames.now) (terminals_of cursor.entry)) result }
 /// ```
 fn label_number<'p, 'a>(
-    frames: &[Frame<'_>],
+    frames: &Frames<'_>,
     cursor: TokenCursor<'p, 'a>,
 ) -> Result<(usize, TokenCursor<'p, 'a>), Fault<'p, 'a>> {
     index_among(Identifiers::Labels(frames), cursor)
@@ -202,10 +159,10 @@ fn name_and_zero<'p, 'a>(
 ///
 /// ```text
 /// ensures { ReadsExactly (λ v. v)
-/// (with_index (index (labels_in (stack frames.now)) (terminals_of cursor.entry))) result }
+/// (with_index (index (labels_in frames.now) (terminals_of cursor.entry))) result }
 /// ```
 fn label_argument<'p, 'a>(
-    frames: &[Frame<'_>],
+    frames: &Frames<'_>,
     cursor: TokenCursor<'p, 'a>,
 ) -> Result<(Argument, TokenCursor<'p, 'a>), Fault<'p, 'a>> {
     let (n, rest) = label_number(frames, cursor)?;
@@ -225,13 +182,13 @@ struct LastLabel<'p, 'a> {
 ///
 /// ```text
 /// ensures { ReadsAs (λ v. v)
-/// (labels_by (labels_in (stack frames.now))
-/// (index (labels_in (stack frames.now)) (terminals_of cursor.entry)))
+/// (labels_by (labels_in frames.now)
+/// (index (labels_in frames.now) (terminals_of cursor.entry)))
 /// result }
 /// ```
 fn labels_argument<'p, 'a>(
     alloc: Global,
-    frames: &[Frame<'_>],
+    frames: &Frames<'_>,
     cursor: TokenCursor<'p, 'a>,
 ) -> Result<(Argument, TokenCursor<'p, 'a>), ParseFailure<'p, 'a>> {
     let (label, cursor) = label_number(frames, cursor)?;
@@ -278,20 +235,20 @@ fn branch_table<'p, 'a>(
 /// ```text
 /// ensures is { MatchResult result
 ///     (λ o. MatchOption o
-///     (NoLabel (labels_in (stack frames.now)) last.entry.label
+///     (NoLabel (labels_in frames.now) last.entry.label
 ///     (terminals_of last.entry.cursor) labels.old.items labels.new.items)
-///     (λ l. IsLabel (labels_in (stack frames.now)) last.entry.label
+///     (λ l. IsLabel (labels_in frames.now) last.entry.label
 ///     (terminals_of last.entry.cursor) labels.old.items labels.new.items l.label
 ///     (terminals_of l.cursor)))
 ///     (λ e. Faults
-///     (labels_from (labels_in (stack frames.now)) last.entry.label
+///     (labels_from (labels_in frames.now) last.entry.label
 ///     (terminals_of last.entry.cursor))
 ///     e) }
 /// ensures shorter { IfOk result (λ o. IfSome o (λ l. length (terminals_of l.cursor) <
 ///     length (terminals_of last.entry.cursor))) }
 /// ```
 fn next_label<'p, 'a>(
-    frames: &[Frame<'_>],
+    frames: &Frames<'_>,
     labels: &mut Vec<usize>,
     last: LastLabel<'p, 'a>,
 ) -> Result<Option<LastLabel<'p, 'a>>, ParseFailure<'p, 'a>> {
@@ -485,14 +442,14 @@ fn heap_argument<'p, 'a>(
 ///
 /// ```text
 /// ensures { ReadsAs (λ v. v)
-/// (immediate_of (scope_of scope.now) (labels_in (stack frames.now)) kind
+/// (immediate_of (scope_of scope.now) (labels_in frames.now) kind
 /// (terminals_of cursor.entry))
 /// result }
 /// ```
 fn immediate<'p, 'a>(
     alloc: Global,
     scope: &Scope<'_, '_>,
-    frames: &[Frame<'_>],
+    frames: &Frames<'_>,
     kind: Immediate,
     cursor: TokenCursor<'p, 'a>,
 ) -> Result<(Argument, TokenCursor<'p, 'a>), ParseFailure<'p, 'a>> {
@@ -565,13 +522,13 @@ fn opcode_of(opcode: Opcode, argument: &Argument) -> Opcode {
 ///
 /// ```text
 /// ensures { ReadsAs (λ v. v)
-/// (plain (scope_of scope.now) (labels_in (stack frames.now)) (terminals_of cursor.entry))
+/// (plain (scope_of scope.now) (labels_in frames.now) (terminals_of cursor.entry))
 /// result }
 /// ```
 pub fn plain<'p, 'a>(
     alloc: Global,
     scope: &Scope<'_, '_>,
-    frames: &[Frame<'_>],
+    frames: &Frames<'_>,
     cursor: TokenCursor<'p, 'a>,
 ) -> Result<(Instruction, TokenCursor<'p, 'a>), ParseFailure<'p, 'a>> {
     match cursor.first() {

@@ -9,7 +9,7 @@ use wat_lex::shim::alloc::{AllocError, Global};
 use crate::ast::error::{Fault, FaultKind, ParseFailure};
 use crate::ast::instruction::{Argument, ValueType};
 use crate::ast::types::{
-    BoxedUse, FunctionType, IndirectCall, SelectTypes, TypeUse, copied, same_type, type_at_index,
+    BoxedUse, FunctionType, IndirectCall, SelectTypes, TypeUse, same_type, type_at_index,
 };
 use crate::tokens::stream::TokenCursor;
 use crate::tokens::token::DecodedToken;
@@ -165,7 +165,7 @@ fn lists<'p, 'a>(
 /// ```text
 /// ensures is { ReadsAs use_of
 ///     (grammar.use_of (scope_of scope.now).types (terminals_of cursor.entry)) result }
-/// ensures small { IfOk result (λ r. spec.index_or r.0.index 0 < 2 ^ 63) }
+/// ensures small { IfOk result (λ r. spec.index_or_zero (use_of r.0) < 2 ^ 63) }
 /// ```
 fn type_use<'p, 'a>(
     alloc: Global,
@@ -185,15 +185,14 @@ fn type_use<'p, 'a>(
 /// ```text
 /// ensures is { ReadsAs use_of (grammar.listed_use (grammar.lists_of (terminals_of cursor.entry)))
 ///     result }
-/// ensures small { IfOk result (λ r. spec.index_or r.0.index 0 < 2 ^ 63) }
+/// ensures small { IfOk result (λ r. spec.index_or_zero (use_of r.0) < 2 ^ 63) }
 /// ```
 fn listed_use<'p, 'a>(
     alloc: Global,
     cursor: TokenCursor<'p, 'a>,
 ) -> Result<(TypeUse, TokenCursor<'p, 'a>), ParseFailure<'p, 'a>> {
     let (of, rest) = lists(alloc, cursor)?;
-    let index = None;
-    Ok((TypeUse { index, of }, rest))
+    Ok((TypeUse::Inline(of), rest))
 }
 
 /// Parses a type use after `(type`.
@@ -205,7 +204,7 @@ fn listed_use<'p, 'a>(
 ///     (grammar.indexed_use (scope_of scope.now).types (terminals_of cursor.entry)
 ///     (grammar.index (scope_of scope.now).types.names (terminals_of cursor.entry)))
 ///     result }
-/// ensures small { IfOk result (λ r. spec.index_or r.0.index 0 < 2 ^ 63) }
+/// ensures small { IfOk result (λ r. spec.index_or_zero (use_of r.0) < 2 ^ 63) }
 /// ```
 fn indexed_use<'p, 'a>(
     alloc: Global,
@@ -226,7 +225,7 @@ fn indexed_use<'p, 'a>(
 ///     (grammar.closed_index (scope_of scope.now).types index (terminals_of all.entry)
 ///     (terminals_of cursor.entry))
 ///     result }
-/// ensures small { IfOk result (λ r. spec.index_or r.0.index 0 < 2 ^ 63) }
+/// ensures small { IfOk result (λ r. spec.index_or_zero (use_of r.0) < 2 ^ 63) }
 /// ```
 fn closed_use<'p, 'a>(
     alloc: Global,
@@ -248,22 +247,21 @@ fn closed_use<'p, 'a>(
 }
 
 /// Parses the rest of a type use after `(type index)`, if types are not known. The result has index
-/// 0 and the listed type.
+/// 0.
 ///
 /// # Proved
 ///
 /// ```text
 /// ensures is { ReadsAs use_of (grammar.assumed (grammar.lists_of (terminals_of cursor.entry)))
 ///     result }
-/// ensures small { IfOk result (λ r. spec.index_or r.0.index 0 < 2 ^ 63) }
+/// ensures small { IfOk result (λ r. spec.index_or_zero (use_of r.0) < 2 ^ 63) }
 /// ```
 fn assumed_use<'p, 'a>(
     alloc: Global,
     cursor: TokenCursor<'p, 'a>,
 ) -> Result<(TypeUse, TokenCursor<'p, 'a>), ParseFailure<'p, 'a>> {
-    let (of, rest) = lists(alloc, cursor)?;
-    let index = Some(0);
-    Ok((TypeUse { index, of }, rest))
+    let (_, rest) = lists(alloc, cursor)?;
+    Ok((TypeUse::Index(0), rest))
 }
 
 /// Parses the rest of a type use after `(type index)`, if types are known. Returns `UnknownName` if
@@ -276,7 +274,7 @@ fn assumed_use<'p, 'a>(
 ///     (grammar.indexed_by index (slice_get (map type_of types.now) index) (terminals_of all.entry)
 ///     (terminals_of cursor.entry))
 ///     result }
-/// ensures small { IfOk result (λ r. spec.index_or r.0.index 0 < 2 ^ 63) }
+/// ensures small { IfOk result (λ r. spec.index_or_zero (use_of r.0) < 2 ^ 63) }
 /// ```
 fn typed_use<'p, 'a>(
     alloc: Global,
@@ -313,7 +311,7 @@ fn list_nothing(params: &[ValueType], results: &[ValueType]) -> bool {
 ///     (grammar.agreed index (type_of of.now) (terminals_of all.entry)
 ///     (grammar.lists_of (terminals_of cursor.entry)))
 ///     result }
-/// ensures small { IfOk result (λ r. spec.index_or r.0.index 0 < 2 ^ 63) }
+/// ensures small { IfOk result (λ r. spec.index_or_zero (use_of r.0) < 2 ^ 63) }
 /// ```
 fn agreed<'p, 'a>(
     alloc: Global,
@@ -324,9 +322,7 @@ fn agreed<'p, 'a>(
 ) -> Result<(TypeUse, TokenCursor<'p, 'a>), ParseFailure<'p, 'a>> {
     let (listed, rest) = lists(alloc, cursor)?;
     if list_nothing(&listed.params, &listed.results) || same_type(&listed, of) {
-        let of = copied(alloc, of)?;
-        let index = Some(index);
-        return Ok((TypeUse { index, of }, rest));
+        return Ok((TypeUse::Index(index), rest));
     }
     Err(ParseFailure::Text(fault(FaultKind::OtherType, all)))
 }
@@ -420,18 +416,27 @@ pub(crate) fn block_type<'p, 'a>(
 ///
 /// ```text
 /// ensures { MatchOption result
-/// ((u : spec.TypeUse) → grammar.block_of index params.now results.now u ≡ argument.BlockUse u)
-/// (λ of. (u : spec.TypeUse) →
-/// grammar.block_of index params.now results.now u ≡ argument.Block of) }
+/// (grammar.block_of (use_of uses.now) ≡ argument.BlockUse (use_of uses.now))
+/// (λ of. grammar.block_of (use_of uses.now) ≡ argument.Block of) }
 /// ```
-fn short_form(
-    index: Option<usize>,
-    params: &[ValueType],
-    results: &[ValueType],
-) -> Option<Option<ValueType>> {
-    if index.is_some() {
-        return None;
+fn short_form(uses: &TypeUse) -> Option<Option<ValueType>> {
+    match uses {
+        TypeUse::Index(_) => None,
+        TypeUse::Inline(of) => only_result(&of.params, &of.results),
     }
+}
+
+/// Returns the result if there is at most one result and no parameter, otherwise `None`.
+///
+/// # Proved
+///
+/// ```text
+/// ensures { MatchOption result
+/// ((u : spec.TypeUse) → grammar.inline_block params.now results.now u ≡ argument.BlockUse u)
+/// (λ of. (u : spec.TypeUse) →
+/// grammar.inline_block params.now results.now u ≡ argument.Block of) }
+/// ```
+fn only_result(params: &[ValueType], results: &[ValueType]) -> Option<Option<ValueType>> {
     match params {
         [] => match results {
             [] => Some(None),
@@ -447,12 +452,11 @@ fn short_form(
 /// # Proved
 ///
 /// ```text
-/// requires { spec.index_or uses.index 0 < 2 ^ 63 }
-/// ensures { IfOk result (λ a. a ≡
-///     grammar.block_of uses.index uses.of.params.items uses.of.results.items (use_of uses)) }
+/// requires { spec.index_or_zero (use_of uses) < 2 ^ 63 }
+/// ensures { IfOk result (λ a. a ≡ grammar.block_of (use_of uses)) }
 /// ```
 fn block_argument(alloc: Global, uses: TypeUse) -> Result<Argument, AllocError> {
-    match short_form(uses.index, &uses.of.params, &uses.of.results) {
+    match short_form(&uses) {
         Some(of) => Ok(Argument::Block(of)),
         None => {
             let uses = BoxedUse::new(alloc, uses)?;

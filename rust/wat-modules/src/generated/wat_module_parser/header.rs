@@ -3,7 +3,7 @@
 
 use wat_lex::shim::prelude::*;
 use crate::parser::variables::Variable;
-use wat_lex::shim::alloc::{AllocError, Global};
+use wat_lex::shim::alloc::Global;
 use core::str;
 use crate::ast::error::{Fault, FaultKind, ParseFailure};
 use crate::ast::instruction::ValueType;
@@ -37,6 +37,9 @@ pub(crate) fn exports<'p, 'a>(
     }
 }
 
+/// Initial capacity of a list of variables that is not empty.
+const FEW: usize = 4;
+
 /// Parses groups of variables as long as one comes next. A group begins with an opening parenthesis
 /// and `word`, which is `param`, `result` or `local`. A variable may have an identifier only if
 /// `may_have_name`.
@@ -57,7 +60,7 @@ pub(crate) fn variables<'p, 'a>(
     let mut found = Vec::new(alloc);
     let mut left = cursor;
     'groups: loop {
-        match next_group(alloc, word, may_have_name, &mut found, left) {
+        match next_group(word, may_have_name, &mut found, left) {
             Ok(Some(next)) => {
                 left = next;
             }
@@ -67,26 +70,28 @@ pub(crate) fn variables<'p, 'a>(
     }
 }
 
-/// Parses value types as long as a keyword comes next, which must be that of a value type.
+/// Parses value types as long as a keyword comes next, which must be that of a value type. Appends
+/// a variable of each type, without an identifier, to `found`.
 ///
 /// # Proved
 ///
 /// ```text
-/// ensures { ReadsAs (λ v. v.items) (reading.all reading.value_item (terminals_of cursor.entry))
-/// result }
+/// ensures { MatchResult result
+/// (λ l. AreListed (terminals_of cursor.entry) (map variable_of found.old.items)
+/// (map variable_of found.new.items) (terminals_of l))
+/// (λ e. Faults (reading.all reading.value_item (terminals_of cursor.entry)) e) }
 /// ```
 fn values<'p, 'a>(
-    alloc: Global,
+    found: &mut Vec<Variable<'a>>,
     cursor: TokenCursor<'p, 'a>,
-) -> Result<(Vec<ValueType>, TokenCursor<'p, 'a>), ParseFailure<'p, 'a>> {
-    let mut found = Vec::new(alloc);
+) -> Result<TokenCursor<'p, 'a>, ParseFailure<'p, 'a>> {
     let mut left = cursor;
     'values: loop {
-        match next_value(&mut found, left) {
+        match next_value(found, left) {
             Ok(Some(next)) => {
                 left = next;
             }
-            Ok(None) => return Ok((found, left)),
+            Ok(None) => return Ok(left),
             Err(refusal) => return Err(refusal),
         }
     }
@@ -203,7 +208,6 @@ fn next_export<'p, 'a>(
 /// (λ e. ItemFaults (reading.group_item word.now may_have_name (terminals_of left.entry)) e) }
 /// ```
 fn next_group<'p, 'a>(
-    alloc: Global,
     word: &str,
     may_have_name: bool,
     found: &mut Vec<Variable<'a>>,
@@ -211,55 +215,39 @@ fn next_group<'p, 'a>(
 ) -> Result<Option<TokenCursor<'p, 'a>>, ParseFailure<'p, 'a>> {
     match after(word, left) {
         Some(rest) => {
-            let (variables, cursor) = group(alloc, may_have_name, rest)?;
-            put_variables(found, variables)?;
-            Ok(Some(cursor))
+            if found.is_empty() {
+                found.reserve(FEW)?;
+            }
+            let next = group(may_have_name, found, rest)?;
+            Ok(Some(next))
         }
         None => Ok(None),
     }
 }
 
-/// Appends variables to `found`. The first group, usually the only one, is moved instead of copied.
-///
-/// # Proved
-///
-/// ```text
-/// ensures { OnOk result (map variable_of found.new.items ≡
-/// map variable_of found.old.items ++ map variable_of variables.entry.items) }
-/// ```
-fn put_variables<'a>(
-    found: &mut Vec<Variable<'a>>,
-    variables: Vec<Variable<'a>>,
-) -> Result<(), AllocError> {
-    if found.is_empty() {
-        *found = variables;
-        return Ok(());
-    }
-    found.extend_from_slice(&variables)
-}
-
-/// Parses a value type and appends it to `found`. Returns the tokens after it, or `None` if no
-/// keyword comes next.
+/// Parses a value type and appends a variable of this type, without an identifier, to `found`.
+/// Returns the tokens after it, or `None` if no keyword comes next.
 ///
 /// # Proved
 ///
 /// ```text
 /// ensures { MatchResult result
 /// (λ o. MatchOption o
-/// (NoItem (reading.value_item (terminals_of left.entry)) (found.old.items)
-/// (found.new.items))
-/// (λ l. IsItem (reading.value_item (terminals_of left.entry)) (found.old.items)
-/// (found.new.items) (terminals_of l)))
+/// (NoneListed (terminals_of left.entry) (map variable_of found.old.items)
+/// (map variable_of found.new.items))
+/// (λ l. IsListed (terminals_of left.entry) (map variable_of found.old.items)
+/// (map variable_of found.new.items) (terminals_of l)))
 /// (λ e. ItemFaults (reading.value_item (terminals_of left.entry)) e) }
 /// ```
 fn next_value<'p, 'a>(
-    found: &mut Vec<ValueType>,
+    found: &mut Vec<Variable<'a>>,
     left: TokenCursor<'p, 'a>,
 ) -> Result<Option<TokenCursor<'p, 'a>>, ParseFailure<'p, 'a>> {
     match left.first() {
         Some((DecodedToken::Word(word), cursor)) => match value_type(word) {
             Some(of) => {
-                found.push(of)?;
+                let name = Name::Absent;
+                found.push(Variable { name, of })?;
                 Ok(Some(cursor))
             }
             None => Err(ParseFailure::Text(fault(FaultKind::UnknownWord, left))),
@@ -268,110 +256,103 @@ fn next_value<'p, 'a>(
     }
 }
 
-/// Parses a group of variables after its keyword: an identifier and a type, or any number of types;
-/// and the closing parenthesis.
+/// Parses a group of variables after its keyword and appends them to `found`: an identifier and a
+/// type, or any number of types; and the closing parenthesis.
 ///
 /// # Proved
 ///
 /// ```text
-/// ensures { ReadsAs (λ v. map variable_of v.items)
-/// (reading.group may_have_name (terminals_of cursor.entry)) result }
+/// ensures { MatchResult result
+/// (λ l. IsItem (Some (reading.group may_have_name (terminals_of cursor.entry)))
+/// (map variable_of found.old.items) (map variable_of found.new.items) (terminals_of l))
+/// (λ e. Faults (reading.group may_have_name (terminals_of cursor.entry)) e) }
 /// ```
 fn group<'p, 'a>(
-    alloc: Global,
     may_have_name: bool,
+    found: &mut Vec<Variable<'a>>,
     cursor: TokenCursor<'p, 'a>,
-) -> Result<(Vec<Variable<'a>>, TokenCursor<'p, 'a>), ParseFailure<'p, 'a>> {
+) -> Result<TokenCursor<'p, 'a>, ParseFailure<'p, 'a>> {
     match cursor.first() {
         Some((DecodedToken::Id(name), rest)) => {
             if may_have_name {
-                named_group(alloc, name, rest)
+                named_group(name, found, rest)
             } else {
                 Err(ParseFailure::Text(unexpected(cursor)))
             }
         }
-        _ => listed(alloc, cursor),
+        _ => listed(found, cursor),
     }
 }
 
-/// Parses a group of one variable after its identifier: a type and the closing parenthesis.
+/// Parses a group of one variable after its identifier, and appends it to `found`: a type and the
+/// closing parenthesis.
 ///
 /// # Proved
 ///
 /// ```text
-/// ensures { ReadsAs (λ v. map variable_of v.items)
-/// (reading.named_group name.now (terminals_of cursor.entry)) result }
+/// ensures { MatchResult result
+/// (λ l. IsItem (Some (reading.named_group name.now (terminals_of cursor.entry)))
+/// (map variable_of found.old.items) (map variable_of found.new.items) (terminals_of l))
+/// (λ e. Faults (reading.named_group name.now (terminals_of cursor.entry)) e) }
 /// ```
 fn named_group<'p, 'a>(
-    alloc: Global,
     name: &'a str,
+    found: &mut Vec<Variable<'a>>,
     cursor: TokenCursor<'p, 'a>,
-) -> Result<(Vec<Variable<'a>>, TokenCursor<'p, 'a>), ParseFailure<'p, 'a>> {
+) -> Result<TokenCursor<'p, 'a>, ParseFailure<'p, 'a>> {
     match cursor.first() {
         Some((DecodedToken::Word(word), rest)) => match value_type(word) {
-            Some(of) => named_type(alloc, name, of, rest),
+            Some(of) => named_type(name, of, found, rest),
             None => Err(ParseFailure::Text(fault(FaultKind::UnknownWord, cursor))),
         },
         _ => Err(ParseFailure::Text(unexpected(cursor))),
     }
 }
 
-/// Parses a group of one variable after its identifier and type: the closing parenthesis.
+/// Parses a group of one variable after its identifier and type, and appends it to `found`: the
+/// closing parenthesis.
 ///
 /// # Proved
 ///
 /// ```text
-/// ensures { ReadsAs (λ v. map variable_of v.items)
+/// ensures { MatchResult result
+/// (λ l. IsItem
+/// (Some (reading.named_type name.now (Some of) (terminals_of cursor.entry)
+/// (terminals_of cursor.entry)))
+/// (map variable_of found.old.items) (map variable_of found.new.items) (terminals_of l))
+/// (λ e. Faults
 /// (reading.named_type name.now (Some of) (terminals_of cursor.entry)
 /// (terminals_of cursor.entry))
-/// result }
+/// e) }
 /// ```
 fn named_type<'p, 'a>(
-    alloc: Global,
     name: &'a str,
     of: ValueType,
+    found: &mut Vec<Variable<'a>>,
     cursor: TokenCursor<'p, 'a>,
-) -> Result<(Vec<Variable<'a>>, TokenCursor<'p, 'a>), ParseFailure<'p, 'a>> {
+) -> Result<TokenCursor<'p, 'a>, ParseFailure<'p, 'a>> {
     let rest = closed(cursor)?;
     let name = Name::Given(name);
-    let mut variables = Vec::new(alloc);
-    variables.push(Variable { name, of })?;
-    Ok((variables, rest))
+    found.push(Variable { name, of })?;
+    Ok(rest)
 }
 
-/// Parses a group of variables without identifiers: types and the closing parenthesis.
+/// Parses a group of variables without identifiers, and appends them to `found`: types and the
+/// closing parenthesis.
 ///
 /// # Proved
 ///
 /// ```text
-/// ensures { ReadsAs (λ v. map variable_of v.items) (reading.listed (terminals_of cursor.entry))
-/// result }
+/// ensures { MatchResult result
+/// (λ l. IsItem (Some (reading.listed (terminals_of cursor.entry)))
+/// (map variable_of found.old.items) (map variable_of found.new.items) (terminals_of l))
+/// (λ e. Faults (reading.listed (terminals_of cursor.entry)) e) }
 /// ```
 fn listed<'p, 'a>(
-    alloc: Global,
+    found: &mut Vec<Variable<'a>>,
     cursor: TokenCursor<'p, 'a>,
-) -> Result<(Vec<Variable<'a>>, TokenCursor<'p, 'a>), ParseFailure<'p, 'a>> {
-    let (types, rest) = values(alloc, cursor)?;
+) -> Result<TokenCursor<'p, 'a>, ParseFailure<'p, 'a>> {
+    let rest = values(found, cursor)?;
     let rest = closed(rest)?;
-    let variables = unnamed(alloc, &types)?;
-    Ok((variables, rest))
-}
-
-/// Returns variables of these types, without identifiers.
-///
-/// # Proved
-///
-/// ```text
-/// ensures { IfOk result (λ variables. map variable_of variables.items ≡ map unnamed types.now) }
-/// ```
-pub(crate) fn unnamed<'a>(
-    alloc: Global,
-    types: &[ValueType],
-) -> Result<Vec<Variable<'a>>, AllocError> {
-    let mut variables = Vec::with_capacity(alloc, types.len())?;
-    let name = Name::Absent;
-    for of in types {
-        variables.push(Variable { name, of: *of })?;
-    }
-    Ok(variables)
+    Ok(rest)
 }

@@ -77,11 +77,11 @@ fn extern_type<'p, 'a>(
 /// ```
 fn func_type<'p, 'a>(
     alloc: Global,
-    uses: NamedUse<'a>,
+    uses: NamedUse<'_, 'a>,
     all: TokenCursor<'p, 'a>,
     rest: TokenCursor<'p, 'a>,
 ) -> Result<(ExternType, TokenCursor<'p, 'a>), ParseFailure<'p, 'a>> {
-    if variable_names(alloc, &uses.params, &[])?.is_none() {
+    if variable_names(alloc, &uses, &[])?.is_none() {
         return Err(ParseFailure::Text(fault(FaultKind::Duplicate, all)));
     }
     let uses = without_names(alloc, &uses)?;

@@ -23,7 +23,7 @@ use crate::parser::names::{Names, names_of, variable_names, with_types, without_
 use crate::parser::segments::{memory_at, segment};
 use crate::parser::types::{global_type, space_of};
 use crate::parser::uses::{type_at, type_use};
-use crate::parser::variables::{Variable, locals_of, without_names};
+use crate::parser::variables::{NamedUse, Variable, locals_of, without_names};
 use wat_lex::shim::alloc::Global;
 use crate::ast::error::{Fault, FaultKind, ParseFailure};
 use crate::ast::fields::{Field, Function, GlobalVariable, IndexSpace};
@@ -531,7 +531,7 @@ fn func<'p, 'a>(
 ) -> Result<(Field<'a>, TokenCursor<'p, 'a>), ParseFailure<'p, 'a>> {
     let (uses, rest) = type_use(alloc, names, cursor)?;
     let (locals, rest) = variables(alloc, "local", true, rest)?;
-    let (body, rest) = instructions(alloc, names, &uses.params, &locals, rest)?;
+    let (body, rest) = instructions(alloc, names, &uses, &locals, rest)?;
     let uses = without_names(alloc, &uses)?;
     let locals = locals_of(alloc, &locals)?;
     Ok((
@@ -667,24 +667,25 @@ pub(crate) fn scope<'s, 'n>(names: &'s Names<'n>, locals: &'s IndexedNames<'n>) 
 }
 
 /// Parses the instructions of a function after its locals, up to and including the closing
-/// parenthesis of the function. The identifiers of parameters and locals must be distinct.
+/// parenthesis of the function. The identifiers of its parameters, which are those of `uses`, and
+/// of its locals must be distinct.
 ///
 /// # Proved
 ///
 /// ```text
 /// ensures { ReadsAs (λ v. v.items)
-/// (reading.instructions (context_of names.now) (map variable_of params.now)
+/// (reading.instructions (context_of names.now) (use_of uses.now).params
 /// (map variable_of locals.now) (terminals_of cursor.entry))
 /// result }
 /// ```
 fn instructions<'p, 'a>(
     alloc: Global,
     names: &Names<'a>,
-    params: &[Variable<'a>],
+    uses: &NamedUse<'_, 'a>,
     locals: &[Variable<'a>],
     cursor: TokenCursor<'p, 'a>,
 ) -> Result<(Vec<Instruction>, TokenCursor<'p, 'a>), ParseFailure<'p, 'a>> {
-    let Some(locals) = variable_names(alloc, params, locals)? else {
+    let Some(locals) = variable_names(alloc, uses, locals)? else {
         return Err(ParseFailure::Text(fault(FaultKind::Duplicate, cursor)));
     };
     let scope = scope(names, &locals);

@@ -6,10 +6,11 @@ use wat_lex::shim::prelude::*;
 use crate::parser::header::exports;
 use crate::parser::types::space_of;
 use crate::parser::uses::type_at;
-use crate::parser::variables::Variable;
+use crate::parser::variables::{NamedUse, Variable};
 use wat_lex::shim::alloc::{AllocError, Global};
 use crate::ast::error::ParseFailure;
 use crate::ast::fields::{Definition, IndexSpace};
+use crate::ast::instruction::ValueType;
 use crate::ast::types::FunctionType;
 use crate::instructions::names::IndexedNames;
 use crate::instructions::reading::{after, label};
@@ -607,6 +608,51 @@ fn definition_after<'p, 'a>(
     }
 }
 
+/// Returns the identifiers of the parameters of a type use and of locals, in the order of their
+/// indices, or `None` if two of them are equal.
+///
+/// # Proved
+///
+/// ```text
+/// ensures these { IfOk result (λ found. IfSome found (λ names. names ≡
+///     map name_of ((use_of uses.now).params ++ map variable_of locals.now))) }
+/// ensures distinct { IfOk result (λ found. is_some found ≡
+///     are_distinct (map name_of ((use_of uses.now).params ++ map variable_of locals.now))) }
+/// ```
+pub(crate) fn variable_names<'a>(
+    alloc: Global,
+    uses: &NamedUse<'_, 'a>,
+    locals: &[Variable<'a>],
+) -> Result<Option<IndexedNames<'a>>, AllocError> {
+    match uses {
+        NamedUse::Listed(listed) => listed_names(alloc, &listed.params, locals),
+        NamedUse::Indexed(_, of) => names_after(alloc, &of.params, locals),
+    }
+}
+
+/// Returns the identifiers of locals, in the order of their indices, after parameters of these
+/// types without identifiers. Returns `None` if two identifiers are equal.
+///
+/// # Proved
+///
+/// ```text
+/// ensures these { IfOk result (λ found. IfSome found (λ names. names ≡
+///     map name_of (map unnamed params.now ++ map variable_of locals.now))) }
+/// ensures distinct { IfOk result (λ found. is_some found ≡
+///     are_distinct (map name_of (map unnamed params.now ++ map variable_of locals.now))) }
+/// ```
+fn names_after<'a>(
+    alloc: Global,
+    params: &[ValueType],
+    locals: &[Variable<'a>],
+) -> Result<Option<IndexedNames<'a>>, AllocError> {
+    let mut names = Vec::new(alloc);
+    for local in locals {
+        names.push(local.name)?;
+    }
+    IndexedNames::after_unnamed(alloc, params.len(), names)
+}
+
 /// Returns the identifiers of parameters and locals, in the order of their indices, or `None` if
 /// two of them are equal.
 ///
@@ -618,7 +664,7 @@ fn definition_after<'p, 'a>(
 /// ensures distinct { IfOk result (λ found. is_some found ≡
 ///     are_distinct (map name_of (map variable_of params.now ++ map variable_of locals.now))) }
 /// ```
-pub(crate) fn variable_names<'a>(
+fn listed_names<'a>(
     alloc: Global,
     params: &[Variable<'a>],
     locals: &[Variable<'a>],

@@ -2,11 +2,11 @@
 //! Parses type uses, and type fields.
 
 use wat_lex::shim::prelude::*;
-use crate::parser::header::{closed, unnamed, variables};
+use crate::parser::header::{closed, variables};
 use crate::parser::names::Names;
 use crate::parser::types::skip_two_closes;
-use crate::parser::variables::{NamedUse, Variable, function_type};
-use wat_lex::shim::alloc::{AllocError, Global};
+use crate::parser::variables::{ListedUse, NamedUse, Variable, function_type};
+use wat_lex::shim::alloc::Global;
 use crate::ast::error::{FaultKind, ParseFailure};
 use crate::ast::fields::Definition;
 use crate::ast::types::{FunctionType, same_type, type_at_index};
@@ -23,15 +23,15 @@ use crate::tokens::token::Name;
 /// ensures { ReadsAs use_of (reading.use_at (types_of names.now) (terminals_of cursor.entry))
 /// result }
 /// ```
-pub(crate) fn type_use<'p, 'a>(
+pub(crate) fn type_use<'s, 'p, 'a>(
     alloc: Global,
-    names: &Names<'a>,
+    names: &'s Names<'a>,
     cursor: TokenCursor<'p, 'a>,
-) -> Result<(NamedUse<'a>, TokenCursor<'p, 'a>), ParseFailure<'p, 'a>> {
-    match after("type", cursor) {
-        Some(rest) => indexed_use(alloc, names, rest),
-        None => listed_use(alloc, cursor),
+) -> Result<(NamedUse<'s, 'a>, TokenCursor<'p, 'a>), ParseFailure<'p, 'a>> {
+    if let Some(rest) = after("type", cursor) {
+        return indexed_use(alloc, names, rest);
     }
+    listed_use(alloc, cursor)
 }
 
 /// Parses a type use without an index: parameters and results.
@@ -41,19 +41,19 @@ pub(crate) fn type_use<'p, 'a>(
 /// ```text
 /// ensures { ReadsAs use_of (reading.listed_use (terminals_of cursor.entry)) result }
 /// ```
-fn listed_use<'p, 'a>(
+fn listed_use<'s, 'p, 'a>(
     alloc: Global,
     cursor: TokenCursor<'p, 'a>,
-) -> Result<(NamedUse<'a>, TokenCursor<'p, 'a>), ParseFailure<'p, 'a>> {
+) -> Result<(NamedUse<'s, 'a>, TokenCursor<'p, 'a>), ParseFailure<'p, 'a>> {
     let (params, rest) = variables(alloc, "param", true, cursor)?;
     let (results, rest) = variables(alloc, "result", false, rest)?;
     let index = None;
     Ok((
-        NamedUse {
+        NamedUse::Listed(ListedUse {
             index,
             params,
             results,
-        },
+        }),
         rest,
     ))
 }
@@ -66,18 +66,17 @@ fn listed_use<'p, 'a>(
 /// ensures { ReadsAs use_of (reading.indexed_use (types_of names.now) (terminals_of cursor.entry))
 /// result }
 /// ```
-fn indexed_use<'p, 'a>(
+fn indexed_use<'s, 'p, 'a>(
     alloc: Global,
-    names: &Names<'a>,
+    names: &'s Names<'a>,
     cursor: TokenCursor<'p, 'a>,
-) -> Result<(NamedUse<'a>, TokenCursor<'p, 'a>), ParseFailure<'p, 'a>> {
+) -> Result<(NamedUse<'s, 'a>, TokenCursor<'p, 'a>), ParseFailure<'p, 'a>> {
     let (index, rest) = reading::index(&names.type_names, cursor)?;
     let rest = closed(rest)?;
     if names.are_types_known {
-        known_use(alloc, names, index, cursor, rest)
-    } else {
-        assumed_use(alloc, index, rest)
+        return known_use(alloc, names, index, cursor, rest);
     }
+    assumed_use(alloc, index, rest)
 }
 
 /// Parses a type use after `(type index)`, with the types known: the index must be that of a type.
@@ -91,13 +90,13 @@ fn indexed_use<'p, 'a>(
 /// (terminals_of all.entry) (terminals_of cursor.entry))
 /// result }
 /// ```
-fn known_use<'p, 'a>(
+fn known_use<'s, 'p, 'a>(
     alloc: Global,
-    names: &Names<'a>,
+    names: &'s Names<'a>,
     index: usize,
     all: TokenCursor<'p, 'a>,
     cursor: TokenCursor<'p, 'a>,
-) -> Result<(NamedUse<'a>, TokenCursor<'p, 'a>), ParseFailure<'p, 'a>> {
+) -> Result<(NamedUse<'s, 'a>, TokenCursor<'p, 'a>), ParseFailure<'p, 'a>> {
     match type_at_index(&names.types, index) {
         Some(of) => lists(alloc, index, of, all, cursor),
         None => Err(ParseFailure::Text(fault(FaultKind::UnknownName, all))),
@@ -112,20 +111,20 @@ fn known_use<'p, 'a>(
 /// ```text
 /// ensures { ReadsAs use_of (reading.assumed_use index (terminals_of cursor.entry)) result }
 /// ```
-fn assumed_use<'p, 'a>(
+fn assumed_use<'s, 'p, 'a>(
     alloc: Global,
     index: usize,
     cursor: TokenCursor<'p, 'a>,
-) -> Result<(NamedUse<'a>, TokenCursor<'p, 'a>), ParseFailure<'p, 'a>> {
+) -> Result<(NamedUse<'s, 'a>, TokenCursor<'p, 'a>), ParseFailure<'p, 'a>> {
     let (params, rest) = variables(alloc, "param", true, cursor)?;
     let (results, rest) = variables(alloc, "result", false, rest)?;
     let index = Some(index);
     Ok((
-        NamedUse {
+        NamedUse::Listed(ListedUse {
             index,
             params,
             results,
-        },
+        }),
         rest,
     ))
 }
@@ -141,18 +140,17 @@ fn assumed_use<'p, 'a>(
 /// (terminals_of cursor.entry))
 /// result }
 /// ```
-fn lists<'p, 'a>(
+fn lists<'s, 'p, 'a>(
     alloc: Global,
     index: usize,
-    of: &FunctionType,
+    of: &'s FunctionType,
     all: TokenCursor<'p, 'a>,
     cursor: TokenCursor<'p, 'a>,
-) -> Result<(NamedUse<'a>, TokenCursor<'p, 'a>), ParseFailure<'p, 'a>> {
+) -> Result<(NamedUse<'s, 'a>, TokenCursor<'p, 'a>), ParseFailure<'p, 'a>> {
     let (params, rest) = variables(alloc, "param", true, cursor)?;
     let (results, rest) = variables(alloc, "result", false, rest)?;
     if list_nothing(&params, &results) {
-        let uses = index_use(alloc, index, of)?;
-        return Ok((uses, rest));
+        return Ok((NamedUse::Indexed(index, of), rest));
     }
     let listed = function_type(alloc, &params, &results)?;
     if !same_type(&listed, of) {
@@ -160,11 +158,11 @@ fn lists<'p, 'a>(
     }
     let index = Some(index);
     Ok((
-        NamedUse {
+        NamedUse::Listed(ListedUse {
             index,
             params,
             results,
-        },
+        }),
         rest,
     ))
 }
@@ -179,30 +177,6 @@ fn lists<'p, 'a>(
 /// ```
 fn list_nothing(params: &[Variable<'_>], results: &[Variable<'_>]) -> bool {
     params.is_empty() && results.is_empty()
-}
-
-/// Returns the type use of the type `of` with its index, whose variables have no identifiers.
-///
-/// # Proved
-///
-/// ```text
-/// ensures { IfOk result (λ u. use_of u ≡
-/// grammar.named_use (Some index) (map grammar.unnamed of.now.params.items)
-/// (map grammar.unnamed of.now.results.items)) }
-/// ```
-fn index_use<'a>(
-    alloc: Global,
-    index: usize,
-    of: &FunctionType,
-) -> Result<NamedUse<'a>, AllocError> {
-    let params = unnamed(alloc, &of.params)?;
-    let results = unnamed(alloc, &of.results)?;
-    let index = Some(index);
-    Ok(NamedUse {
-        index,
-        params,
-        results,
-    })
 }
 
 /// Parses a type field after its keyword.

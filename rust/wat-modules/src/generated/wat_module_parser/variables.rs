@@ -18,7 +18,15 @@ pub(crate) struct Variable<'a> {
 }
 
 /// A type use whose parameters keep their identifiers.
-pub(crate) struct NamedUse<'a> {
+pub(crate) enum NamedUse<'s, 'a> {
+    /// Any other type use. While the types are not known, also one with an index only.
+    Listed(ListedUse<'a>),
+    /// A type use with an index that lists no parameters and no results: the index, and its type.
+    Indexed(usize, &'s FunctionType),
+}
+
+/// A type use by its parameters and results.
+pub(crate) struct ListedUse<'a> {
     /// Type index, if given.
     pub(crate) index: Option<usize>,
     /// Parameters.
@@ -39,7 +47,7 @@ pub(crate) fn value_types(
     alloc: Global,
     variables: &[Variable<'_>],
 ) -> Result<Vec<ValueType>, AllocError> {
-    let mut types = Vec::new(alloc);
+    let mut types = Vec::with_capacity(alloc, variables.len())?;
     for variable in variables {
         types.push(variable.of)?;
     }
@@ -119,10 +127,27 @@ pub(crate) fn function_type(
 /// ```text
 /// ensures { IfOk result (λ u. bare.use_of u ≡ grammar.without_names (use_of uses.now)) }
 /// ```
-pub(crate) fn without_names(alloc: Global, uses: &NamedUse<'_>) -> Result<TypeUse, AllocError> {
-    let of = function_type(alloc, &uses.params, &uses.results)?;
-    Ok(TypeUse {
-        index: uses.index,
-        of,
-    })
+pub(crate) fn without_names(alloc: Global, uses: &NamedUse<'_, '_>) -> Result<TypeUse, AllocError> {
+    match uses {
+        NamedUse::Indexed(index, _) => Ok(TypeUse::Index(*index)),
+        NamedUse::Listed(listed) => listed_without_names(alloc, listed),
+    }
+}
+
+/// Returns the type use without the identifiers of its parameters. Its type is not returned if it
+/// has an index.
+///
+/// # Proved
+///
+/// ```text
+/// ensures { IfOk result (λ u. bare.use_of u ≡ grammar.without_names (listed_use_of uses.now)) }
+/// ```
+fn listed_without_names(alloc: Global, uses: &ListedUse<'_>) -> Result<TypeUse, AllocError> {
+    match uses.index {
+        Some(index) => Ok(TypeUse::Index(index)),
+        None => {
+            let of = function_type(alloc, &uses.params, &uses.results)?;
+            Ok(TypeUse::Inline(of))
+        }
+    }
 }
