@@ -45,10 +45,10 @@ use by_place::{give_fault, give_float, give_integer, give_name, give_name_fault,
 use laws::one_answer;
 use std::alloc::Global;
 use std::str;
-use wat_c_records::at::token_at;
+use wat_c_records::at::{found_at, token_at};
 use wat_c_records::fill::fill;
 use wat_c_records::laws::one_fill;
-use wat_c_records::rows::{Filled, Found, TokenRow, found_row};
+use wat_c_records::rows::{Filled, Found, TokenRow};
 use wat_lex::lexer::{Lexer, Settings};
 
 /// Returns `true` if the bytes are valid UTF-8 and their number is at most 4,294,967,295, as the
@@ -82,10 +82,7 @@ pub extern "C" fn wat_scan(text: &[u8], pos: usize, allow: bool, strict: bool) -
         FoundAt (setting text.now allow strict) pos row → row ≡ result }
 {
     let text = unsafe { str::from_utf8_unchecked(text) };
-    found_row(
-        pos,
-        Lexer::with_settings(text, Settings { allow, strict }).scan(pos),
-    )
+    found_at(text, pos, Settings { allow, strict })
 }
 
 /// Returns the same token as `wat_scan` without the details of an error. The result is small enough

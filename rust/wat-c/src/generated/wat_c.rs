@@ -25,10 +25,10 @@ use by_place::{give_fault, give_float, give_integer, give_name, give_name_fault,
 use laws::one_answer;
 use wat_lex::shim::alloc::Global;
 use core::str;
-use crate::rows::at::token_at;
+use crate::rows::at::{found_at, token_at};
 use crate::rows::fill::fill;
 use crate::rows::laws::one_fill;
-use crate::rows::rows::{Filled, Found, TokenRow, found_row};
+use crate::rows::rows::{Filled, Found, TokenRow};
 use wat_lex::proved::lexer::{Lexer, Settings};
 
 /// Returns `true` if the bytes are valid UTF-8 and their number is at most 4,294,967,295, as the
@@ -91,10 +91,7 @@ pub unsafe extern "C" fn wat_scan(
 
     // SAFETY: rule 2 of wat.h.
     let text = unsafe { str::from_utf8_unchecked(text) };
-    found_row(
-        pos,
-        Lexer::with_settings(text, Settings { allow, strict }).scan(pos),
-    )
+    found_at(text, pos, Settings { allow, strict })
 }
 
 /// Returns the same token as `wat_scan` without the details of an error. The result is small enough
