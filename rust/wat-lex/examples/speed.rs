@@ -1,4 +1,5 @@
-//! Benchmarks `iter` and `parse` on the text of standard input, and prints the best of several passes.
+//! Benchmarks `iter`, `parse` and `tokens_into`, and with the feature `parallel` `par_tokens_into` with a thread for each processor, on the text of
+//! standard input, and prints the best of several passes.
 //!
 //! usage: speed [PASSES]
 
@@ -44,6 +45,34 @@ fn by_parse(text: &str) -> u64 {
     sum
 }
 
+#[inline(never)]
+fn into_vec(text: &str) -> u64 {
+    let mut tokens = Vec::new();
+    let _ = Lexer::new(text).tokens_into(0, &mut tokens);
+    tokens.len() as u64
+}
+
+#[cfg(feature = "parallel")]
+fn by_threads(text: &str) -> u64 {
+    let mut lists = Vec::new();
+    if let Ok(threads) = std::thread::available_parallelism() {
+        let _ = Lexer::new(text).par_tokens_into(0, threads, &mut lists);
+    }
+    lists.iter().map(|list| list.len() as u64).sum()
+}
+
+/// A function that lexes a text, and returns a sum over its tokens.
+type Pass = fn(&str) -> u64;
+
+/// The benchmarked functions.
+const PASSES: &[(&str, Pass)] = &[
+    ("iter", by_iter),
+    ("parse", by_parse),
+    ("tokens_into", into_vec),
+    #[cfg(feature = "parallel")]
+    ("par_tokens_into", by_threads),
+];
+
 fn main() -> io::Result<()> {
     let passes = std::env::args()
         .nth(1)
@@ -51,7 +80,7 @@ fn main() -> io::Result<()> {
         .unwrap_or(5);
     let mut text = String::new();
     io::stdin().read_to_string(&mut text)?;
-    for (name, pass) in [("iter", by_iter as fn(&str) -> u64), ("parse", by_parse)] {
+    for (name, pass) in PASSES {
         let (mut best, mut sum) = (Duration::MAX, 0);
         for _ in 0..passes {
             let start = Instant::now();
@@ -60,7 +89,10 @@ fn main() -> io::Result<()> {
         }
         #[allow(clippy::cast_precision_loss)]
         let speed = text.len() as f64 / best.as_secs_f64() / 1e6;
-        println!("{name:5} {speed:7.1} MB/s: {sum} from {} bytes", text.len());
+        println!(
+            "{name:15} {speed:7.1} MB/s: {sum} from {} bytes",
+            text.len()
+        );
     }
     Ok(())
 }

@@ -64,6 +64,8 @@ mod lexer;
 mod lines;
 mod marks;
 mod number;
+#[cfg(feature = "parallel")]
+mod parallel;
 mod recover;
 // Names and signatures are those of Rattle's library, which documents their errors. The code for blocks of bytes truncates integers.
 #[allow(clippy::pedantic)]
