@@ -1,9 +1,12 @@
 use crate::proved;
+use crate::proved::error::Message;
+use crate::proved::error::pieces::{Piece, write_chunks};
 use crate::shim::alloc::{Global, granted};
 use crate::shim::boxed::Box;
 use crate::{LexError, Span};
 use alloc::string::{String, ToString};
-use core::fmt;
+use core::fmt::{self, Write as _};
+use core::str;
 #[cfg(feature = "std")]
 use std::path::{Path, PathBuf};
 
@@ -130,10 +133,53 @@ impl fmt::Display for Error {
     }
 }
 
+/// The output of an error, up to a maximum length.
+struct Printed {
+    bytes: [u8; MAX_PRINTED],
+    len: usize,
+}
+
+/// Maximum length of an output that is written at once, in bytes. Its line is at most half of it.
+const MAX_PRINTED: usize = 256;
+
+impl fmt::Write for Printed {
+    fn write_str(&mut self, text: &str) -> fmt::Result {
+        self.len = write_chunks(&[Piece::Text(text)], &mut self.bytes, self.len);
+        Ok(())
+    }
+}
+
+impl Printed {
+    /// Returns the output of an error, or `None` if it is long or has no line.
+    fn of(&mut self, error: &proved::error::Error) -> Option<&str> {
+        let pieces = error.excerpt()?.pieces();
+        let is_long = |piece: &Piece<'_>| match piece {
+            Piece::Line(line) => line.0.len() > MAX_PRINTED / 2,
+            _ => false,
+        };
+        if pieces.iter().any(is_long) {
+            return None;
+        }
+        write!(self, "{}", Message(error)).ok()?;
+        let len = write_chunks(&pieces, &mut self.bytes, self.len);
+        // If the buffer is full, the output may be longer.
+        let text = str::from_utf8(&self.bytes[..len]).ok()?;
+        (len < MAX_PRINTED).then_some(text)
+    }
+}
+
 impl fmt::Display for Located {
     fn fmt(&self, f: &mut fmt::Formatter<'_>) -> fmt::Result {
         let Some(file) = self.file() else {
-            return self.error.fmt(f);
+            let mut printed = Printed {
+                bytes: [0; MAX_PRINTED],
+                len: 0,
+            };
+            // One write takes less time than a write of each part.
+            return match printed.of(&self.error) {
+                Some(text) => f.write_str(text),
+                None => self.error.fmt(f),
+            };
         };
         let message = granted(self.error.message(Global));
         let printed = self.error.to_string();

@@ -22,6 +22,7 @@ impl<'a> Lexer<'a> {
     /// Creates a lexer over a source text, with both settings off. Lexing a text of more than `u32::MAX` bytes returns an error, or panics in a
     /// method that does not return a `Result`.
     #[must_use]
+    #[inline]
     pub fn new(input: &'a str) -> Lexer<'a> {
         let taken = if is_too_long(input.len()) { "" } else { input };
         Lexer {
@@ -41,6 +42,7 @@ impl<'a> Lexer<'a> {
     /// # Errors
     ///
     /// Returns an error if the text has more than `u32::MAX` bytes.
+    #[inline]
     pub fn proved(&self) -> Result<&proved::lexer::Lexer<'a>, Error> {
         if is_too_long(self.input.len()) {
             return Err(too_long());
@@ -210,7 +212,7 @@ impl<'a> Lexer<'a> {
     }
 
     /// Returns the verified lexer, after an assertion that `pos` is a char boundary of the text, which is a precondition of its methods.
-    fn proved_at(&self, pos: usize) -> Result<&proved::lexer::Lexer<'a>, Error> {
+    pub(crate) fn proved_at(&self, pos: usize) -> Result<&proved::lexer::Lexer<'a>, Error> {
         let lexer = self.proved()?;
         assert!(
             self.input.is_char_boundary(pos),

@@ -54,6 +54,17 @@ fn settings_are_reset() {
 }
 
 #[test]
+fn errors_of_any_length_are_printed_whole() {
+    for (message, line) in (0..300).flat_map(|len| [(len, 1), (1, len), (len, 128), (len, 129)]) {
+        let (message, line) = ("é".repeat(message), "x".repeat(line));
+        let mut error = Error::new(Span::from_offset(0), message.clone());
+        error.set_text(&line);
+        let wanted = format!("{message}\n     --> <anon>:1:1\n      |\n    1 | {line}\n      | ^");
+        assert_eq!(error.to_string(), wanted);
+    }
+}
+
+#[test]
 fn only_the_name_of_the_file_is_replaced() {
     let mut error = Error::new(Span::from_offset(7), "no <anon>".to_owned());
     error.set_text("<anon> <anon>");

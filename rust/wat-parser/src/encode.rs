@@ -96,17 +96,15 @@ impl<T: Encode + ?Sized> Encode for Box<T> {
 
 impl<A: Encode, B: Encode> Encode for (A, B) {
     fn encode(&self, bytes: &mut Vec<u8>) {
-        let (first, second) = self;
-        first.encode(bytes);
-        second.encode(bytes);
+        self.0.encode(bytes);
+        self.1.encode(bytes);
     }
 }
 
 impl<A: Encode, B: Encode, C: Encode> Encode for (A, B, C) {
     fn encode(&self, bytes: &mut Vec<u8>) {
-        let (first, second, third) = self;
-        first.encode(bytes);
-        second.encode(bytes);
-        third.encode(bytes);
+        self.0.encode(bytes);
+        self.1.encode(bytes);
+        self.2.encode(bytes);
     }
 }

@@ -21,10 +21,8 @@ pub fn reset() {
 /// Panics if this thread has generated `u32::MAX` identifiers since the last [`reset`].
 #[must_use]
 pub fn generate(span: Span) -> Id<'static> {
-    let generation = LAST
-        .get()
-        .checked_add(1)
-        .expect("fewer than u32::MAX new identifiers");
+    let next = LAST.get().checked_add(1);
+    let generation = next.expect("fewer than u32::MAX new identifiers");
     LAST.set(generation);
     let mut id = Id::new("gensym", span);
     id.generation = generation;

@@ -1,18 +1,20 @@
 // The name of a user's type may be that of any variable, so the names of parameters begin with underscores.
 
-/// Defines a token type, for the three macros below. The arguments are the type's name and derived traits, the lexeme or name, the method that parses
-/// it with its error message, and the method that peeks at it with its display name.
+/// Defines a token type, for the three macros below. The arguments are the type's name and derived traits, the lexeme or name, the method of a cursor
+/// that consumes it with its error message, and the method that peeks at it with its display name.
 #[doc(hidden)]
 #[macro_export]
 macro_rules! __token_type {
-    ($name:ident [$($derived:ident),*] $word:expr, $parse:ident $expected:expr, $see:ident $display:expr) => {
+    ($name:ident [$($derived:ident),*] $word:expr, $take:ident $expected:expr, $see:ident $display:expr) => {
         #[allow(non_camel_case_types, missing_docs)]
         #[derive($($derived),*)]
         pub struct $name(#[allow(dead_code)] pub $crate::token::Span);
 
         impl<'a> $crate::parser::Parse<'a> for $name {
             fn parse(__parser: $crate::parser::Parser<'a>) -> $crate::parser::Result<Self> {
-                __parser.$parse($word, $expected).map($name)
+                __parser
+                    .this_token($word, $expected, $crate::parser::Cursor::$take)
+                    .map($name)
             }
         }
 
@@ -40,7 +42,7 @@ macro_rules! custom_keyword {
     ($name:ident = $word:expr) => {
         $crate::__token_type!(
             $name [Clone, Copy, Debug] $word,
-            this_keyword concat!("expected keyword `", $word, "`"),
+            keyword concat!("expected keyword `", $word, "`"),
             is_keyword concat!("`", $word, "`")
         );
     };
@@ -57,7 +59,7 @@ macro_rules! custom_reserved {
     ($name:ident = $word:expr) => {
         $crate::__token_type!(
             $name [Debug] $word,
-            this_reserved concat!("expected reserved symbol `", $word, "`"),
+            reserved concat!("expected reserved symbol `", $word, "`"),
             is_reserved concat!("`", $word, "`")
         );
     };
@@ -76,7 +78,7 @@ macro_rules! annotation {
     ($name:ident = $word:expr) => {
         $crate::__token_type!(
             $name [Debug] $word,
-            this_annotation concat!("expected annotation `@", $word, "`"),
+            annotation concat!("expected annotation `@", $word, "`"),
             is_annotation concat!("`@", $word, "`")
         );
     };

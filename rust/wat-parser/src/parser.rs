@@ -23,7 +23,6 @@ use crate::token::Span;
 use core::fmt;
 use wat_lex::TokenKind;
 use wat_lex::shim::alloc::{AllocError, Global};
-use wat_lex::shim::borrow::{CowSlice, CowStr};
 use wat_lex::shim::string::ToStringIn;
 
 /// The maximum number of open groups that [`Parser::depth_check`] accepts.
@@ -99,7 +98,7 @@ impl<'a> Parser<'a> {
     #[must_use]
     #[inline]
     pub fn is_empty(self) -> bool {
-        let (row, known) = self.cursor().row();
+        let (row, known) = self.buffer.row_at(self.buffer.position.get());
         if known {
             return matches!(row.kind, TokenKind::RParen);
         }
@@ -361,15 +360,13 @@ impl<'a> Parser<'a> {
     /// # }
     /// ```
     pub fn parens<T>(self, inside: impl FnOnce(Parser<'a>) -> Result<T>) -> Result<T> {
-        let ParseBuffer {
-            depth, position, ..
-        } = self.buffer;
-        let before = position.get();
+        let depth = &self.buffer.depth;
+        let before = self.buffer.position.get();
         depth.set(depth.get() + 1);
         let group = self.group(inside);
         depth.set(depth.get() - 1);
         if group.is_err() {
-            position.set(before);
+            self.buffer.position.set(before);
         }
         group
     }
@@ -456,10 +453,9 @@ impl<'a> Parser<'a> {
 
     #[inline(always)]
     fn cursor(self) -> Cursor<'a> {
-        let position = self.buffer.position.get();
         Cursor {
             parser: self,
-            position,
+            position: self.buffer.position.get(),
         }
     }
 
@@ -502,24 +498,6 @@ impl<'a> Parser<'a> {
         Ok(value)
     }
 
-    /// Returns the bytes. If they are owned, they are stored for the lifetime of the buffer.
-    #[inline]
-    pub(crate) fn keep(self, bytes: CowSlice<'a, u8>) -> Result<&'a [u8]> {
-        match bytes {
-            CowSlice::Borrowed(bytes) => Ok(bytes),
-            CowSlice::Owned(bytes) => unless_refused(self.buffer.strings.keep(&bytes)),
-        }
-    }
-
-    /// Returns the string. If it is owned, it is stored for the lifetime of the buffer.
-    #[inline]
-    pub(crate) fn keep_text(self, text: CowStr<'a>) -> Result<&'a str> {
-        match text {
-            CowStr::Borrowed(text) => Ok(text),
-            CowStr::Owned(text) => unless_refused(self.buffer.strings.keep_text(&text)),
-        }
-    }
-
     /// Advances past what a function of a cursor consumes, and returns its value. Returns an error with the message `expected` at the next token if
     /// the function returns `None`.
     #[inline(always)]
@@ -530,31 +508,21 @@ impl<'a> Parser<'a> {
     ) -> Result<T> {
         self.step(|cursor| match take(cursor)? {
             Some(taken) => Ok(taken),
-            None => Err(cursor.error(expected)),
+            None => Err(self.buffer.error_at(cursor.cur_span(), expected)),
         })
     }
 
-    /// Consumes this keyword and returns its offset.
+    /// Consumes the token for which a method of the cursor returns this lexeme or name, and returns its offset.
     #[doc(hidden)]
     #[inline]
-    pub fn this_keyword(self, word: &str, expected: &'static str) -> Result<Span> {
-        self.take(expected, |cursor| cursor.this_keyword(word))
-    }
-
-    /// Consumes this reserved token and returns its offset.
-    #[doc(hidden)]
-    pub fn this_reserved(self, word: &str, expected: &'static str) -> Result<Span> {
+    pub fn this_token(
+        self,
+        word: &str,
+        expected: &'static str,
+        take: impl FnOnce(Cursor<'a>) -> Result<Option<(&'a str, Cursor<'a>)>>,
+    ) -> Result<Span> {
         self.take(expected, |cursor| {
-            let taken = cursor.reserved()?.filter(|(shown, _)| *shown == word);
-            Ok(taken.map(|(_, rest)| (cursor.cur_span(), rest)))
-        })
-    }
-
-    /// Consumes the annotation of this name and returns its offset.
-    #[doc(hidden)]
-    pub fn this_annotation(self, name: &str, expected: &'static str) -> Result<Span> {
-        self.take(expected, |cursor| {
-            let taken = cursor.annotation()?.filter(|(shown, _)| *shown == name);
+            let taken = take(cursor)?.filter(|(shown, _)| *shown == word);
             Ok(taken.map(|(_, rest)| (cursor.cur_span(), rest)))
         })
     }

@@ -14,6 +14,20 @@ use core::fmt;
 use core::hash::{Hash, Hasher};
 use core::str;
 
+/// Defines the methods of `Peek` of a type whose first token a method of the cursor recognizes.
+macro_rules! peek_by {
+    ($see:ident, $display:expr) => {
+        #[inline]
+        fn peek(cursor: Cursor<'_>) -> Result<bool> {
+            cursor.$see()
+        }
+
+        fn display() -> &'static str {
+            $display
+        }
+    };
+}
+
 /// An identifier: `$` and a name in a text, or one that [`gensym`](crate::gensym) generated.
 ///
 /// Two identifiers are equal if their names and generations are equal. Their offsets are ignored.
@@ -71,13 +85,11 @@ impl Hash for Id<'_> {
 
 impl fmt::Debug for Id<'_> {
     fn fmt(&self, f: &mut fmt::Formatter<'_>) -> fmt::Result {
-        if self.is_gensym() {
-            f.debug_struct("Id")
-                .field("generation", &self.generation)
-                .finish()
-        } else {
-            fmt::Debug::fmt(self.name, f)
+        if !self.is_gensym() {
+            return fmt::Debug::fmt(self.name, f);
         }
+        let mut printed = f.debug_struct("Id");
+        printed.field("generation", &self.generation).finish()
     }
 }
 
@@ -91,14 +103,7 @@ impl<'a> Parse<'a> for Id<'a> {
 }
 
 impl Peek for Id<'_> {
-    #[inline]
-    fn peek(cursor: Cursor<'_>) -> Result<bool> {
-        cursor.peek_id()
-    }
-
-    fn display() -> &'static str {
-        "an identifier"
-    }
+    peek_by!(peek_id, "an identifier");
 }
 
 /// A reference to an item, by its index or its identifier.
@@ -191,12 +196,8 @@ pub struct ItemRef<'a, K> {
 
 impl<'a, K: Parse<'a>> Parse<'a> for ItemRef<'a, K> {
     fn parse(parser: Parser<'a>) -> Result<Self> {
-        parser.parens(|group| {
-            Ok(ItemRef {
-                kind: group.parse()?,
-                idx: group.parse()?,
-            })
-        })
+        let (kind, idx) = parser.parens(|group| Ok((group.parse()?, group.parse()?)))?;
+        Ok(ItemRef { kind, idx })
     }
 }
 
@@ -274,14 +275,7 @@ macro_rules! integers {
             }
 
             impl Peek for $integer {
-                #[inline]
-    fn peek(cursor: Cursor<'_>) -> Result<bool> {
-                    cursor.peek_integer()
-                }
-
-                fn display() -> &'static str {
-                    stringify!($integer)
-                }
+                peek_by!(peek_integer, stringify!($integer));
             }
         )*)*
     };
@@ -301,14 +295,7 @@ impl<'a> Parse<'a> for &'a [u8] {
 }
 
 impl Peek for &[u8] {
-    #[inline]
-    fn peek(cursor: Cursor<'_>) -> Result<bool> {
-        cursor.peek_string()
-    }
-
-    fn display() -> &'static str {
-        "string"
-    }
+    peek_by!(peek_string, "string");
 }
 
 /// Parses a string that is UTF-8.
@@ -321,14 +308,7 @@ impl<'a> Parse<'a> for &'a str {
 }
 
 impl Peek for &str {
-    #[inline]
-    fn peek(cursor: Cursor<'_>) -> Result<bool> {
-        cursor.peek_string()
-    }
-
-    fn display() -> &'static str {
-        "string"
-    }
+    peek_by!(peek_string, "string");
 }
 
 impl<'a> Parse<'a> for String {
@@ -344,14 +324,7 @@ pub struct LParen {
 }
 
 impl Peek for LParen {
-    #[inline]
-    fn peek(cursor: Cursor<'_>) -> Result<bool> {
-        cursor.peek_lparen()
-    }
-
-    fn display() -> &'static str {
-        "left paren"
-    }
+    peek_by!(peek_lparen, "left paren");
 }
 
 /// A type for a peek at a `)`.
@@ -361,12 +334,5 @@ pub struct RParen {
 }
 
 impl Peek for RParen {
-    #[inline]
-    fn peek(cursor: Cursor<'_>) -> Result<bool> {
-        cursor.peek_rparen()
-    }
-
-    fn display() -> &'static str {
-        "right paren"
-    }
+    peek_by!(peek_rparen, "right paren");
 }

@@ -5,6 +5,7 @@
 
 use std::collections::HashSet;
 use std::fmt::Debug;
+use std::thread;
 use wat_parser::encode::Encode;
 use wat_parser::parser::{self, Cursor, Parse, ParseBuffer, Parser, Peek, Result};
 use wat_parser::token::{F32, F64, Id, Index, ItemRef, LParen, NameAnnotation, RParen, Span};
@@ -372,30 +373,54 @@ fn tokens_far_apart_are_told_apart() {
     assert_eq!(offsets, format!("{wanted:?}"));
 }
 
-#[test]
-fn strings_of_one_byte_and_of_magic_numbers_are_read() {
-    let escaped = |bytes: &[u8]| {
-        bytes
-            .iter()
-            .fold(String::new(), |text, byte| text + &format!("\\{byte:02x}"))
-    };
-    let bytes = (0..=255).map(|byte| vec![byte]);
-    let magic = [&b""[..], b"\0asm", b"\x01\0\0\0", b"\0asn", b"\x01\0\0\x01"].map(Vec::from);
-    for bytes in bytes.chain(magic) {
-        let text = format!("\"{}\"", escaped(&bytes));
-        assert_eq!(parser::parse::<&[u8]>(&buffer_of(&text)).unwrap(), bytes);
+/// All strings of a text.
+struct Strings<'a>(Vec<&'a [u8]>);
+
+impl<'a> Parse<'a> for Strings<'a> {
+    fn parse(parser: Parser<'a>) -> Result<Self> {
+        let mut strings = Vec::new();
+        while !parser.is_empty() {
+            strings.push(parser.parse()?);
+        }
+        Ok(Strings(strings))
     }
+}
+
+#[test]
+fn strings_with_escapes_stay() {
+    let single = (0..=255).map(|byte| vec![byte]);
+    let magic = [&b"\0asm"[..], b"\x01\0\0\0", b"\0asn", b"\x01\0\0\x01"].map(Vec::from);
+    let others = (0..20_000_usize).map(|i| {
+        (0..i % 80)
+            .map(|k| (i * 7 + k * 13).to_le_bytes()[0])
+            .collect()
+    });
+    let all: Vec<Vec<u8>> = single.chain(magic).chain(others).collect();
+    let mut text = String::new();
+    for bytes in &all {
+        text += " \"";
+        text.extend(bytes.iter().map(|byte| format!("\\{byte:02x}")));
+        text += "\"";
+    }
+    let buffer = buffer_of(&text);
+    assert_eq!(parser::parse::<Strings>(&buffer).unwrap().0, all);
+    let name = buffer_of("$\"na\\c3\\afve\"");
+    assert_eq!(parser::parse::<Id>(&name).unwrap().name(), "naïve");
 }
 
 #[test]
 fn generated_identifiers_differ() {
     let at = Span::from_offset(0);
-    for _ in 0..2 {
-        gensym::reset();
+    let first = || {
         assert_eq!(
             format!("{:?}", gensym::generate(at)),
             "Id { generation: 1 }"
         );
+    };
+    thread::scope(|scope| scope.spawn(first).join().unwrap());
+    for _ in 0..2 {
+        gensym::reset();
+        first();
     }
     gensym::reset();
     let all: HashSet<Id> = (0..70_000).map(|_| gensym::generate(at)).collect();

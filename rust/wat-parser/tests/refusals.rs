@@ -5,7 +5,7 @@ mod refusing;
 
 use refusing::{granting, without_memory};
 use std::cell::RefCell;
-use wat_parser::parser::{self, Cursor, Parse, ParseBuffer, Parser, Result};
+use wat_parser::parser::{self, Cursor, Lookahead1, Parse, ParseBuffer, Parser, Result};
 use wat_parser::token::{F64, Id, Index, LParen};
 use wat_parser::{annotation, custom_keyword, custom_reserved, kw};
 
@@ -77,7 +77,7 @@ fn a_buffer_and_looks_take_no_memory() {
 
 #[test]
 fn a_value_and_an_error_are_refused() {
-    let calls: [(&str, Call); 18] = [
+    let calls: [(&str, Call); 19] = [
         ("\"a\\62\"", |parser| parser.parse::<&[u8]>().map(drop)),
         ("\"a\\62\"", |parser| parser.parse::<&str>().map(drop)),
         ("$\"a\\62\"", |parser| parser.parse::<Id>().map(drop)),
@@ -109,7 +109,8 @@ fn a_value_and_an_error_are_refused() {
         }),
         ("\"\\q\"", |parser| parser.peek::<LParen>().map(drop)),
         ("1_0.5", |parser| parser.parse::<F64>().map(drop)),
-        ("x", many_looks),
+        ("x", |parser| many_looks(parser).map(drop)),
+        ("x", |parser| Err(many_looks(parser)?.error())),
     ];
     for (number, (text, call)) in calls.into_iter().enumerate() {
         assert!(refused_in_turn(text, call) > 0, "{number}");
@@ -117,12 +118,12 @@ fn a_value_and_an_error_are_refused() {
 }
 
 /// Peeks at more types than a lookahead stores without an allocation.
-fn many_looks(parser: Parser<'_>) -> Result<()> {
+fn many_looks(parser: Parser<'_>) -> Result<Lookahead1<'_>> {
     let mut look = parser.lookahead1();
     for _ in 0..12 {
         look.peek::<kw::func>()?;
     }
-    Err(look.error())
+    Ok(look)
 }
 
 #[test]

@@ -8,10 +8,11 @@ use crate::proved::parser::fault::Fault;
 use crate::proved::parser::names::Names;
 use crate::proved::parser::source_ref::SourceRef;
 use crate::proved::parser::text_ref::{Row, TextRef};
+use crate::token::Span;
 use alloc::collections::BTreeMap;
 use alloc::vec::Vec;
-use core::cell::{Cell, RefCell};
-use core::fmt;
+use core::cell::{Cell, OnceCell, RefCell};
+use core::{fmt, slice};
 use wat_lex::TokenKind;
 use wat_lex::shim::alloc::Global;
 
@@ -22,12 +23,16 @@ pub struct ParseBuffer<'a> {
     // The rest of the verified parser's state is in cells, so that all copies of a `Parser` share it.
     pub(super) position: Cell<Position>,
     pub(super) depth: Cell<usize>,
-    names: RefCell<Names>,
-    rows: [Cell<Row>; ROWS],
+    /// The registered names, which are initialized by the first peek that needs them.
+    names: OnceCell<RefCell<Names>>,
+    /// Rows by slot. They are initialized when the second token is read, so that little is done for a text that is rejected at its first one.
+    rows: OnceCell<[Cell<Row>; ROWS]>,
+    /// The row of slot 0 before that.
+    first: Cell<Row>,
     /// Offset at which the last fill stopped, where no row is.
     bare: Cell<usize>,
     last: Cell<Option<Peeked>>,
-    kept: RefCell<Kept>,
+    kept: RefCell<Option<Kept>>,
     keep_shown: bool,
     pub(super) strings: Strings,
 }
@@ -38,13 +43,10 @@ const ROWS: usize = 64;
 /// Maximum number of rows that are filled at a time.
 const FILLED: usize = 32;
 
-/// Number of rows that are filled first, as some texts are rejected at the first token.
-const FIRST: usize = 4;
-
 /// Returns a row that matches no position in its slot. A position in slot 0 is at byte 0 or at least `ROWS` bytes further, as each move advances by
 /// at least one byte. A position in another slot is never at byte 0.
 // A kept token is not at byte 1 either while row 0 is unchanged: the `(` of an annotation would precede it, and the annotation's name has a row.
-// The bits of most rows are zero, so that a buffer is created faster.
+// The bits of most rows are zero, so that they are initialized faster.
 const fn no_row(slot: usize) -> Row {
     Row {
         offset: 0,
@@ -54,8 +56,8 @@ const fn no_row(slot: usize) -> Row {
     }
 }
 
-/// The result of a peek at an offset where no row is: before an annotation, at the end of the text, or at an error. It is valid for the names that
-/// were registered at the time of the peek.
+/// The result of a peek at an offset where no row was: at the start, before an annotation, at the end of the text, or at an error. It is valid for the
+/// names that were registered at the time of the peek.
 #[derive(Clone, Copy)]
 struct Peeked {
     byte: usize,
@@ -105,6 +107,7 @@ impl<'a> ParseBuffer<'a> {
     /// # Errors
     ///
     /// Returns an error if the text has more than `u32::MAX` bytes.
+    #[inline]
     pub fn new(input: &'a str) -> Result<ParseBuffer<'a>> {
         ParseBuffer::new_with_lexer(Lexer::new(input))
     }
@@ -114,22 +117,22 @@ impl<'a> ParseBuffer<'a> {
     /// # Errors
     ///
     /// Returns an error if the text has more than `u32::MAX` bytes.
+    #[inline]
     pub fn new_with_lexer(lexer: Lexer<'a>) -> Result<ParseBuffer<'a>> {
-        let buffer = ParseBuffer {
+        Ok(ParseBuffer {
             lexer: lexer.proved()?.clone(),
             track: false,
             position: Cell::new(Position::new(0, 0)),
-            rows: [const { Cell::new(no_row(1)) }; ROWS],
+            rows: OnceCell::new(),
+            first: Cell::new(no_row(0)),
             bare: Cell::new(usize::MAX),
             last: Cell::new(None),
             kept: RefCell::default(),
             depth: Cell::new(0),
-            names: RefCell::new(Names::new(Global)),
+            names: OnceCell::new(),
             keep_shown: false,
             strings: Strings::default(),
-        };
-        buffer.rows[0].set(no_row(0));
-        Ok(buffer)
+        })
     }
 
     /// Sets the value that [`Parser::track_instr_spans`](super::Parser::track_instr_spans) returns. Types that record offsets of instructions only on
@@ -154,8 +157,24 @@ impl<'a> ParseBuffer<'a> {
     // to test.
     #[inline(always)]
     pub(super) fn row_at(&self, position: Position) -> (Row, bool) {
-        let row = self.rows[position.slot()].get();
+        let Some(rows) = self.rows.get() else {
+            return (no_row(0), false);
+        };
+        let row = rows[position.slot()].get();
         (row, row.from as usize == position.byte())
+    }
+
+    /// Returns the cells of the rows from a position on.
+    fn cells_from(&self, position: Position) -> &[Cell<Row>] {
+        if position.byte() == 0 && self.rows.get().is_none() {
+            return slice::from_ref(&self.first);
+        }
+        let rows = self.rows.get_or_init(|| {
+            let rows = [const { Cell::new(no_row(1)) }; ROWS];
+            rows[0].set(self.first.get());
+            rows
+        });
+        &rows[position.slot()..]
     }
 
     /// Fills rows from a position on, and returns the token of the position, or `None` if it has no row.
@@ -165,27 +184,20 @@ impl<'a> ParseBuffer<'a> {
         if byte == self.bare.get() {
             return None;
         }
+        let cells = self.cells_from(position);
         let mut rows = [no_row(1); FILLED];
-        let first = position.slot();
-        let room = if byte == 0 {
-            FIRST
-        } else {
-            FILLED.min(ROWS - first)
-        };
+        let room = FILLED.min(cells.len());
         let filled = self.text_from(byte).fill(0, 0, &mut rows[..room]);
-        for (cell, row) in self.rows[first..].iter().zip(&rows[..filled]) {
-            cell.set(Row {
-                offset: row.offset + byte as u32,
-                from: row.from + byte as u32,
-                ..*row
-            });
-        }
+        let rows = &mut rows[..filled];
+        move_rows(rows, byte as u32);
         if filled < room {
-            let last = rows[..filled].last();
-            let end = last.map_or(0, |row| row.offset + row.len);
-            self.bare.set(byte + end as usize);
+            let end = |row: &Row| (row.offset + row.len) as usize;
+            self.bare.set(rows.last().map_or(byte, end));
         }
-        (filled > 0).then(|| token_of(self.rows[first].get()))
+        for (cell, row) in cells.iter().zip(&*rows) {
+            cell.set(*row);
+        }
+        (filled > 0).then(|| token_of(cells[0].get()))
     }
 
     /// Returns the token that is visible at a position under the registered names.
@@ -198,24 +210,32 @@ impl<'a> ParseBuffer<'a> {
             Some(last) if last.byte == position.byte() => return last.found,
             _ => {}
         }
-        if let Some(shown) = self.filled_at(position) {
-            return Ok(Some(shown));
-        }
-        self.peeked_at(position.byte())
-    }
-
-    /// Returns the token that is visible at an offset under the registered names, and keeps it for the next peek.
-    fn peeked_at(&self, byte: usize) -> Result<Option<Token>, Fault> {
-        let found = self.text_from(byte).look(0, 0, &self.names.borrow());
-        let found = moved(byte, found);
+        let byte = position.byte();
+        let found = match self.filled_at(position) {
+            Some(shown) if byte > 0 => return Ok(Some(shown)),
+            Some(shown) => Ok(Some(shown)),
+            None => self.peeked_at(byte),
+        };
         self.last.set(Some(Peeked { byte, found }));
         found
+    }
+
+    /// Returns the token that is visible at an offset under the registered names.
+    fn peeked_at(&self, byte: usize) -> Result<Option<Token>, Fault> {
+        let found = self.text_from(byte).look(0, 0, &self.names().borrow());
+        moved(byte, found)
     }
 
     /// Changes the registered names. The result of the last peek is dropped, as it may be another one under the new names.
     pub(super) fn change_names<T>(&self, change: impl FnOnce(&mut Names) -> T) -> T {
         self.last.set(None);
-        change(&mut self.names.borrow_mut())
+        change(&mut self.names().borrow_mut())
+    }
+
+    /// Returns the registered names.
+    fn names(&self) -> &RefCell<Names> {
+        let names = || RefCell::new(Names::new(Global));
+        self.names.get_or_init(names)
     }
 
     /// Returns the comment at a byte offset, or after whitespace there.
@@ -239,7 +259,7 @@ impl<'a> ParseBuffer<'a> {
     fn keeping(&self, position: Position) -> Position {
         match self.shown_at(position) {
             Ok(Some(shown)) if !self.row_at(position).1 => {
-                let index = self.kept.borrow_mut().index(shown);
+                let index = self.kept.borrow_mut().get_or_insert_default().index(shown);
                 Position::new(position.byte(), KEPT + index)
             }
             _ => position,
@@ -249,7 +269,8 @@ impl<'a> ParseBuffer<'a> {
     /// Returns the kept token of a position, if it has one.
     pub(super) fn kept_at(&self, position: Position) -> Option<Token> {
         let index = position.kept()?;
-        Some(self.kept.borrow().tokens[index])
+        let kept = self.kept.borrow();
+        Some(kept.as_ref()?.tokens[index])
     }
 
     /// Returns the text from the end of a token, or from the start. A theorem (`Cuts`) states that this suffix has the same tokens as the whole text,
@@ -264,6 +285,13 @@ impl<'a> ParseBuffer<'a> {
     #[cold]
     pub(super) fn error_of(&self, fault: Fault) -> Error {
         SourceRef::of_text(self.text_from(0)).error_of(fault).into()
+    }
+
+    /// Creates an error at an offset.
+    #[cold]
+    pub(super) fn error_at(&self, span: Span, message: &str) -> Error {
+        let source = SourceRef::of_text(self.text_from(0));
+        source.error_at(span, message).into()
     }
 }
 
@@ -283,6 +311,15 @@ impl Kept {
             tokens.push(token);
             tokens.len() - 1
         })
+    }
+}
+
+/// Converts offsets in the text from offset `byte` on to offsets in the whole text.
+// A loop of its own, so that the rows are then copied as a whole.
+fn move_rows(rows: &mut [Row], byte: u32) {
+    for row in rows {
+        row.offset += byte;
+        row.from += byte;
     }
 }
 

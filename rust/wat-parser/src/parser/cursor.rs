@@ -3,10 +3,10 @@ use super::{Parser, Result, unless_refused};
 use crate::Error;
 use crate::lexer::{Float, Integer};
 use crate::proved::lexer::Token;
-use crate::proved::parser::text_ref::Row;
 use crate::token::Span;
 use core::fmt;
 use wat_lex::shim::alloc::Global;
+use wat_lex::shim::borrow::{CowSlice, CowStr};
 use wat_lex::{IntegerKind, TokenKind};
 
 /// A position in the tokens of a parser, independent of the parser's own. [`Parser::step`] passes a cursor to a function, and advances the parser to
@@ -34,32 +34,26 @@ impl<'a> Cursor<'a> {
         self.parser.buffer.lexer.input()
     }
 
-    /// Returns the row in the slot of this position, and `true` if its token is visible here.
+    /// Applies a function to the next token. Returns `none` at the end of the text.
     #[inline(always)]
-    pub(super) fn row(&self) -> (Row, bool) {
-        self.parser.buffer.row_at(self.position)
+    pub(super) fn with_next<T>(self, none: T, of: impl Fn(Token) -> T) -> Result<T> {
+        let (row, known) = self.parser.buffer.row_at(self.position);
+        if known {
+            return Ok(of(token_of(row)));
+        }
+        Ok(self.look()?.map_or(none, of))
     }
 
     /// Returns the next token, or `None` at the end of the text.
     #[cold]
     #[inline(never)]
-    pub(super) fn look(&self) -> Result<Option<Token>> {
+    pub(super) fn look(self) -> Result<Option<Token>> {
         let (buffer, position) = (self.parser.buffer, self.position);
         if let Some(kept) = buffer.kept_at(position) {
             return Ok(Some(kept));
         }
         let shown = buffer.shown_at(position);
         shown.map_err(|fault| buffer.error_of(fault))
-    }
-
-    /// Returns `true` if there is a next token and it satisfies the predicate.
-    #[inline(always)]
-    fn sees(self, is: impl Fn(Token) -> bool) -> Result<bool> {
-        let (row, known) = self.row();
-        if known {
-            return Ok(is(token_of(row)));
-        }
-        Ok(self.look()?.is_some_and(is))
     }
 
     /// Consumes the next token if its kind satisfies the predicate.
@@ -72,7 +66,7 @@ impl<'a> Cursor<'a> {
     // Precondition of the verified accessors: the token is part of the text, and `of` checks its kind.
     #[inline(always)]
     fn take_as<T>(self, of: impl Fn(Token) -> Option<T>) -> Result<Option<(T, Self)>> {
-        let (row, known) = self.row();
+        let (row, known) = self.parser.buffer.row_at(self.position);
         if known {
             let token = token_of(row);
             return Ok(of(token).map(|taken| (taken, self.moved(token))));
@@ -92,15 +86,9 @@ impl<'a> Cursor<'a> {
     }
 
     /// Consumes the next token, whatever its kind.
+    #[inline]
     pub(super) fn past_any(self) -> Result<Option<Self>> {
-        Ok(self.take(|_| true)?.map(|(_, rest)| rest))
-    }
-
-    /// Consumes this keyword and returns its offset.
-    #[inline(always)]
-    pub(super) fn this_keyword(self, word: &str) -> Result<Option<(Span, Self)>> {
-        let text = self.text();
-        self.take_as(|token| is_keyword(text, token, word).then(|| Span::from_offset(token.offset)))
+        self.with_next(None, |token| Some(self.moved(token)))
     }
 
     /// Consumes an integer and returns its token.
@@ -126,7 +114,7 @@ impl<'a> Cursor<'a> {
     #[inline(always)]
     pub fn is_keyword(self, word: &str) -> Result<bool> {
         let text = self.text();
-        self.sees(|token| is_keyword(text, token, word))
+        self.with_next(false, |token| is_keyword(text, token, word))
     }
 
     /// Returns `true` if the next token is this reserved token.
@@ -139,25 +127,19 @@ impl<'a> Cursor<'a> {
     #[doc(hidden)]
     #[inline(always)]
     pub fn is_annotation(self, name: &str) -> Result<bool> {
-        let (row, known) = self.row();
-        if known && !matches!(row.kind, TokenKind::Annotation) {
-            return Ok(false);
-        }
-        self.is_annotation_by_look(name)
+        self.with_next(Ok(false), |token| match token.kind {
+            TokenKind::Annotation => self.has_name(token, name),
+            _ => Ok(false),
+        })?
     }
 
     // `inline(never)`, on this function and on `name`, keeps the common path of `is_annotation` small.
     #[inline(never)]
-    fn is_annotation_by_look(self, name: &str) -> Result<bool> {
-        match self.look()? {
-            Some(token) if matches!(token.kind, TokenKind::Annotation) => {
-                if token.name_fault(self.text()).is_some() {
-                    self.name(token)?;
-                }
-                Ok(token.has_name(self.text(), name))
-            }
-            _ => Ok(false),
+    fn has_name(self, token: Token, name: &str) -> Result<bool> {
+        if token.name_fault(self.text()).is_some() {
+            self.name(token)?;
         }
+        Ok(token.has_name(self.text(), name))
     }
 
     /// Returns the offset of the next token, or of the end of the text if no token is left. If lexing the next token fails, returns the end offset of
@@ -165,21 +147,8 @@ impl<'a> Cursor<'a> {
     #[must_use]
     #[inline]
     pub fn cur_span(&self) -> Span {
-        let (row, known) = self.row();
-        if known {
-            return Span::from_offset(row.offset as usize);
-        }
-        self.span_by_look()
-    }
-
-    #[cold]
-    #[inline(never)]
-    fn span_by_look(&self) -> Span {
-        Span::from_offset(match self.look() {
-            Ok(Some(token)) => token.offset,
-            Ok(None) => self.text().len(),
-            Err(_) => self.position.byte(),
-        })
+        let offset = self.with_next(self.text().len(), |token| token.offset);
+        Span::from_offset(offset.unwrap_or(self.position.byte()))
     }
 
     /// Creates an error at the next token.
@@ -196,7 +165,7 @@ impl<'a> Cursor<'a> {
     /// Returns an error if lexing the next token fails.
     #[inline]
     pub fn peek_lparen(self) -> Result<bool> {
-        self.sees(|token| matches!(token.kind, TokenKind::LParen))
+        self.with_next(false, |token| matches!(token.kind, TokenKind::LParen))
     }
 
     /// Returns `true` if the next token is a `)`.
@@ -206,7 +175,7 @@ impl<'a> Cursor<'a> {
     /// Returns an error if lexing the next token fails.
     #[inline]
     pub fn peek_rparen(self) -> Result<bool> {
-        self.sees(|token| matches!(token.kind, TokenKind::RParen))
+        self.with_next(false, |token| matches!(token.kind, TokenKind::RParen))
     }
 
     /// Returns `true` if the next token is an identifier, even if its name is empty or not UTF-8.
@@ -216,7 +185,7 @@ impl<'a> Cursor<'a> {
     /// Returns an error if lexing the next token fails.
     #[inline]
     pub fn peek_id(self) -> Result<bool> {
-        self.sees(|token| matches!(token.kind, TokenKind::Id))
+        self.with_next(false, |token| matches!(token.kind, TokenKind::Id))
     }
 
     /// Returns `true` if the next token is a reserved token.
@@ -226,7 +195,7 @@ impl<'a> Cursor<'a> {
     /// Returns an error if lexing the next token fails.
     #[inline]
     pub fn peek_reserved(self) -> Result<bool> {
-        self.sees(|token| matches!(token.kind, TokenKind::Reserved))
+        self.with_next(false, |token| matches!(token.kind, TokenKind::Reserved))
     }
 
     /// Returns `true` if the next token is a keyword.
@@ -236,7 +205,7 @@ impl<'a> Cursor<'a> {
     /// Returns an error if lexing the next token fails.
     #[inline]
     pub fn peek_keyword(self) -> Result<bool> {
-        self.sees(|token| matches!(token.kind, TokenKind::Keyword))
+        self.with_next(false, |token| matches!(token.kind, TokenKind::Keyword))
     }
 
     /// Returns `true` if the next token is an integer.
@@ -246,7 +215,7 @@ impl<'a> Cursor<'a> {
     /// Returns an error if lexing the next token fails.
     #[inline]
     pub fn peek_integer(self) -> Result<bool> {
-        self.sees(|token| matches!(token.kind, TokenKind::Integer(_)))
+        self.with_next(false, |token| matches!(token.kind, TokenKind::Integer(_)))
     }
 
     /// Returns `true` if the next token is a floating-point number. An integer is not a floating-point number.
@@ -256,7 +225,7 @@ impl<'a> Cursor<'a> {
     /// Returns an error if lexing the next token fails.
     #[inline]
     pub fn peek_float(self) -> Result<bool> {
-        self.sees(|token| matches!(token.kind, TokenKind::Float(_)))
+        self.with_next(false, |token| matches!(token.kind, TokenKind::Float(_)))
     }
 
     /// Returns `true` if the next token is a string.
@@ -266,7 +235,7 @@ impl<'a> Cursor<'a> {
     /// Returns an error if lexing the next token fails.
     #[inline]
     pub fn peek_string(self) -> Result<bool> {
-        self.sees(|token| matches!(token.kind, TokenKind::String))
+        self.with_next(false, |token| matches!(token.kind, TokenKind::String))
     }
 
     /// Consumes a `(`.
@@ -330,14 +299,17 @@ impl<'a> Cursor<'a> {
         }
     }
 
-    /// Returns the name of an identifier or an annotation.
+    /// Returns the name of an identifier or an annotation. If it is not a slice of the text, it is stored for the lifetime of the buffer.
     #[inline(never)]
     fn name(&self, token: Token) -> Result<&'a str> {
         let name = match token.kind {
             TokenKind::Id => token.id(Global, self.text())?,
             _ => token.annotation(Global, self.text())?,
         };
-        self.parser.keep_text(name)
+        match name {
+            CowStr::Borrowed(name) => Ok(name),
+            CowStr::Owned(name) => unless_refused(self.parser.buffer.strings.keep_text(&name)),
+        }
     }
 
     /// Consumes a reserved token and returns its lexeme.
@@ -391,8 +363,11 @@ impl<'a> Cursor<'a> {
         let Some((token, rest)) = self.take(|kind| matches!(kind, TokenKind::String))? else {
             return Ok(None);
         };
-        let bytes = unless_refused(token.string(Global, self.text()))?;
-        Ok(Some((self.parser.keep(bytes)?, rest)))
+        let bytes = match unless_refused(token.string(Global, self.text()))? {
+            CowSlice::Borrowed(bytes) => bytes,
+            CowSlice::Owned(bytes) => unless_refused(self.parser.buffer.strings.keep(&bytes))?,
+        };
+        Ok(Some((bytes, rest)))
     }
 
     /// Consumes a comment and returns its text. Only whitespace may be between this position and the comment.
@@ -402,16 +377,13 @@ impl<'a> Cursor<'a> {
     /// Returns an error if there is a lexical error at the comment.
     pub fn comment(self) -> Result<Option<(&'a str, Self)>> {
         let buffer = self.parser.buffer;
-        match buffer.comment_at(self.position.byte()) {
-            Ok(Some(token)) => {
-                // A token after a comment is not kept.
-                let end = token.offset + token.len as usize;
-                let position = self.position.next(end);
-                Ok(Some((token.src(self.text()), Cursor { position, ..self })))
-            }
-            Ok(None) => Ok(None),
-            Err(fault) => Err(buffer.error_of(fault)),
-        }
+        let found = buffer.comment_at(self.position.byte());
+        let Some(token) = found.map_err(|fault| buffer.error_of(fault))? else {
+            return Ok(None);
+        };
+        // A token after a comment is not kept.
+        let position = self.position.next(token.offset + token.len as usize);
+        Ok(Some((token.src(self.text()), Cursor { position, ..self })))
     }
 }
 

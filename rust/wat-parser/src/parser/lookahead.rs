@@ -28,10 +28,9 @@ impl<'a> Lookahead1<'a> {
         if self.parser.peek::<T>()? {
             return Ok(true);
         }
-        match self.attempts.push(T::display()) {
-            Ok(()) => Ok(false),
-            Err(refused) => Err(proved::Error::from(refused).into()),
-        }
+        let kept = self.attempts.push(T::display());
+        kept.map_err(proved::Error::from)?;
+        Ok(false)
     }
 
     /// Returns the parser.

@@ -1,15 +1,16 @@
 use alloc::boxed::Box;
 use alloc::vec::Vec;
 use core::cell::{Cell, OnceCell};
-use core::{iter, slice, str};
-use wat_lex::shim::alloc::AllocError;
+use core::{slice, str};
+use wat_lex::shim;
+use wat_lex::shim::alloc::{AllocError, Global};
 
 /// An append-only storage of byte strings. Strings are added through a shared reference, and live as long as the storage.
 ///
 /// A string of up to 63 bytes is in a cell of its length or slightly more. A longer one has a separate allocation.
 #[derive(Default)]
 pub struct Strings {
-    sizes: OnceCell<Box<[Sizes]>>,
+    sizes: OnceCell<shim::boxed::Box<Sizes>>,
 }
 
 /// Each byte at the index of its value.
@@ -77,12 +78,26 @@ impl Strings {
     /// Returns the cells, which are allocated on first use: most texts have no string to store.
     fn sizes(&self) -> Result<&Sizes, AllocError> {
         if let Some(sizes) = self.sizes.get() {
-            return Ok(&sizes[0]);
+            return Ok(sizes);
         }
-        let sizes = boxed(iter::once(Sizes::default()))?;
-        Ok(&self.sizes.get_or_init(|| sizes)[0])
+        let sizes = shim::boxed::Box::new(Global, Sizes::default())?;
+        Ok(self.sizes.get_or_init(|| sizes))
     }
 }
+
+// The cells are dropped in a separate function, so that a buffer without any is dropped inline.
+impl Drop for Strings {
+    #[inline]
+    fn drop(&mut self) {
+        if let Some(sizes) = self.sizes.take() {
+            drop_sizes(sizes);
+        }
+    }
+}
+
+#[cold]
+#[inline(never)]
+fn drop_sizes(_: shim::boxed::Box<Sizes>) {}
 
 /// A list of cells in blocks. Each block has a quarter more cells than the one before it, so cells never move, and few are unused at the end.
 struct Cells<T> {
@@ -149,33 +164,8 @@ impl<const N: usize> Cells<[u8; N]> {
 
 fn boxed<T>(items: impl ExactSizeIterator<Item = T>) -> Result<Box<[T]>, AllocError> {
     let mut exact = Vec::new();
-    exact
-        .try_reserve_exact(items.len())
-        .map_err(|_| AllocError)?;
+    let reserved = exact.try_reserve_exact(items.len());
+    reserved.map_err(|_| AllocError)?;
     exact.extend(items);
     Ok(exact.into_boxed_slice())
-}
-
-#[cfg(test)]
-mod tests {
-    use super::{Strings, Vec};
-
-    #[test]
-    fn strings_stay() {
-        let strings = Strings::default();
-        let all: Vec<Vec<u8>> = (0..20_000_usize)
-            .map(|i| (0..i % 80).map(|k| (i * 7 + k * 13) as u8).collect())
-            .chain([
-                b"\0asm".to_vec(),
-                b"\x01\0\0\0".to_vec(),
-                b"\x01\0\0\x01".to_vec(),
-            ])
-            .collect();
-        let kept: Vec<&[u8]> = all
-            .iter()
-            .map(|bytes| strings.keep(bytes).unwrap())
-            .collect();
-        assert!(all.iter().zip(kept).all(|(bytes, kept)| bytes == kept));
-        assert_eq!(strings.keep_text("naïve"), Ok("naïve"));
-    }
 }
