@@ -4,7 +4,7 @@
 usage: mutate.py list [PREFIX..]
        mutate.py check
        mutate.py run [--sample N SEED] [--changed COMMIT] [--alone] [--least SCORE] [--jobs N] [--folder FOLDER] [--save FILE]
-                     [--again FILE] [--own] [--longest SECONDS] [--node] [PREFIX..]
+                     [--again FILE] [--accepted] [--own] [--longest SECONDS] [--node | --browser] [PREFIX..]
        mutate.py scores FILE..
        mutate.py self-test
 
@@ -28,7 +28,9 @@ opens only pages whose mutant passes in node; `run include` needs a C compiler.
   --own             only the tests of the mutated packages, not those of packages that depend on them
   --longest SECONDS no test that takes longer on a processor: mutants that only such a test kills survive
   --again FILE      only mutants that were not killed in an earlier run, which saved this file; nothing is compiled again that did not change since
+  --accepted        only accepted survivors
   --node            of the page, only the tests of parts, without packaged.mjs, agree.mjs and the browser
+  --browser         of the page, only the browser, which then also opens pages whose mutant fails in node
 
 All mutants of the Rust packages are compiled at once (schemata.py). A test is run over a mutant only if it calls the mutated function, up to the
 first that fails: first those that are fast, or killed many other mutants of the file. A test whose process takes four times as long on a processor as
@@ -186,6 +188,9 @@ def chosen(options):
         mutants = [it for it in mutants if not (it.alone and it.file.endswith(".rs"))]
     if options.changed:
         mutants = only_changed(mutants, options.changed)
+    if options.accepted:
+        known = accepted()
+        mutants = [it for it in mutants if it.key() in known]
     before = saved(options.again)
     # Mutants that a switch selects are compiled again, so that what an earlier run built stays valid.
     mutants = [it for it in mutants if is_switched(it) or before.get(it.key()) not in (*KILLED, "uncompiled")]
@@ -357,7 +362,7 @@ def each(jobs, call, items):
 
 
 def options_of(names):
-    return [word for name in sorted(names) for word in ("--package", name)]
+    return ["--all-features", *(word for name in sorted(names) for word in ("--package", name))]
 
 
 def packages_of(mutants):
@@ -443,18 +448,28 @@ def switched(mutants, folder, options):
     yield from each(options.jobs, attempt, order)
 
 
-def built_alone(mutant, folder):
+def suite_alone(package, folder):
+    """Returns the tests of a package, with the time that they take without a mutant."""
+    words = ["--offline", *options_of([package])]
+    environment = schemata.environment(folder, WAT_MUTANT="0")
+    suite = Suite("cargo test", ["cargo", "test", "--quiet", "--lib", "--tests", *words], folder / "rust")
+    subprocess.run(["cargo", "test", "--quiet", "--no-run", *words], cwd=suite.folder, env=environment, check=True)
+    outcome = measure(suite, **environment)
+    if outcome:
+        raise schemata.Broken(f"the tests of {package} fail without a mutant: {outcome}")
+    return suite
+
+
+def built_alone(mutant, folder, suite):
     """Runs the tests of a mutant's package over this mutant alone."""
     path = folder / mutant.file
     text = read(mutant.file)
-    package = ["--offline", "--package", mutant.file.split("/")[1]]
     environment = schemata.environment(folder, WAT_MUTANT="0")
     path.write_text(text[: mutant.start] + mutant.new + text[mutant.end :])
     try:
-        words = ["cargo", "test", "--quiet", "--no-run", *package]
-        if subprocess.run(words, cwd=folder / "rust", env=environment, capture_output=True, check=False).returncode:
+        words = ["cargo", "test", "--quiet", "--no-run", *suite.command[-4:]]
+        if subprocess.run(words, cwd=suite.folder, env=environment, capture_output=True, check=False).returncode:
             return mutant, "uncompiled", ""
-        suite = Suite("cargo test", ["cargo", "test", "--quiet", "--lib", "--tests", *package], folder / "rust", 30)
         return (mutant, *first_failure([suite], **environment))
     finally:
         path.write_text(text)
@@ -466,7 +481,8 @@ def of_rust(mutants, folder, options):
         yield from switched(together, folder / "switched", options)
     if alone:
         schemata.copy(folder / "alone")
-        yield from each(1, lambda it: built_alone(it, folder / "alone"), alone)
+        suites = {name: suite_alone(name, folder / "alone") for name in sorted(packages_of(alone))}
+        yield from each(1, lambda it: built_alone(it, folder / "alone", suites[it.file.split("/")[1]]), alone)
 
 
 # C header and JavaScript
@@ -601,16 +617,21 @@ def of_header(mutants, folder, options):
 
 def of_scripts(mutants, folder, options):
     program = cargo_build(folder, "--package", "wat-tokens") / "wat_tokens"
-    survivors = []
     # In this order an interrupted run is a sample.
-    for mutant, outcome, killer in in_node(sorted(mutants, key=rank), program, options.jobs):
+    mutants = sorted(mutants, key=rank)
+    survivors = mutants if options.browser else []
+    for mutant, outcome, killer in [] if options.browser else in_node(mutants, program, options.jobs):
         if outcome == "survived" and not options.node:
             survivors.append(mutant)
         else:
             yield mutant, outcome, killer
     compiler = 'cp "$1" checked.mjs && node --check checked.mjs'
+
+    def suites(tree):
+        return [it for it in script_suites(tree, program) if it.name == "browser.mjs" or not options.browser]
+
     if survivors:
-        yield from in_trees(survivors, folder, options, compiler, lambda tree: script_suites(tree, program))
+        yield from in_trees(survivors, folder, options, compiler, suites)
 
 
 # Results
@@ -776,7 +797,10 @@ def main():
             of.add_argument("--alone", action="store_true")
             of.add_argument("--least", type=float, default=100.0, metavar="SCORE")
             of.add_argument("--save", metavar="FILE")
-            of.add_argument("--node", action="store_true")
+            of.add_argument("--accepted", action="store_true")
+            which = of.add_mutually_exclusive_group()
+            which.add_argument("--node", action="store_true")
+            which.add_argument("--browser", action="store_true")
     options = parser.parse_args()
     try:
         return options.command(options)
