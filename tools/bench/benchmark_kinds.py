@@ -42,8 +42,7 @@ LONG = {"line_long", "line_4000", "line_64000", "line_one"}
 BY_32 = "`wast` searches a line by 32 bytes with AVX2, which it detects at run time; ours by 16"
 UNDERSCORES = "an underscore sends a number to the general classifier, which runs about half of its instructions"
 BELOW = {
-    "ParseBuffer::new": "64 rows of tokens are cleared: 220 instructions for a buffer, 88 in `wast`",
-    "parser::parse, rejected": "rows of tokens are lexed before the first is read, and a message is written in parts: about 7,000 instructions",
+    "parser::parse, rejected": "an error with its line is built, printed in parts and freed: about 4,000 instructions",
     ("strings_typographic", "parser::parse, rejected"): "a message copies a long line in the parts between characters that it may have to escape",
     "Lexer::iter, collected": "a token that is collected takes about 50 instructions more, in `wast` 36, which shows in tokens of few bytes",
     "Token::string and so on": "a token whose value is read takes about 28 instructions more, in `wast` 14, which shows in tokens of few bytes",
