@@ -6,9 +6,11 @@ mod refusing;
 
 use crate::page::{Report, Row, wat_page_read};
 use crate::whole::{
-    wat_page_answer, wat_page_answer_len, wat_page_lay_out, wat_page_room, wat_page_types,
+    wat_page_answer, wat_page_answer_len, wat_page_compile, wat_page_error_offset,
+    wat_page_lay_out, wat_page_message_len, wat_page_room, wat_page_types,
 };
 use refusing::granting;
+use wat_modules::parse_str;
 
 const EMPTY: Row = Row { end: 0, kind: 99 };
 const UNWRITTEN: Report = Report {
@@ -119,12 +121,52 @@ fn the_flags() {
 #[allow(unsafe_code)]
 fn made(text: &[u8], call: impl Fn() -> bool) -> Option<Vec<u8>> {
     let room = wat_page_room(text.len());
-    // SAFETY: the buffer has the length of the text, and the result has the length that `wat_page_answer_len` returns.
-    unsafe {
-        room.copy_from_nonoverlapping(text.as_ptr(), text.len());
-        call()
-            .then(|| std::slice::from_raw_parts(wat_page_answer(), wat_page_answer_len()).to_vec())
+    // SAFETY: the buffer has the length of the text.
+    unsafe { room.copy_from_nonoverlapping(text.as_ptr(), text.len()) };
+    call().then(answer)
+}
+
+#[allow(unsafe_code)]
+fn answer() -> Vec<u8> {
+    // SAFETY: the result has the length that `wat_page_answer_len` returns.
+    unsafe { std::slice::from_raw_parts(wat_page_answer(), wat_page_answer_len()).to_vec() }
+}
+
+/// Returns the bytes of a module, or its error: the message, its byte offset, and the excerpt after the message.
+fn compiled(text: &[u8]) -> Result<Vec<u8>, (String, usize, String)> {
+    made(text, || wat_page_compile()).ok_or_else(|| {
+        let mut message = String::from_utf8(answer()).unwrap();
+        let excerpt = message.split_off(wat_page_message_len());
+        (message, wat_page_error_offset(), excerpt)
+    })
+}
+
+/// Checks the results of the compiler, and its errors. After an allocation failure, there is no result.
+fn modules() {
+    let bytes = b"\0asm\x01\0\0\0\x01\x04\x01\x60\0\0\x03\x02\x01\0\x0a\x04\x01\x02\0\x0b";
+    assert_eq!(compiled(b"(module (func))").unwrap(), bytes);
+    for (text, offset) in [
+        ("", None),
+        ("(func\n (; \u{e9} ;)\tfrob)", Some(16)),
+        ("(func", Some(5)),
+        ("(func \"\\q\")", Some(8)),
+    ] {
+        let result = compiled(text.as_bytes());
+        let wanted = parse_str(text).map_err(|error| {
+            let (message, printed) = (error.message(), error.to_string());
+            let excerpt = printed.strip_prefix(&message).unwrap().to_string();
+            (message, error.span().offset(), excerpt)
+        });
+        assert_eq!(result, wanted);
+        assert_eq!(result.err().map(|it| it.1), offset, "{text}");
     }
+    let (message, _, excerpt) = compiled(b"(func \"\\q\")").unwrap_err();
+    assert_eq!(message, "invalid string escape 'q'");
+    assert!(excerpt.starts_with("\n     --> <anon>:1:9\n"));
+    assert_eq!(made(b"(a\xff", || wat_page_compile()), None);
+    assert_eq!(wat_page_answer_len(), 0);
+    made(b"(module (func (export \"a\")))", || true);
+    fail_each_allocation(|| wat_page_compile());
 }
 
 // This is a single test, since the tests of a process share one buffer.
@@ -159,6 +201,7 @@ fn whole_texts() {
         fail_each_allocation(call);
     }
     assert!(granting(0, || wat_page_room(1)).0.is_null());
+    modules();
 }
 
 /// Fails each allocation of a function over the text in the buffer in turn, after which it has no result.

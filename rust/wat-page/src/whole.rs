@@ -1,9 +1,10 @@
-//! Functions over a whole text that allocate: [`wat_page_lay_out`] formats it, and [`wat_page_types`] compiles a module of function types. The
-//! formatter and the compiler are verified; this file is tested.
+//! Functions over a whole text that allocate: [`wat_page_lay_out`] formats it, [`wat_page_compile`] compiles a module, and [`wat_page_types`] a module
+//! of function types. The formatter and the compilers are verified; this file is tested.
 //!
 //! The caller writes the text into the buffer that [`wat_page_room`] returns. If one of the functions then returns `true`, its result is at
 //! [`wat_page_answer`]. Buffer and result are valid until the next call of [`wat_page_room`]; a result is also replaced by the next one. Such an
-//! instance must not call [`wat_page_read`], since JavaScript arranges all of the memory for that function.
+//! instance must not call [`wat_page_read`], since JavaScript arranges all of the memory for that function. An instance that trapped, because memory
+//! ran out for an error's message, must not be used again.
 //!
 //! [`wat_page_read`]: crate::page::wat_page_read
 
@@ -11,16 +12,28 @@ use std::sync::{Mutex, PoisonError};
 use wat_format::Options;
 use wat_lex::shim::alloc::Global;
 use wat_modules::types::compile_types;
+use wat_modules::{Error, parse_str};
 
-/// The text, and the result of the last function over it.
+/// The text, the result of the last function over it, and the location of the last error of [`wat_page_compile`].
 struct Whole {
     text: Vec<u8>,
     answer: Vec<u8>,
+    rejected: Rejected,
+}
+
+/// The location of an error of the compiler in the text, and the length of its message, both in bytes.
+struct Rejected {
+    offset: usize,
+    message_len: usize,
 }
 
 static WHOLE: Mutex<Whole> = Mutex::new(Whole {
     text: Vec::new(),
     answer: Vec::new(),
+    rejected: Rejected {
+        offset: 0,
+        message_len: 0,
+    },
 });
 
 fn with_whole<T>(use_it: impl FnOnce(&mut Whole) -> T) -> T {
@@ -76,6 +89,42 @@ pub extern "C" fn wat_page_lay_out(allow: bool, strict: bool) -> bool {
 #[unsafe(no_mangle)]
 pub extern "C" fn wat_page_types() -> bool {
     keep(|text| copied(compile_types(Global, text).ok()?.as_slice()))
+}
+
+/// Compiles the module in the buffer. Returns `true` if the result is the module's bytes, and `false` if the text is not a module or if an allocation
+/// fails. If the text is UTF-8 and not a module, the result is the error with its excerpt, which begins with its message; [`wat_page_error_offset`]
+/// and [`wat_page_message_len`] return its offset and the length of its message. Otherwise the result is empty.
+#[unsafe(no_mangle)]
+pub extern "C" fn wat_page_compile() -> bool {
+    let mut error = None;
+    let is_compiled = keep(|text| parse_str(text).map_err(|it| error = Some(it)).ok());
+    if let Some(error) = error.filter(|it| !it.is_out_of_memory()) {
+        reject(&error);
+    }
+    is_compiled
+}
+
+/// Stores an error of the compiler as the result.
+fn reject(error: &Error) {
+    with_whole(|whole| {
+        whole.answer = error.to_string().into_bytes();
+        whole.rejected = Rejected {
+            offset: error.span().offset(),
+            message_len: error.message().len(),
+        };
+    });
+}
+
+/// Returns the byte offset of the last error of [`wat_page_compile`].
+#[unsafe(no_mangle)]
+pub extern "C" fn wat_page_error_offset() -> usize {
+    with_whole(|whole| whole.rejected.offset)
+}
+
+/// Returns the length in bytes of the message with which the result of [`wat_page_compile`] begins, if that is an error.
+#[unsafe(no_mangle)]
+pub extern "C" fn wat_page_message_len() -> usize {
+    with_whole(|whole| whole.rejected.message_len)
 }
 
 /// Returns a pointer to the result of the last function over the text.
