@@ -1,5 +1,5 @@
 // Compares the module, and the page's use of its results, with the program, in node, on all golden texts and on 10 MB of generated text: every token,
-// and every lexical error with its message; the significant tokens under several names; the binary modules of function types. Also compares texts
+// and every lexical error with its message; the significant tokens under several names; binary modules, and the errors of the compiler. Also compares texts
 // that are lexed in parts, in order or ahead, as a whole and after each of many edits, with one call of the module. Compares formatted texts with
 // tools/differential/reference_formatter.py: on all sequences of up to three hostile fragments, on random longer ones, and on the texts above.
 // usage: node agree.mjs PROGRAM, once build.sh has made the module
@@ -12,7 +12,6 @@ import { KINDS, Lexer } from './wat-lex/lexer.js';
 import { Reader } from './wat-lex/reader.js';
 import { Tokens } from './wat-lex/tokens.js';
 import { Whole } from './wat-lex/whole.js';
-import { mayBeTypes } from './types.js';
 
 const program = process.argv[2];
 if (!program) throw new Error('usage: node agree.mjs PROGRAM');
@@ -42,7 +41,7 @@ function ran(words, input) {
 const flagsOf = (words) => Object.fromEntries(words.filter((word) => word in FLAGS).map((word) => [FLAGS[word], true]));
 const lineOf = (tokens, i) => `${tokens.start(i)}..${tokens.end(i)} ${tokens.kind(i)}\n`;
 
-const seen = { stored: 0, tokens: 0, faults: 0, edits: 0, stretches: 0, signatures: 0, counting: 0, wrong: 0, modules: 0, refused: 0, other: [] };
+const seen = { stored: 0, tokens: 0, faults: 0, edits: 0, stretches: 0, signatures: 0, counting: 0, wrong: 0, modules: 0, refused: 0, compiled: 0, uncompiled: 0, other: [] };
 
 // Compares the list and the reported error with both streams of the program.
 function compareTokens(name, bytes, words) {
@@ -111,10 +110,33 @@ function compareTypes(name, bytes) {
   if (!whole.isServed) return;
   const found = readWhole(bytes, {});
   const mine = found.ending === 'whole' ? whole.types(found.bytes) : null;
-  if (mine && !mayBeTypes(new Tokens(found), found.bytes)) seen.other.push(`${name}: types that the page does not show`);
   const its = ran(['types'], bytes);
   seen[mine ? 'modules' : 'refused'] += 1;
   if (its.isRefused ? mine !== null : mine === null || !its.output.equals(mine)) seen.other.push(`${name}: types`);
+}
+
+// Compares the binary module, or the compiler's error, with the output of `module`.
+function compareModules(name, bytes) {
+  if (!whole.isServed) return;
+  const { bytes: mine, error } = whole.compile(bytes);
+  const its = ran(['module'], bytes);
+  seen[mine ? 'compiled' : 'uncompiled'] += 1;
+  const isSame = its.isRefused ? error && its.fault === `${error.printed}\n` && error.printed.startsWith(error.message) : mine && its.output.equals(mine);
+  if (!isSame) seen.other.push(`${name}: module`);
+}
+
+const GENERATE = `import json, sys
+sys.path.insert(0, sys.argv[1])
+from generate_modules import FORMS, choices, made_texts
+json.dump([text for _, _, text in made_texts(choices(5, FORMS), 150, 450)], sys.stdout)`;
+
+// Returns the texts of tests/modules.txt, and modules that tools/differential generates, with mutants.
+function moduleTexts() {
+  const rows = readFileSync(here('../tests/modules.txt'), 'utf8').split('\n').filter((row) => !row.startsWith('#'));
+  const texts = rows.filter((_, i) => i % 2 === 0).map((row) => row.replaceAll('\u23ce', '\n').replaceAll('\u2420', ' '));
+  const its = spawnSync('python3', ['-c', GENERATE, here('../tools/differential')], { maxBuffer: 2 ** 30 });
+  if (its.status !== 0) throw new Error(its.stderr.toString());
+  return [...texts, ...JSON.parse(its.stdout)];
 }
 
 const chance = new Chance(1), editing = new Chance(2);
@@ -159,13 +181,16 @@ for (const name of readdirSync(folder).filter((it) => existsSync(`${folder}${it}
   }
   for (const names of isSignature ? [words.slice(flags.length + 1), ...NAMES] : NAMES) compareCounts(name, bytes, flags, names);
   compareTypes(name, bytes);
+  compareModules(name, bytes);
   compareParts(bytes, flagsOf(flags), EDITS, editing);
 }
 for (const text of modules()) {
   const bytes = Buffer.from(text);
   compareTypes(text, bytes);
+  compareModules(text, bytes);
   compareCounts(text, bytes, [], []);
 }
+for (const text of moduleTexts()) compareModules(text, Buffer.from(text));
 const generated = spawnSync('python3', [here('../tools/lib/generate_text.py'), '10'], { maxBuffer: 2 ** 30 });
 if (generated.error) throw generated.error;
 const text = generated.stdout;
@@ -188,4 +213,4 @@ for (const strict of [false, true]) {
 const { other, ...counts } = seen;
 for (const name of other.slice(0, 20)) console.log(`other than the program: ${name.slice(0, 200)}`);
 console.log(`agree.mjs: ${Object.entries(counts).map(([what, count]) => `${what} ${count}`).join(', ')}; ${other.length} differ`);
-process.exit(other.length > 0 || seen.stored === 0 || (whole.isServed && seen.modules === 0) ? 1 : 0);
+process.exit(other.length > 0 || seen.stored === 0 || (whole.isServed && Math.min(seen.modules, seen.compiled, seen.uncompiled) === 0) ? 1 : 0);

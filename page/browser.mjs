@@ -84,7 +84,7 @@ const SHOWN = `({
   report: document.querySelector('#report').textContent,
   size: document.querySelector('#size').textContent,
   counted: document.querySelector('#counted').textContent,
-  bytes: document.querySelector('#bytes-part').hidden ? null : document.querySelector('#bytes').textContent.split('\\n').map((it) => it.slice(10)).join(' '),
+  bytes: document.querySelector('#module-part').hidden || document.querySelector('#built').hidden ? null : document.querySelector('#bytes').textContent.split('\\n').map((it) => it.slice(10)).join(' '),
   isEdited: !document.querySelector('#text').hidden,
   ending: document.body.dataset.ending,
   options: [...document.querySelectorAll('#list [role=option]')].map((it) => [...it.children].map((part) => part.textContent)),
@@ -337,7 +337,7 @@ async function examples() {
     await ask(`{ const it = document.querySelector('#example'); it.selectedIndex = ${i}; it.dispatchEvent(new Event('change')); }`);
     const page = await ask(SHOWN);
     assert.equal(page.ending, name.startsWith('A fault') ? 'faulty' : 'whole', name);
-    assert.equal(page.bytes !== null, isServed && name.startsWith('Types'), name);
+    assert.equal(page.bytes !== null, isServed && compiledBy(await valueOf('text')).status === 0, name);
   }
   await ask("document.querySelector('#example').focus()");
   await key('Home');
@@ -354,7 +354,7 @@ async function theFault() {
   page = await press('#go');
   assert.deepEqual([await ask("document.querySelector('#text').selectionStart"), page.fault, page.line], [104, 104, 101]);
   page = await type('(a)');
-  assert.deepEqual([page.report, page.size, await ask("document.querySelector('#go').hidden")], ['No fault.', '3 tokens, 3 bytes.', true]);
+  assert.deepEqual([page.report, page.size, await ask("document.querySelector('#go').hidden")], ['No lexical error.', '3 tokens, 3 bytes.', true]);
   // A text area whose text became shorter reports its new scroll position only in the next frame.
   for (let i = 0; i < 100 && !page.text; i += 1) {
     await pause(20);
@@ -381,14 +381,118 @@ async function whatCounts() {
   assert.equal((await ask(SHOWN)).options.length, 8);
 }
 
-async function bytesOfTypes() {
-  const text = '(module (type $a (func (param $p i32) (param i64 f32) (result f64))) (@x y) (type (func)))';
-  let page = await type(text);
-  const wanted = spawnSync(program, ['types'], { input: text }).stdout.toString('hex');
-  if (wanted) assert.equal(page.bytes.replaceAll(' ', ''), wanted);
-  assert.equal(page.bytes, '00 61 73 6d 01 00 00 00 01 0b 02 60 03 7f 7e 7d 01 7c 60 00 00');
-  assert.equal((await type('(module)')).bytes, '00 61 73 6d 01 00 00 00');
-  for (const other of ['(module (func))', '(module $m)', '(module) x', '(module (type (func (param $"" i32))))', '(module (type (func (param i8))))', '(module (type (func)) (@x)', '']) assert.equal((await type(other)).bytes, null, other);
+const compiledBy = (text) => spawnSync(program, ['module'], { input: text });
+
+// The compiler's result on the page: the size and bytes, or the error, its offset and the mark's text.
+const COMPILED = `(() => {
+  const shown = (id) => (document.querySelector('#' + id).hidden ? null : document.querySelector('#' + id).textContent);
+  const mark = document.querySelector('#seen .rejected');
+  return { said: shown('module-said'), go: shown('module-go'), message: shown('module-message'), mark: mark && [Number(mark.dataset.from), mark.textContent, mark.dataset.mark ?? ''] };
+})()`;
+
+async function modules() {
+  for (const text of ['(module (type $a (func (param $p i32) (param i64 f32) (result f64))) (@x y) (type (func)))', '(module)', '', '(func (export "a") (result i32) i32.const 7)']) {
+    const page = await type(text), wanted = compiledBy(text).stdout;
+    assert.equal(page.bytes?.replaceAll(' ', ''), wanted.toString('hex'), text);
+    assert.deepEqual(await ask(COMPILED), { said: `The text is a module, whose binary form has ${wanted.length} bytes.`, go: null, message: null, mark: null });
+  }
+  for (const [text, mark] of [['(func\n\u{e9} )', null], ['(module\n  (func \u{1f600}))', null], ['(module\n  (func frob))', [16, 'frob', '']], ['(module) x', [9, 'x', '']], ['(module (func)', [14, '', '\u258f']]]) {
+    const page = await type(text), { stderr } = compiledBy(text);
+    const { message, mark: shown } = await ask(COMPILED);
+    assert.deepEqual([page.bytes, page.message || message, shown], [null, stderr.toString().trimEnd(), mark], text);
+  }
+  await type(`(module\n${'\n'.repeat(100)} frob)`);
+  await press('#module-go');
+  assert.deepEqual(await ask("[document.activeElement.id, document.querySelector('#text').selectionStart, document.querySelector('#text').scrollTop > 0]"), ['text', 109, true]);
+  // A longer text is compiled after a pause.
+  const long = `(module ${'(func nop)'.repeat(10_000)})`;
+  await type(long);
+  for (let i = 0; i < 200 && !(await ask(SHOWN)).bytes; i += 1) await pause(50);
+  assert.equal((await ask(COMPILED)).said, `The text is a module, whose binary form has ${compiledBy(long).stdout.length.toLocaleString('en')} bytes, of which the first 4096 are shown.`);
+}
+
+// Waits until the worker has replied, and returns the state of the module's instance.
+const RAN = `(() => {
+  const shown = (id) => (document.querySelector('#' + id).hidden ? null : document.querySelector('#' + id).textContent);
+  return { ran: shown('ran'), fields: shown('interface') === null ? null : [...document.querySelectorAll('#interface li')].map((it) => it.textContent), isCalled: !document.querySelector('#call').hidden, results: shown('results'), active: document.activeElement.id };
+})()`;
+async function ran() {
+  let state = await ask(RAN);
+  for (let i = 0; i < 400 && /^The (module is being|function is running)/.test(state.ran ?? ''); i += 1) {
+    await pause(25);
+    state = await ask(RAN);
+  }
+  return state;
+}
+
+// Calls the function at an index of the menu by the keyboard: writes the arguments, and presses Enter in the last one, or on the button.
+async function call(index, given) {
+  await ask(`{ const it = document.querySelector('#callee'); it.selectedIndex = ${index}; it.dispatchEvent(new Event('change')); }`);
+  await ask(`{ const all = document.querySelectorAll('#arguments input'); for (const [i, text] of ${JSON.stringify(given)}.entries()) all[i].value = text; (all[all.length - 1] ?? document.querySelector('#call button')).focus(); }`);
+  await key('Enter');
+  return ran();
+}
+
+const RUN = `(module
+  (memory (export "m") 1 2) (table (export "t") 1 funcref) (global (export "g") (mut f32) (f32.const 1)) (global $n (mut i32) (i32.const 0))
+  (func (export "count") (result i32) (global.set $n (i32.add (global.get $n) (i32.const 1))) (global.get $n))
+  (func (export "all") (param i32 i64 f32 f64) (result f64 f32 i64 i32) (local.get 3) (local.get 2) (local.get 1) (local.get 0))
+  (func (export "divide") (param i32 i32) (result i32) (i32.div_s (local.get 0) (local.get 1)))
+  (func (export "nothing")) (func (export "null") (result funcref) (ref.null func)) (func (export "vector") (param v128))
+  (func (export "forever") (loop (br 0))))`;
+
+async function running() {
+  await type(RUN);
+  await press('#run');
+  let state = await ran();
+  assert.deepEqual(state, {
+    ran: 'The module is instantiated.', isCalled: true, results: null, active: 'run',
+    fields: ['(export "m" (memory 1 2))', '(export "t" (table 1 funcref))', '(export "g" (global (mut f32)))', '(export "count" (func (result i32)))', '(export "all" (func (param i32 i64 f32 f64) (result f64 f32 i64 i32)))', '(export "divide" (func (param i32 i32) (result i32)))', '(export "nothing" (func))', '(export "null" (func (result funcref)))', '(export "vector" (func (param v128)))', '(export "forever" (func))'],
+  });
+  assert.deepEqual(await ask("[...document.querySelectorAll('#callee option')].map((it) => it.textContent)"), ['count', 'all', 'divide', 'nothing', 'null', 'forever']);
+  for (const [index, given, line] of [[0, [], 'count() = 1'], [0, [], 'count() = 2'], [1, ['-1', '0xffff_ffff_ffff_ffff', '-0', 'nan'], 'all(-1, -1, -0, nan) = nan, -0, -1, -1'], [1, ['4294967295', '9007199254740993', '0.1', '-inf'], 'all(-1, 9007199254740993, 0.1, -inf) = -inf, 0.10000000149011612, 9007199254740993, -1'], [2, ['7', '2'], 'divide(7, 2) = 3'], [2, ['1', '0'], 'divide(1, 0): RuntimeError: divide by zero'], [3, [], 'nothing() returned no value'], [4, [], 'null() = null']]) {
+    state = await call(index, given);
+    assert.deepEqual([state.ran, state.results.split('\n').at(-1)], [null, line]);
+  }
+  state = await call(2, ['1', '2147483648000']);
+  assert.deepEqual([state.ran, state.results.split('\n').length, await ask("[...document.querySelectorAll('#arguments input')].map((it) => it.getAttribute('aria-invalid'))")], ['Argument 2 is not an i32.', 8, ['false', 'true']]);
+  // A call that does not end is stopped, and the page stays responsive meanwhile.
+  await ask("window.ticks = 0; window.ticking = setInterval(() => { window.ticks += 1; }, 20)");
+  state = await call(5, []);
+  assert.deepEqual([state.ran, state.results.split('\n').at(-1), state.isCalled, state.active], ['The instance has ended. Run the module again for another one.', 'forever() was stopped after 5 s', false, 'run']);
+  assert.ok((await ask('clearInterval(window.ticking), window.ticks')) > 50);
+  await key('Enter');
+  assert.equal((await ran()).ran, 'The module is instantiated.');
+  assert.equal((await call(0, [])).results, 'count() = 1');
+  // A change ends the instance.
+  await type('(module)');
+  assert.deepEqual(await ask(RAN), { ran: null, fields: null, isCalled: false, results: null, active: '' });
+  for (const [text, wanted, fields, isCalled] of [
+    ['(func (result i32))', /^The browser rejects the module: CompileError: .*#0/, null, false],
+    ['(import "a" "f" (func (param i32))) (func (export "g"))', /^The module has imports, so it is not instantiated\.$/, ['(import "a" "f" (func (param i32)))', '(export "g" (func))'], false],
+    ['(start 0) (func unreachable)', /^The module could not be instantiated: RuntimeError: unreachable$/, null, false],
+    ['(global (export "g") i32 (i32.const 1))', /^The module is instantiated\. It exports no function of numbers\.$/, ['(export "g" (global i32))'], false],
+    ['(func $f (export "f") (call $f))', /^The module is instantiated\.$/, ['(export "f" (func))'], true],
+  ]) {
+    await type(text);
+    await press('#run');
+    state = await ran();
+    assert.match(state.ran, wanted);
+    assert.deepEqual([state.fields, state.isCalled], [fields, isCalled], text);
+  }
+  assert.match((await call(0, [])).results, /^f\(\): RangeError: Maximum call stack size exceeded$/);
+}
+
+// Saves a module, by the keyboard, and compares the file.
+async function saving() {
+  if (!(await ask('location.protocol')).startsWith('http')) return;
+  await send('Browser.setDownloadBehavior', { behavior: 'allow', downloadPath: room });
+  await type(RUN);
+  await ask("document.querySelector('#save').focus()");
+  await key('Enter');
+  for (let i = 0; i < 200 && !existsSync(join(room, 'module.wasm')); i += 1) await pause(25);
+  assert.deepEqual(readFileSync(join(room, 'module.wasm')), compiledBy(RUN).stdout);
+  rmSync(join(room, 'module.wasm'));
 }
 
 async function links() {
@@ -539,20 +643,45 @@ const ACCESS = `(() => {
   return { poor, language: document.documentElement.lang, title: document.title, headings: [...document.querySelectorAll('h1, h2')].filter((it) => it.getClientRects().length).map((it) => it.tagName), wide: document.documentElement.scrollWidth > document.documentElement.clientWidth };
 })()`;
 
+// Checks that the accessibility tree has these roles with names, and a name for all that takes the focus. Returns its nodes.
+async function named(all) {
+  const { nodes } = await send('Accessibility.getFullAXTree');
+  const names = nodes.filter((it) => !it.ignored).map((it) => `${it.role?.value} ${it.name?.value}`);
+  for (const wanted of all) assert.ok(names.includes(wanted), `${wanted}: ${names.filter((it) => !it.includes('StaticText') && !it.includes('Inline')).slice(0, 60).join(', ')}`);
+  assert.ok(nodes.every((it) => it.ignored || !it.properties?.some((of) => of.name === 'focusable' && of.value.value) || it.role?.value === 'RootWebArea' || it.name?.value), 'a name for all that takes the focus');
+  return nodes;
+}
+
 async function access() {
   await type('(module ;; c\n (@a "b" $c -1 0x1p3 [ ) (; d ;)\n é x');
-  const { nodes } = await send('Accessibility.getFullAXTree');
-  const named = Object.fromEntries(nodes.filter((it) => !it.ignored).map((it) => [`${it.role?.value} ${it.name?.value}`, it]));
-  for (const wanted of ['heading WebAssembly text, as the lexer sees it', 'switch Allow confusing characters', 'switch Strict underscores', 'textbox Text', 'listbox Tokens', 'combobox Example', ...(isServed ? ['button Format the text'] : []), 'button Make a link to this text', 'switch Only what counts', 'textbox Registered annotations']) assert.ok(wanted in named, `${wanted}: ${Object.keys(named).filter((it) => !it.includes('StaticText') && !it.includes('Inline')).slice(0, 40).join(', ')}`);
+  const nodes = await named(['heading WebAssembly text, as the lexer sees it', 'switch Allow confusing characters', 'switch Strict underscores', 'textbox Text', 'listbox Tokens', 'combobox Example', ...(isServed ? ['button Format the text'] : []), 'button Make a link to this text', 'switch Only what counts', 'textbox Registered annotations']);
   assert.ok(nodes.some((it) => it.role?.value === 'status'));
   assert.ok(nodes.some((it) => it.role?.value === 'option' && it.properties?.some((of) => of.name === 'selected' && of.value.value === true)));
-  assert.ok(nodes.every((it) => it.ignored || !it.properties?.some((of) => of.name === 'focusable' && of.value.value) || it.role?.value === 'RootWebArea' || it.name?.value), 'a name for all that takes the focus');
+  await inEachScheme(['H1', 'H2', 'H2']);
+  if (!isServed) return;
+  await type(RUN);
+  await press('#run');
+  await ran();
+  await call(1, ['1', '2', '3', 'x']);
+  await call(0, []);
+  await named(['heading Binary module', 'group Bytes of the module', 'button Save the .wasm file', 'button Run the module', 'list Imports and exports', 'combobox Function', 'button Call the function', 'log Results']);
+  await inEachScheme(['H1', 'H2', 'H2', 'H2']);
+  await call(1, ['1', '2', '3', 'x']);
+  await named(['textbox Argument 1, i32', 'textbox Argument 4, f64']);
+  await inEachScheme(['H1', 'H2', 'H2', 'H2']);
+  await type('(module\n (func frob))');
+  await named(["group The compiler's error, as the program prints it"]);
+  await inEachScheme(['H1', 'H2', 'H2', 'H2']);
+}
+
+// Checks contrast, headings and width in both schemes, in a wide and in a narrow window.
+async function inEachScheme(headings) {
   for (const scheme of ['light', 'dark']) {
     await send('Emulation.setEmulatedMedia', { features: [{ name: 'prefers-color-scheme', value: scheme }] });
     for (const width of [1200, 360]) {
       await send('Emulation.setDeviceMetricsOverride', { width, height: 900, deviceScaleFactor: 1, mobile: width < 500 });
       const found = await ask(ACCESS);
-      assert.deepEqual(found, { poor: [], language: 'en', title: 'WebAssembly text, as the lexer sees it', headings: ['H1', 'H2', 'H2'], wide: false }, `${scheme} ${width}`);
+      assert.deepEqual(found, { poor: [], language: 'en', title: 'WebAssembly text, as the lexer sees it', headings, wide: false }, `${scheme} ${width}`);
     }
   }
   await send('Emulation.clearDeviceMetricsOverride');
@@ -729,14 +858,20 @@ async function timesOfOpening() {
   await theMiddle(generated, '#view');
 }
 
+// Takes a picture of each scheme: of a module that runs, and of an error of the compiler.
 async function takePictures() {
   await visit(origin);
-  await send('Emulation.setDeviceMetricsOverride', { width: 1100, height: 860, deviceScaleFactor: 1, mobile: false });
-  for (const [scheme, example] of [['light', 1], ['dark', 4]]) {
+  await send('Emulation.setDeviceMetricsOverride', { width: 1100, height: 1100, deviceScaleFactor: 1, mobile: false });
+  await ask("for (const id of ['editor', 'list']) document.querySelector(`#${id}`).style.height = '20rem'");
+  for (const [scheme, example] of [['light', 1], ['dark', 2]]) {
     await send('Emulation.setEmulatedMedia', { features: [{ name: 'prefers-color-scheme', value: scheme }] });
     await ask(`{ const it = document.querySelector('#example'); it.selectedIndex = ${example}; it.dispatchEvent(new Event('change')); }`);
-    await ask("{ const it = document.querySelector('#text'); const place = it.value.indexOf('(func') + 1; it.focus(); it.setSelectionRange(place, place); }");
-    if (!(await ask("document.querySelector('#go').hidden"))) await press('#go');
+    if (isServed && scheme === 'light') {
+      await press('#run');
+      await ran();
+      for (const [index, given] of [[0, ['20']], [1, ['1', '0']]]) await call(index, given);
+    }
+    await ask("{ const it = document.querySelector('#text'); const place = it.value.indexOf('(func') + 1; it.focus(); it.setSelectionRange(place, place); scrollTo(0, 0); }");
     await pause(200);
     writeFileSync(join(pictures, `page-${scheme}.png`), Buffer.from((await send('Page.captureScreenshot', { format: 'png' })).data, 'base64'));
   }
@@ -754,7 +889,7 @@ try {
   for (const width of isQuick ? [1200] : [1200, 360]) {
     await send('Emulation.setDeviceMetricsOverride', { width, height: 900, deviceScaleFactor: 1, mobile: false });
     const checks = [theCursor, theCursorOfShownTexts, scrolling, metrics, examples, theFault, whatCounts, links];
-    for (const check of isServed ? [...checks, bytesOfTypes, formatting, byKeyboard] : checks) {
+    for (const check of isServed ? [...checks, modules, running, saving, formatting, byKeyboard] : checks) {
       await check();
       console.log(`${check.name}, ${width} pixels`);
     }
@@ -771,6 +906,7 @@ try {
   if (pictures) await takePictures();
   await visit(pathToFileURL(here('out/wat.html')).href);
   await typedTexts();
+  if (isServed) for (const check of [modules, running]) await check();
   const bad = events.filter((it) => it.method === 'Runtime.exceptionThrown' || (it.method === 'Runtime.consoleAPICalled' && it.params.type === 'error') || (it.method === 'Log.entryAdded' && it.params.entry.level === 'error'));
   assert.deepEqual(bad, []);
   // Violations of the page's content security policy are reported in the console.
@@ -779,7 +915,7 @@ try {
     await pause(500);
     assert.equal(await ask("fetch('data:,a').then(() => 'let through', () => 'refused')"), 'refused', address);
   }
-  if (!isServed) console.log('bytesOfTypes, formatting and byKeyboard are left out, as the module takes no memory');
+  if (!isServed) console.log('modules, running, saving, formatting and byKeyboard are left out, as the module takes no memory');
   console.log('the page passed, in', (await send('Browser.getVersion')).product);
   failed = 0;
 } catch (error) {

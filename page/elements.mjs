@@ -101,6 +101,7 @@ export class Element {
   }
   scrollTo(left, top) { Object.assign(this, { scrollLeft: left, scrollTop: top }); }
   scrollIntoView() { this.document.revealed.push(this.id); }
+  click() { this.document.clicked.push(this); }
   focus(options = {}) {
     this.document.activeElement = this;
     this.focused = options;
@@ -120,6 +121,7 @@ const plain = (html) => html.replace(/<[^>]*>/g, '').replace(/&(?:#(\d+)|(lt|amp
 
 export class Document extends Element {
   revealed = [];
+  clicked = [];
   // The elements of the HTML by identifier; none is ever removed.
   parsed = new Map();
   commands = [];

@@ -15,12 +15,36 @@ export const EXAMPLES = [
 `,
   },
   {
-    name: 'Types alone, and their bytes',
+    name: 'A module to run',
     text: `(module
-  ;; a module that holds nothing but function types
-  (type $binary (func (param $a i32) (param $b i32) (result i32)))
-  (type $none (func))
-  (type (func (param i64 f32 f64) (result f64 i64))))
+  (memory (export "memory") 1 2)
+  (global (export "limit") i64 (i64.const 20))
+  (func $factorial (export "factorial") (param $n i64) (result i64)
+    (if (result i64) (i64.eqz (local.get $n))
+      (then (i64.const 1))
+      (else
+        (i64.mul
+          (local.get $n)
+          (call $factorial (i64.sub (local.get $n) (i64.const 1)))))))
+  (func (export "divide") (param i32 i32) (result i32 i32) ;; traps if the second is 0
+    (i32.div_s (local.get 0) (local.get 1))
+    (i32.rem_s (local.get 0) (local.get 1)))
+  (func (export "forever") (loop (br 0))))
+`,
+  },
+  {
+    name: 'An identifier that is not defined',
+    text: `(module
+  (func $twice (param $n i32) (result i32)
+    (i32.mul (local.get $m) (i32.const 2))))
+`,
+  },
+  {
+    name: 'A module that is not valid',
+    text: `(module
+  (func (export "sum") (result i32)
+    i32.const 1
+    i32.add))
 `,
   },
   {

@@ -1,5 +1,5 @@
-// Tests the parts of the page that need a browser, in node, with substitutes for its elements, canvas and workers: scrolling boxes, columns, workers
-// and links. Takes a second; browser.mjs tests the whole page.
+// Tests the parts of the page that need a browser, in node, with substitutes for its elements, canvas and workers: scrolling boxes, columns, workers,
+// modules that run, and links. Takes a second; browser.mjs tests the whole page.
 // usage: node faked.mjs, once build.sh has made the module
 import assert from 'node:assert/strict';
 import { readFileSync } from 'node:fs';
@@ -343,6 +343,67 @@ async function theWorker() {
   assert.deepEqual([[...rows], moved], [[6, 4, 7, 8, 8, 3], [rows.buffer]]);
 }
 
+// ---- modules that run
+
+const { LIMIT, Runner } = await import('./run.js');
+
+async function runs() {
+  workers.length = 0;
+  const timers = new Map(), { setTimeout: setBefore, clearTimeout: clearBefore } = globalThis;
+  Object.assign(globalThis, { setTimeout: (call, milliseconds) => timers.set(timers.size + 1, { call, milliseconds }).size, clearTimeout: (timer) => timers.get(timer).isCleared = true });
+  const runner = new Runner();
+  assert.equal(runner.isBusy, false);
+  const first = runner.ask({ task: 'a' });
+  assert.deepEqual([runner.isBusy, workers.length, workers[0].name, workers[0].options, workers[0].posted[0].task, timers.get(1).milliseconds, LIMIT], [true, 1, 'runner.js', { type: 'module' }, 'a', 5000, 5000]);
+  workers[0].onmessage({ data: { results: [] } });
+  assert.deepEqual([await first, runner.isBusy, timers.get(1).isCleared], [{ results: [] }, false, true]);
+  // A message that no task awaits changes nothing. The worker stays for the next task, and ends at the time limit.
+  workers[0].onmessage({ data: null });
+  const second = runner.ask({ task: 'b' });
+  assert.deepEqual([workers.length, workers[0].posted.length, workers[0].isTerminated], [1, 2, false]);
+  timers.get(2).call();
+  assert.deepEqual([await second, workers[0].isTerminated, runner.isBusy, timers.get(2).isCleared], [{ isLate: true }, true, false, true]);
+  const third = runner.ask({ task: 'c' });
+  assert.equal(workers.length, 2);
+  runner.stop();
+  assert.deepEqual([await third, workers[1].isTerminated, runner.isBusy], [null, true, false]);
+  runner.stop();
+  const fourth = runner.ask({ task: 'd' });
+  workers[2].onerror();
+  assert.deepEqual([await fourth, workers[2].isTerminated, timers.get(4).isCleared], [{ error: 'the worker could not be started' }, true, true]);
+  Object.assign(globalThis, { setTimeout: setBefore, clearTimeout: clearBefore });
+}
+
+const WASM = [0, 97, 115, 109, 1, 0, 0, 0];
+// A function without parameters that is exported as `f`: the types of its results, and its instructions.
+const moduleOf = (results, ...code) => Uint8Array.of(...WASM, 1, 4 + results.length, 1, 0x60, 0, results.length, ...results, 3, 2, 1, 0, 7, 5, 1, 1, 102, 0, 0, 10, code.length + 4, 1, code.length + 2, 0, ...code, 0x0b);
+const [I32, I64, FUNCREF] = [0x7f, 0x7e, 0x70];
+
+async function theRunner() {
+  const posted = [];
+  Object.assign(globalThis, { onmessage: null, postMessage: (data) => posted.push(data) });
+  await import('./runner.js');
+  const ask = async (data) => {
+    await globalThis.onmessage({ data });
+    return posted.pop();
+  };
+  const call = (...given) => ask({ task: 'call', name: 'f', given });
+  const started = { isValid: true, isStarted: true };
+  for (const [bytes, results] of [[moduleOf([]), []], [moduleOf([I32], 0x41, 5), ['5']], [moduleOf([I64], 0x42, 0x7f), ['-1']], [moduleOf([I32, I64], 0x41, 0, 0x42, 1), ['0', '1']], [moduleOf([FUNCREF], 0xd0, 0x70), ['null']], [moduleOf([FUNCREF], 0xd2, 0), ['a function']]]) {
+    assert.deepEqual([await ask({ task: 'start', bytes }), await call()], [started, { results }]);
+  }
+  assert.deepEqual([await ask({ task: 'start', bytes: moduleOf([], 0x00) }), await call()], [started, { error: 'RuntimeError: unreachable' }]);
+  assert.match((await ask({ task: 'start', bytes: moduleOf([I32]) })).error, /^CompileError: /);
+  // A start function that traps, and an import.
+  const starting = Uint8Array.of(...WASM, 1, 4, 1, 0x60, 0, 0, 3, 2, 1, 0, 8, 1, 0, 10, 5, 1, 3, 0, 0, 0x0b);
+  assert.deepEqual(await ask({ task: 'start', bytes: starting }), { isValid: true, isStarted: false, error: 'RuntimeError: unreachable' });
+  const importing = Uint8Array.of(...WASM, 1, 4, 1, 0x60, 0, 0, 2, 7, 1, 1, 97, 1, 98, 0, 0);
+  assert.deepEqual(await ask({ task: 'start', bytes: importing }), { isValid: true, isStarted: false });
+  // Arguments reach the function.
+  const adding = Uint8Array.of(...WASM, 1, 7, 1, 0x60, 2, I32, I32, 1, I32, 3, 2, 1, 0, 7, 5, 1, 1, 102, 0, 0, 10, 9, 1, 7, 0, 0x20, 0, 0x20, 1, 0x6b, 0x0b);
+  assert.deepEqual([await ask({ task: 'start', bytes: adding }), await call(7, 2)], [started, { results: ['5'] }]);
+}
+
 // ---- links
 
 const { fragmentOf, givenBy } = await import('./link.js');
@@ -370,6 +431,6 @@ async function longLinks() {
   await assert.rejects(givenBy(`text=${packed(Buffer.alloc((1 << 24) + 1))}`), RangeError);
 }
 
-const checks = [sizes, drawing, boxesOfViews, reveals, revealsAcross, columns, workersAhead, oneWorker, theWorker, links, longLinks];
+const checks = [sizes, drawing, boxesOfViews, reveals, revealsAcross, columns, workersAhead, oneWorker, theWorker, runs, theRunner, links, longLinks];
 for (const check of checks) await check();
 console.log(`faked.mjs: ${checks.length} checks passed`);

@@ -1,5 +1,6 @@
 // Compares the results of the npm package, whose offsets are in UTF-16 code units, with the program on all golden texts; and, after each of many
-// random edits, with its results for the whole text. Checks that wrong arguments are rejected, and leave a document unchanged.
+// random edits, with its results for the whole text. Compares the modules that it compiles with those of the program. Checks that wrong arguments are
+// rejected, and leave a document unchanged.
 // usage: node packaged.mjs PROGRAM, once build.sh has made the package
 import assert from 'node:assert/strict';
 import { spawnSync } from 'node:child_process';
@@ -7,7 +8,7 @@ import { existsSync, readFileSync, readdirSync } from 'node:fs';
 import { fileURLToPath } from 'node:url';
 import { changeOf } from './edits.js';
 import { Chance, Edits } from './edited.mjs';
-import { load, loadSync } from './out/wat-lex/node.js';
+import { CompileError, load, loadSync } from './out/wat-lex/node.js';
 import { Whole } from './wat-lex/whole.js';
 
 const program = process.argv[2];
@@ -20,7 +21,7 @@ const { isServed } = new Whole(new WebAssembly.Module(readFileSync(fileURLToPath
 const wat = loadSync();
 assert.deepEqual((await load()).lex('(a)'), wat.lex('(a)'));
 const document = wat.open();
-const seen = { texts: 0, tokens: 0, faults: 0, layouts: 0, types: 0, edits: 0, halves: 0, rejected: 0 };
+const seen = { texts: 0, tokens: 0, faults: 0, layouts: 0, types: 0, compiled: 0, uncompiled: 0, edits: 0, halves: 0, rejected: 0 };
 
 // Returns the program's output for a text.
 function ran(words, input) {
@@ -39,6 +40,32 @@ function printed(text, { tokens, fault }) {
   return { said: rows.join(''), fault: fault ? `${fault.printed}\n` : '' };
 }
 
+// Returns the binary module of a text, or the compiler's error.
+function compiled(text) {
+  try {
+    return { bytes: Buffer.from(wat.compile(text)) };
+  } catch (error) {
+    assert.ok(error instanceof CompileError, error);
+    return { error };
+  }
+}
+
+// Compares the binary module, or the error and its location, with the output of `module`.
+function compareCompiled(text) {
+  const { bytes, error } = compiled(text);
+  const { stdout, stderr, status } = spawnSync(program, ['module'], { input: text });
+  seen[bytes ? 'compiled' : 'uncompiled'] += 1;
+  if (bytes) {
+    assert.deepEqual([bytes, status], [stdout, 0]);
+    return;
+  }
+  const { message, name, offset, line, column, printed } = error;
+  assert.deepEqual([`${printed}\n`, status, name, printed.startsWith(message)], [stderr.toString(), 1, 'CompileError', true]);
+  const before = text.slice(0, offset).split('\n');
+  assert.deepEqual([line, column], [before.length - 1, before.at(-1).length]);
+  assert.equal(Number(/<anon>:(\d+)/.exec(printed)?.[1] ?? line + 1), line + 1);
+}
+
 function compareWithProgram(text, flags, words) {
   const found = wat.lex(text, flags);
   const { said, fault } = ran(words, text);
@@ -53,6 +80,7 @@ function compareWithProgram(text, flags, words) {
     const laid = ran(['fmt'], text), types = spawnSync(program, ['types'], { input: text });
     assert.equal(wat.format(text), laid.status === 0 ? laid.said : null);
     assert.deepEqual(wat.types(text), types.status === 0 ? new Uint8Array(types.stdout) : null);
+    compareCompiled(text);
     seen.layouts += 1;
     seen.types += types.status === 0 ? 1 : 0;
   }
@@ -153,6 +181,10 @@ const after = wat.lex(growing.text);
 assert.deepEqual([growing.count, growing.fault, growing.end(growing.count - 1)], [after.tokens.length, after.fault, after.tokens.at(-1).end]);
 for (let i = 0; i < growing.count; i += 997) assert.deepEqual(growing.token(i), after.tokens[i]);
 if (isServed) assert.deepEqual(wat.types('(module (type (func (param i32))))'), Uint8Array.of(0, 97, 115, 109, 1, 0, 0, 0, 1, 5, 1, 96, 1, 127, 0));
+if (isServed) {
+  const rows = readFileSync(fileURLToPath(new URL('../tests/modules.txt', import.meta.url)), 'utf8').split('\n').filter((row) => !row.startsWith('#'));
+  for (const text of rows.filter((_, i) => i % 2 === 0)) compareCompiled(text.replaceAll('\u23ce', '\n').replaceAll('\u2420', ' '));
+}
 compareHalves(chance);
 compareRejected();
 console.log(`packaged.mjs: ${Object.entries(seen).map(([what, count]) => `${what} ${count}`).join(', ')}; none differ`);

@@ -2,11 +2,12 @@
 import { Ahead } from './ahead.js';
 import { Columns } from './columns.js';
 import { whatCounts } from './counts.js';
+import { $, cutLines, element, plural, summaryOf, tell, visible } from './dom.js';
 import { changeOf, placeInLayout, Places } from './edits.js';
 import { EXAMPLES } from './examples.js';
 import { fragmentOf, givenBy } from './link.js';
+import { ModulePart } from './module.js';
 import { Sight } from './sight.js';
-import { dumped, mayBeTypes } from './types.js';
 import { Lexer, decoder } from './wat-lex/lexer.js';
 import { Reader } from './wat-lex/reader.js';
 import { Tokens } from './wat-lex/tokens.js';
@@ -16,19 +17,20 @@ import { Whole } from './wat-lex/whole.js';
 const EDITABLE = 1 << 20;
 const LONGEST = 2000;
 const LISTED = 120;
-// In lines of sixteen bytes: the longest part of a binary module that is printed.
-const DUMPED = 256;
+// In bytes: the largest text that is compiled after each change at once. A longer one is compiled after a pause, in milliseconds.
+const SHORT = 1 << 16;
+const PAUSE = 300;
 // In milliseconds: the time for which a text is lexed before the visible part is drawn, and then between other tasks.
 const AT_ONCE = 8;
-const $ = (id) => document.getElementById(id);
 const encoder = new TextEncoder();
 const textOf = (from, to) => decoder.decode(bytes.subarray(from, to));
-const plural = (count, word) => `${count.toLocaleString('en')} ${word}${count === 1 ? '' : 's'}`;
 
-let reader, ahead, whole, view, list, columns;
+let reader, ahead, whole, modulePart, view, list, columns;
 let bytes, lines, tokens, cursor = 0;
 // The significant tokens, if only these are listed.
 let counted = null;
+// The byte offset of the compiler's error, or null.
+let rejected = null;
 // The line end that each LF of the text area represents, or null if the text area is not in use.
 let lineEnd = '\n';
 // The text area's text when it was last read, and the conversion of its positions to byte offsets.
@@ -37,13 +39,6 @@ let typed = '', places = new Places();
 let isUntouched = false;
 
 // ---- drawing
-
-function element(name, className, text = '') {
-  const it = document.createElement(name);
-  it.className = className;
-  it.textContent = text;
-  return it;
-}
 
 function caret() {
   const it = element('span', 'caret');
@@ -59,7 +54,7 @@ class Pieces {
   all = [];
 
   put(className, from, to, mark = '') {
-    if (from > to || (from === to && className !== 'fault')) return;
+    if (from > to || (from === to && !mark)) return;
     if (isCaretAt(from) && from < bytes.length) this.putCaret();
     const cut = lineEnd === null && cursor > from && cursor < to ? cursor : to;
     this.all.push({ className, from, to: cut, mark });
@@ -89,9 +84,11 @@ function partOf(line, from, to) {
   return { from: first, to: lines.on(Math.min(to, first + LONGEST)) };
 }
 
-// Returns the class of a token: its kind, or `skipped` if it is not significant, and whether the cursor is at it or at its parenthesis.
+// Returns the class of a token: its kind, or `skipped` if it is not significant, whether the compiler rejects it, and whether the cursor is at it or at
+// its parenthesis.
 function classOf(i, held, matched) {
-  const kind = counted && !isListed(i) ? 'skipped' : tokens.kind(i);
+  const isRejected = rejected !== null && tokens.at(rejected) === i;
+  const kind = `${counted && !isListed(i) ? 'skipped' : tokens.kind(i)}${isRejected ? ' rejected' : ''}`;
   if (matched.includes(i)) return `${kind} ${matched.length > 1 ? 'match' : 'alone'}`;
   return i === held ? `${kind} held` : kind;
 }
@@ -109,6 +106,7 @@ function piecesOf(line, part, held, matched) {
     at = pieces.putFault(part.to);
   }
   pieces.put('unread', at, part.to);
+  if (rejected === bytes.length && line === lines.count - 1) pieces.put('rejected', rejected, rejected, '▏');
   if (isCaretAt(bytes.length) && line === lines.count - 1) pieces.putCaret();
   return pieces.all;
 }
@@ -174,8 +172,6 @@ function drawView(first, last, offset) {
   drawnLines.begin();
   return rows.map((line) => drawnLines.line(line, held, matched));
 }
-
-const visible = (text) => text.replace(/\r/g, '␍').replace(/\n/g, '↵').replace(/\t/g, '⇥');
 
 // ---- the list of all tokens, or of the significant ones
 
@@ -306,33 +302,25 @@ function onListClick(event) {
 
 // ---- reports
 
-// Sets the text of an element that screen readers announce, if the text has changed.
-function tell(id, text) {
-  if ($(id).textContent !== text) $(id).textContent = text;
-  $(id).hidden = text === '';
-}
-
 function say(text, isWrong = false) {
   tell('go', '');
   tell('said', text);
   $('state').className = isWrong ? 'wrong' : '';
 }
 
-// Prints the error with the location of its message: the column is that of the marker. A message with a column above 500 is one line.
 function sayFault() {
-  const [, what, line, column] = /^(.*?)(?:\n +-->| at) <anon>:(\d+):(\d+)/.exec(reader.message);
   tell('said', '');
-  tell('go', `Line ${line}, column ${column}: ${what}`);
+  tell('go', summaryOf(reader.message));
 }
 
 function sayEnding() {
   if (reader.ending === 'faulty') sayFault();
-  else if (reader.ending === 'whole') say('No fault.');
+  else if (reader.ending === 'whole') say('No lexical error.');
   else if (reader.ending === null) say('The text is being read.');
   else if (reader.ending === 'not UTF-8') say(`The text is not UTF-8 from byte ${reader.offset} on.`, true);
   else say(`The text is ${reader.ending}.`, true);
   tell('size', `${plural(tokens.count, 'token')}, ${plural(bytes.length, 'byte')}.`);
-  tell('message', reader.ending === 'faulty' ? reader.message.split('\n').map((line) => line.slice(0, 2 * LONGEST)).join('\n') : '');
+  tell('message', reader.ending === 'faulty' ? cutLines(reader.message, 2 * LONGEST) : '');
   document.body.dataset.ending = reader.ending ?? 'unread';
 }
 
@@ -359,16 +347,31 @@ function showCounts() {
   list.redraw();
 }
 
-// Prints the binary module of function types. The text must be lexed by the standard's rules, and without registered names.
-function showBytes() {
-  const isRead = whole.isServed && reader.ending === 'whole' && !$('allow').checked;
-  const module = isRead && mayBeTypes(tokens, bytes) ? whole.types(bytes) : null;
-  $('bytes-part').hidden = !module;
-  if (!module) return;
-  const rest = module.length > 16 * DUMPED ? `, of which the first ${16 * DUMPED} are shown` : '';
-  tell('bytes-size', `The text spells a module of types, whose binary form has ${plural(module.length, 'byte')}${rest}.`);
-  tell('bytes', dumped(module, DUMPED));
-}
+// Compiles a text without a lexical error, by the standard's rules whatever the switches, and shows the binary module or the compiler's error.
+const compiling = {
+  timer: null,
+
+  begin() {
+    clearTimeout(this.timer);
+    rejected = null;
+    if (!whole.isServed || reader.ending !== 'whole') modulePart.show(null);
+    else if (bytes.length > EDITABLE) modulePart.show(null, 'A text of more than a megabyte is not compiled.');
+    else if (bytes.length <= SHORT) this.end();
+    else {
+      modulePart.show(null, 'The text is compiled after a pause.');
+      this.timer = setTimeout(() => {
+        this.end();
+        view.redraw();
+      }, PAUSE);
+    }
+  },
+
+  end() {
+    const compiled = whole.compile(bytes);
+    rejected = compiled?.error?.offset ?? null;
+    modulePart.show(compiled, compiled ? '' : 'There is no memory to compile the text.', 2 * LONGEST);
+  },
+};
 
 const flags = () => ({ allow: $('allow').checked, strict: $('strict').checked });
 
@@ -385,7 +388,7 @@ function draw() {
   view.set(lines.count);
   count();
   sayEnding();
-  showBytes();
+  compiling.begin();
   follow();
   view.redraw();
   list.redraw();
@@ -547,9 +550,9 @@ function format() {
   return tell('formatted', 'The text is formatted.');
 }
 
-// Moves the cursor to the reported error.
-function goToFault() {
-  moveTo(reader.offset, 'report');
+// Moves the cursor to a reported error.
+function goTo(offset) {
+  moveTo(offset, 'report');
   view.box.focus({ preventScroll: true });
   view.box.scrollIntoView({ block: 'nearest' });
 }
@@ -605,7 +608,8 @@ function listen() {
   rest.channel.port1.onmessage = () => rest.goOn();
   $('format').addEventListener('click', format);
   $('share').addEventListener('click', share);
-  $('go').addEventListener('click', goToFault);
+  $('go').addEventListener('click', () => goTo(reader.offset));
+  $('module-go').addEventListener('click', () => goTo(rejected));
   window.addEventListener('hashchange', openLink);
   $('file').addEventListener('change', () => openFile($('file').files[0]));
   document.addEventListener('dragover', (event) => event.preventDefault());
@@ -633,6 +637,7 @@ async function start() {
   reader = new Reader(lexer);
   ahead = new Ahead(module);
   whole = new Whole(module);
+  modulePart = new ModulePart();
   $('format').hidden = !whole.isServed;
   columns = new Columns(getComputedStyle($('text')));
   view = new Sight([$('text'), $('view')], $('seen'), drawView);

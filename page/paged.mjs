@@ -38,8 +38,11 @@ async function pause() {
 
 // ---- the page's state
 
-const OF_PIECE = (it) => (it.className === 'caret' ? `|${it.getAttribute('aria-hidden')}` : `${it.className} ${it.dataset.from} ${it.textContent}${it.dataset.mark ?? ''}${it.id && '#'}`);
-const linesOf = () => $('seen').children.map((it) => it.children.map(OF_PIECE));
+// The class of a piece, without the mark of the compiler's error.
+const classOf = (it) => it.className.replace(' rejected', '');
+const OF_PIECE = (it) => (it.className === 'caret' ? `|${it.getAttribute('aria-hidden')}` : `${classOf(it)} ${it.dataset.from} ${it.textContent}${it.dataset.mark ?? ''}${it.id && '#'}`);
+const linesOf = () => $('seen').children.map((it) => it.children.filter((piece) => piece.className !== 'rejected').map(OF_PIECE));
+const isRejected = (it) => it.className.split(' ').includes('rejected');
 const shown = (id) => ($(id).hidden ? null : $(id).textContent);
 const nextFrame = (given) => {
   for (const frame of frames.splice(0)) frame();
@@ -53,12 +56,17 @@ const STATE = {
   roles: () => $('list').querySelector('.seen').children.map((it) => [it.id, it.getAttribute('role'), it.getAttribute('aria-selected'), it.getAttribute('aria-posinset'), it.getAttribute('aria-setsize')].join(' ')),
   held: () => $('list').getAttribute('aria-activedescendant'),
   place: () => $('place').textContent, said: () => shown('said'), go: () => shown('go'), wrong: () => $('state').className, size: () => shown('size'),
-  message: () => shown('message'), counted: () => shown('counted'), bytes: () => ($('bytes-part').hidden ? null : $('bytes').textContent), bytesSize: () => shown('bytes-size'),
+  message: () => shown('message'), counted: () => shown('counted'), bytes: () => ($('module-part').hidden || $('built').hidden ? null : $('bytes').textContent),
+  rejected: () => $('seen').all.filter(isRejected).map((it) => `${it.className} ${it.dataset.from} ${it.textContent}${it.dataset.mark ?? ''}`), moduleSaid: () => ($('module-part').hidden ? null : shown('module-said')), moduleGo: () => shown('module-go'), moduleMessage: () => shown('module-message'),
+  ran: () => shown('ran'), fields: () => ($('interface').hidden ? null : $('interface').children.map((it) => it.textContent)), isCalled: () => !$('call').hidden, results: () => shown('results'), menu: () => $('callee').children.map((it) => it.textContent),
+  inputs: () => $('arguments').children.map((it) => `${it.textContent}${inputOf(it).getAttribute('aria-label')}: ${inputOf(it).value} ${inputOf(it).getAttribute('aria-invalid')}`),
   note: () => shown('note'), formatted: () => shown('formatted'), shared: () => shown('shared'), ending: () => document.body.dataset.ending, value: () => $('text').value, isHidden: () => $('text').hidden,
   selection: () => [$('text').selectionStart, $('text').selectionEnd], width: () => $('numbers').style.width, active: () => document.activeElement.id,
   scroll: () => nextFrame(['text', 'view', 'list']).map((id) => [$(id).scrollTop, $(id).scrollLeft]), heights: () => ['text', 'view', 'list'].map((id) => $(id).querySelector('.all')?.style.height),
   role: () => [$('view').getAttribute('role'), $('view').getAttribute('tabindex'), $('view').getAttribute('aria-labelledby'), $('view').getAttribute('aria-describedby'), $('view').ariaHidden, $('view').className],
 };
+
+const inputOf = (label) => label.firstElementChild;
 
 // Compares parts of the page's state.
 function expect(wanted, name) {
@@ -104,7 +112,7 @@ function resize(id, height) {
 async function opening() {
   await import('./page.js');
   for (let i = 0; i < 100 && document.body.dataset.ready !== 'yes'; i += 1) await pause();
-  expect({ value: EXAMPLES[0].text, said: 'No fault.', wrong: '', ending: 'whole', isHidden: false, place: 'Line 1, character 1, byte 0', selection: [0, 0] });
+  expect({ value: EXAMPLES[0].text, said: 'No lexical error.', wrong: '', ending: 'whole', isHidden: false, place: 'Line 1, character 1, byte 0', selection: [0, 0] });
   assert.deepEqual([document.body.dataset.ready, $('example').children.map((it) => it.textContent), $('format').hidden], ['yes', EXAMPLES.map((it) => it.name), false]);
   for (const [i, { text, name }] of EXAMPLES.entries()) {
     $('example').selectedIndex = i;
@@ -136,14 +144,14 @@ function typing() {
   type(`x\n${'y '.repeat(2500)}\n"\\q`);
   expect({ size: '5,002 tokens, 5,006 bytes.', go: "Line 3, column 3: invalid string escape 'q'" });
   type('a');
-  expect({ ending: 'whole', said: 'No fault.', go: null, message: null, size: '1 token, 1 byte.' });
+  expect({ ending: 'whole', said: 'No lexical error.', go: null, message: null, size: '1 token, 1 byte.' });
   // A line that moved keeps its element, with new offsets.
-  type('(b c)\n(b c)\n');
+  type('(func)\n(func)\n');
   const [first, second] = $('seen').children;
-  type('\n(b c)\n(b c)\n');
-  assert.deepEqual([$('seen').children[1] === first || $('seen').children[1] === second, linesOf()[1][1], linesOf()[2][1]], [true, 'Keyword 2 b', 'Keyword 8 b']);
-  type('(b c)\n(b c)\n');
-  assert.deepEqual([linesOf()[0][1], linesOf()[1][1]], ['Keyword 1 b', 'Keyword 7 b']);
+  type('\n(func)\n(func)\n');
+  assert.deepEqual([$('seen').children[1] === first || $('seen').children[1] === second, linesOf()[1][1], linesOf()[2][1]], [true, 'Keyword 2 func', 'Keyword 9 func']);
+  type('(func)\n(func)\n');
+  assert.deepEqual([linesOf()[0][1], linesOf()[1][1]], ['Keyword 1 func', 'Keyword 8 func']);
   $('text').value = '(b';
   $('text').setSelectionRange(1, 1);
   $('text').send('input');
@@ -204,7 +212,7 @@ function theListByKeys() {
 async function shownTexts() {
   await drop('(a $b)\n(c "d")\r\n');
   const note = 'A text with line ends of two kinds is shown, and not edited. Arrow keys, Home, End and the page keys move the cursor, and so does a click.';
-  expect({ note, isHidden: true, value: '', role: ['group', '0', 'text-name', 'note', null, 'fixed'], said: 'No fault.' });
+  expect({ note, isHidden: true, value: '', role: ['group', '0', 'text-name', 'note', null, 'fixed'], said: 'No lexical error.' });
   expect({ lines: [['|true', 'LParen match 0 (', 'Keyword 1 a', 'Whitespace 2  ', 'Id 3 $b', 'RParen match 5 )', 'Whitespace 6 \n'], ['LParen 7 (', 'Keyword 8 c', 'Whitespace 9  ', 'String 10 "d"', 'RParen 13 )', 'Whitespace 14 \r\n'], []] });
   const moves = [['ArrowRight', 1], ['ArrowDown', 8], ['ArrowLeft', 7], ['ArrowUp', 0], ['ArrowLeft', 0], ['End', 6], ['ArrowDown', 13], ['ArrowDown', 16], ['ArrowDown', 16], ['ArrowUp', 7], ['End', 15], ['Home', 7], ['PageDown', 16], ['PageUp', 0]];
   for (const [name, place] of moves) {
@@ -344,7 +352,7 @@ async function partsOfTexts() {
   assert.deepEqual(linesOf()[0], ['Keyword 199996 x', 'Whitespace 199997 \n']);
   scrollTo(0);
   for (let i = 0; i < 500 && STATE.ending() === 'unread'; i += 1) await pause();
-  expect({ ending: 'whole', said: 'No fault.', size: '400,000 tokens, 400,000 bytes.', width: '8ch', formatted: 'The text is still being read.' });
+  expect({ ending: 'whole', said: 'No lexical error.', size: '400,000 tokens, 400,000 bytes.', width: '8ch', formatted: 'The text is still being read.' });
   assert.deepEqual([measured, started[1] > 0, started[1]], [['show', 'read'], true, started[0]]);
   type('y');
   assert.deepEqual(measured.slice(2), ['show', 'read']);
@@ -393,7 +401,7 @@ async function faults() {
   expect({ said: 'The text is not UTF-8 from byte 1 on.', wrong: 'wrong', go: null, note, isHidden: true, ending: 'not UTF-8', size: '0 tokens, 2 bytes.', message: null });
   assert.deepEqual(linesOf(), [['|true', 'unread 0 (\ufffd']]);
   await drop('(a)');
-  expect({ said: 'No fault.', wrong: '', isHidden: false, note: null });
+  expect({ said: 'No lexical error.', wrong: '', isHidden: false, note: null });
 }
 
 async function files() {
@@ -412,14 +420,14 @@ async function files() {
   await drop('(a)');
   document.send('drop', { dataTransfer: { files: [] } });
   await pause();
-  expect({ value: '(a)', said: 'No fault.' });
+  expect({ value: '(a)', said: 'No lexical error.' });
   assert.deepEqual([document.send('dragover').isPrevented, document.send('drop', { dataTransfer: { files: [] } }).isPrevented], [true, true]);
   await replacing(WebAssembly.Memory.prototype, 'grow', refuse, () => drop('(dropped)'.repeat(1e6)));
   expect({ said: 'The file could not be read: RangeError: refused', value: '', lines: [[]] });
   $('file').files = [{ arrayBuffer: async () => bytesOf('(b)').buffer }];
   $('file').send('change');
   await pause();
-  expect({ value: '(b)', said: 'No fault.' });
+  expect({ value: '(b)', said: 'No lexical error.' });
 }
 
 function selections() {
@@ -489,20 +497,207 @@ function counted() {
 }
 
 function binaries() {
-  type('(module (type $a (func (param $p i32) (param i64 f32) (result f64))) (@x y) (type (func)))');
-  expect({ bytes: '00000000  00 61 73 6d 01 00 00 00 01 0b 02 60 03 7f 7e 7d\n00000010  01 7c 60 00 00', bytesSize: 'The text spells a module of types, whose binary form has 21 bytes.' });
+  const text = '(module (type $a (func (param $p i32) (param i64 f32) (result f64))) (@x y) (type (func)))';
+  const compiled = { bytes: '00000000  00 61 73 6d 01 00 00 00 01 0b 02 60 03 7f 7e 7d\n00000010  01 7c 60 00 00', moduleSaid: 'The text is a module, whose binary form has 21 bytes.', moduleGo: null, moduleMessage: null, rejected: [] };
+  type(text);
+  expect(compiled);
   check('allow', true);
-  expect({ bytes: null });
+  expect(compiled);
   check('allow', false);
-  for (const text of ['(module (func))', '(module) x', '(module (type (func (param i8))))', '"']) {
-    type(text);
-    expect({ bytes: null }, text);
-  }
+  type('"');
+  expect({ bytes: null, moduleSaid: null, moduleGo: null, moduleMessage: null });
+  assert.equal($('module-part').hidden, true);
+  type('');
+  expect({ bytes: '00000000  00 61 73 6d 01 00 00 00', moduleSaid: 'The text is a module, whose binary form has 8 bytes.' });
   for (const [count, size] of [[1361, '4,096 bytes.'], [1362, '4,099 bytes, of which the first 4096 are shown.']]) {
     type(`(module ${'(type (func))'.repeat(count)})`);
-    expect({ bytesSize: `The text spells a module of types, whose binary form has ${size}` });
+    expect({ moduleSaid: `The text is a module, whose binary form has ${size}` });
     assert.equal(STATE.bytes().split('\n').length, 256);
   }
+}
+
+// Errors of the compiler: their marks in the text, and their reports.
+function rejectedTexts() {
+  for (const [text, mark, line, column] of [['(module\n  frob)', 'Keyword rejected 10 frob', 2, 3], ['x', 'Keyword rejected held 0 x', 1, 1], ['(module) )', 'RParen rejected alone 9 )', 1, 10], ['(module', 'rejected 7 \u258f', 1, 8], ['(func\n', 'rejected 6 \u258f', 2, 1], ['(; a ;) 1\n(func)', 'Integer rejected 8 1', 1, 9]]) {
+    type(text, text === '(module) )' ? 9 : 0);
+    const [what] = $('module-message').textContent.split('\n');
+    expect({ rejected: [mark], moduleGo: `Line ${line}, column ${column}: ${what}`, moduleSaid: null, bytes: null, ending: 'whole', said: 'No lexical error.' }, text);
+    assert.ok($('module-message').textContent.includes(`\n     --> <anon>:${line}:${column}\n`));
+    assert.equal($('seen').children.findIndex((it) => it.children.some(isRejected)), line - 1);
+  }
+  type('(module\n  frob)');
+  key('list', 'Home');
+  document.revealed.length = 0;
+  press('module-go');
+  expect({ selection: [10, 10], active: 'text' });
+  assert.deepEqual(document.revealed, ['text']);
+  type('(module)');
+  expect({ rejected: [], moduleGo: null, moduleMessage: null });
+  type(`frob ${'x'.repeat(6000)}`);
+  assert.equal(STATE.moduleMessage().split('\n')[3].length, 4000);
+  type('x (@d (y)');
+  assert.match(STATE.moduleGo(), / at byte offset 3$/);
+}
+
+// Longer texts are compiled after a pause, and the longest are not.
+async function longModules() {
+  const timers = [], ended = [];
+  await replacing(Whole.prototype, 'compile', () => null, () => type('(func)'));
+  expect({ moduleSaid: 'There is no memory to compile the text.', bytes: null, rejected: [] });
+  await replacing(globalThis, 'setTimeout', (call, milliseconds) => timers.push({ call, milliseconds }), () => replacing(globalThis, 'clearTimeout', (timer) => ended.push(timer), () => {
+    type(`x${' '.repeat((1 << 16) - 1)}`);
+    assert.deepEqual([timers.length, STATE.rejected().length], [0, 1]);
+    type(`x${' '.repeat(1 << 16)}`);
+    expect({ moduleSaid: 'The text is compiled after a pause.', rejected: [], moduleGo: null });
+    assert.equal(timers[0].milliseconds, 300);
+    timers[0].call();
+    assert.deepEqual([STATE.moduleSaid(), STATE.rejected().length], [null, 1]);
+    type(' '.repeat((1 << 16) + 1));
+    expect({ rejected: [] });
+    assert.equal(ended.at(-1), 1);
+    timers[1].call();
+    expect({ moduleSaid: 'The text is a module, whose binary form has 8 bytes.' });
+  }));
+  for (const [size, said] of [[1 << 20, 'The text is compiled after a pause.'], [(1 << 20) + 1, 'A text of more than a megabyte is not compiled.']]) {
+    await drop(' '.repeat(size));
+    for (let i = 0; i < 100 && STATE.ending() === 'unread'; i += 1) await pause();
+    expect({ moduleSaid: said, bytes: null });
+  }
+  type('(module)');
+  await new Promise((done) => setTimeout(done, 400));
+  expect({ moduleSaid: 'The text is a module, whose binary form has 8 bytes.' });
+}
+
+// A worker that records what is posted to it, and whose replies the test posts.
+const workers = [];
+class Recorded {
+  posted = [];
+  isTerminated = false;
+  constructor(...given) {
+    this.given = given;
+    workers.push(this);
+  }
+  postMessage(data) { this.posted.push(data); }
+  terminate() { this.isTerminated = true; }
+  async reply(data) {
+    this.onmessage({ data });
+    await pause();
+  }
+}
+
+const RUN = '(module (memory (export "m") 1) (func (export "f") (param i32 i64) (result i32) i32.const 0) (func (export "g\\n")) (func (export "v") (param v128)))';
+const NOT_RUN = { ran: null, fields: null, isCalled: false, results: null };
+
+async function running() {
+  globalThis.Worker = Recorded;
+  type(RUN);
+  expect(NOT_RUN);
+  press('run');
+  expect({ ...NOT_RUN, ran: 'The module is being compiled by the browser.' });
+  const [worker] = workers, [{ task, bytes }] = worker.posted;
+  assert.deepEqual([worker.given, task, [...bytes.slice(0, 4)]], [['runner.js', { type: 'module' }], 'start', [0, 97, 115, 109]]);
+  await worker.reply({ isValid: true, isStarted: true });
+  expect({ ran: 'The module is instantiated.', isCalled: true, results: null, menu: ['f', 'g\u21b5'], inputs: ['i32 Argument 1, i32: 0 null', 'i64 Argument 2, i64: 0 null'], fields: ['(export "m" (memory 1))', '(export "f" (func (param i32 i64) (result i32)))', '(export "g\\n" (func))', '(export "v" (func (param v128)))'] });
+  await calls(worker);
+  await endings(worker);
+}
+
+async function calls(worker) {
+  const inputs = () => $('arguments').children.map(inputOf);
+  const submit = async (reply) => {
+    assert.equal($('call').send('submit').isPrevented, true);
+    if (reply) await worker.reply(reply);
+  };
+  inputs()[0].value = '-1';
+  inputs()[1].value = '0x10';
+  await submit();
+  expect({ ran: 'The function is running.' });
+  assert.deepEqual(worker.posted.at(-1), { task: 'call', name: 'f', given: [-1, 16n] });
+  // Another call waits for the reply.
+  await submit({ results: ['7'] });
+  expect({ ran: null, results: 'f(-1, 16) = 7', inputs: ['i32 Argument 1, i32: -1 false', 'i64 Argument 2, i64: 0x10 false'] });
+  assert.equal(worker.posted.length, 2);
+  await submit({ error: 'RuntimeError: unreachable' });
+  expect({ results: 'f(-1, 16) = 7\nf(-1, 16): RuntimeError: unreachable' });
+  inputs()[1].value = 'x';
+  await submit();
+  expect({ ran: 'Argument 2 is not an i64.', inputs: ['i32 Argument 1, i32: -1 false', 'i64 Argument 2, i64: x true'] });
+  assert.deepEqual([document.activeElement === inputs()[1], worker.posted.length], [true, 3]);
+  inputs()[0].value = '';
+  await submit();
+  expect({ ran: 'Argument 1 is not an i32.', inputs: ['i32 Argument 1, i32:  true', 'i64 Argument 2, i64: x false'] });
+  $('callee').selectedIndex = 1;
+  $('callee').send('change');
+  expect({ inputs: [] });
+  await submit({ results: [] });
+  assert.deepEqual([worker.posted.at(-1), STATE.results().split('\n').at(-1)], [{ task: 'call', name: 'g\n', given: [] }, 'g\u21b5() returned no value']);
+  await submit({ results: ['1', 'null'] });
+  assert.equal(STATE.results().split('\n').at(-1), 'g\u21b5() = 1, null');
+  for (let i = 0; i < 97; i += 1) await submit({ results: [String(i)] });
+  assert.deepEqual([STATE.results().split('\n').length, STATE.results().split('\n').at(-1), STATE.results().split('\n')[0]], [100, 'g\u21b5() = 96', 'f(-1, 16): RuntimeError: unreachable']);
+}
+
+// The ends of an instance: after the time limit, by another one, by a change of the text.
+async function endings(worker) {
+  const timers = [];
+  const late = async (event, id) => {
+    await replacing(globalThis, 'setTimeout', (call, milliseconds) => timers.push({ call, milliseconds }), () => $(id).send(event));
+    assert.equal(timers.at(-1).milliseconds, 5000);
+    timers.at(-1).call();
+    await pause();
+  };
+  document.activeElement = $('call');
+  await late('submit', 'call');
+  expect({ ran: 'The instance has ended. Run the module again for another one.', isCalled: false, active: 'run' });
+  assert.deepEqual([worker.isTerminated, STATE.results().split('\n').at(-1)], [true, 'g\u21b5() was stopped after 5 s']);
+  await late('click', 'run');
+  expect({ ...NOT_RUN, ran: 'The module was stopped after 5 s.' });
+  assert.equal(workers.length, 2);
+  press('run');
+  press('run');
+  assert.deepEqual([workers.length, workers[2].isTerminated, workers[3].isTerminated], [4, true, false]);
+  await workers[3].reply({ isValid: true, isStarted: true });
+  expect({ isCalled: true, results: null });
+  $('callee').selectedIndex = 0;
+  $('call').send('submit');
+  type(`${RUN} `);
+  await pause();
+  expect(NOT_RUN);
+  assert.equal(workers[3].isTerminated, true);
+}
+
+// Modules that are not instantiated, and lists that are long.
+async function notRun() {
+  const run = async (text, reply) => {
+    type(text);
+    press('run');
+    await workers.at(-1).reply(reply);
+  };
+  await run('(func (result i32))', { error: 'CompileError: no value' });
+  expect({ ...NOT_RUN, ran: 'The browser rejects the module: CompileError: no value' });
+  await run('(import "a" "f" (func)) (func (export "g"))', { isValid: true, isStarted: false });
+  expect({ ...NOT_RUN, ran: 'The module has imports, so it is not instantiated.', fields: ['(import "a" "f" (func))', '(export "g" (func))'] });
+  await run('(func unreachable) (start 0) (export "f" (func 0))', { isValid: true, isStarted: false, error: 'RuntimeError: unreachable' });
+  expect({ ...NOT_RUN, ran: 'The module could not be instantiated: RuntimeError: unreachable', fields: ['(export "f" (func))'] });
+  await run('(module)', { isValid: true, isStarted: true });
+  expect({ ...NOT_RUN, ran: 'The module is instantiated. It exports no function of numbers.', menu: [], inputs: [] });
+  for (const [count, listed, last] of [[100, 100, '(export "e99" (func))'], [101, 101, 'and 1 more'], [1002, 101, 'and 902 more']]) {
+    await run(`(func $f) ${Array.from({ length: count }, (_, i) => `(export "e${i}" (func $f))`).join(' ')}`, { isValid: true, isStarted: true });
+    assert.deepEqual([STATE.fields().length, STATE.fields().at(-1), STATE.menu().length], [listed, last, Math.min(count, 1000)]);
+  }
+}
+
+async function saving() {
+  const made = [], withdrawn = [], timers = [];
+  type('(module)');
+  await replacing(URL, 'createObjectURL', (blob) => `blob:${made.push(blob)}`, () => replacing(URL, 'revokeObjectURL', (address) => withdrawn.push(address), () => replacing(globalThis, 'setTimeout', (call, milliseconds) => timers.push({ call, milliseconds }), () => {
+    press('save');
+    const [link] = document.clicked;
+    assert.deepEqual([link.tagName, link.href, link.download, made[0].type, withdrawn, timers.length, timers[0].milliseconds], ['a', 'blob:1', 'module.wasm', 'application/wasm', [], 1, 1000]);
+    timers[0].call();
+    assert.deepEqual(withdrawn, ['blob:1']);
+  })));
+  assert.deepEqual(new Uint8Array(await made[0].arrayBuffer()), Uint8Array.of(0, 97, 115, 109, 1, 0, 0, 0));
 }
 
 const UNFORMATTED = 'A text that is only shown is not formatted.';
@@ -631,7 +826,7 @@ async function loading() {
   expect({ value: EXAMPLES[$('example').selectedIndex].text, wrong: 'wrong' });
   assert.match(STATE.said(), /^The link could not be read: /);
   type('(module)');
-  expect({ ending: 'whole', bytes: null });
+  expect({ ending: 'whole', bytes: null, moduleSaid: null });
   assert.equal($('format').hidden, true);
   await flagsOfWorkers();
 }
@@ -656,7 +851,7 @@ async function flagsOfWorkers() {
   assert.deepEqual(seen, [{ allow: false, strict: false }, { allow: false, strict: true }]);
 }
 
-const checks = [opening, typing, theList, theListByKeys, shownTexts, clicks, selections, lineEnds, scrolling, settings, faults, files, counted, binaries, formatting, links, longLinks, longLines, partsOfTexts, loading];
+const checks = [opening, typing, theList, theListByKeys, shownTexts, clicks, selections, lineEnds, scrolling, settings, faults, files, counted, binaries, rejectedTexts, longModules, running, notRun, saving, formatting, links, longLinks, longLines, partsOfTexts, loading];
 for (const it of checks) await it();
 console.log(`paged.mjs: ${checks.length} checks passed`);
 process.exit(0);

@@ -4,12 +4,14 @@
 import assert from 'node:assert/strict';
 import { spawnSync } from 'node:child_process';
 import { readFileSync } from 'node:fs';
+import { dumped, interfaceOf } from './binary.js';
 import { whatCounts } from './counts.js';
+import { cutLines, plural, summaryOf, visible } from './dom.js';
 import { Chance, compare, editOften, readAhead, readOnce } from './edited.mjs';
 import { changeOf, placeInLayout, Places } from './edits.js';
 import { nameOf } from './names.js';
-import { dumped, mayBeTypes } from './types.js';
-import { Document, WatLex, load } from './wat-lex/index.js';
+import { argumentOf, isCallable, printedValue } from './values.js';
+import { CompileError, Document, WatLex, load } from './wat-lex/index.js';
 import { KINDS, Lexer, rowsOfPart } from './wat-lex/lexer.js';
 import { Lines } from './wat-lex/lines.js';
 import { Reader } from './wat-lex/reader.js';
@@ -447,22 +449,71 @@ function significant() {
   }
 }
 
-function types() {
-  const TEXTS = [['(module)', true], ['( module\n)', true], ['(module (type', true], [' (@a b) (module(type (func)))', true], ['(module (func))', false], ['(module $a)', false], ['(module) x', false], ['module', false], ['', false]];
-  for (const [text, may] of TEXTS) {
-    const { tokens: it, bytes } = tokensOf(text);
-    assert.equal(mayBeTypes(it, bytes), may, text);
-  }
+// ---- binary modules
+
+// Compiles a text by the program.
+function bytesBy(text) {
+  const { stdout, stderr, status } = spawnSync(program, ['module'], { input: text });
+  assert.equal(status, 0, stderr.toString());
+  return new Uint8Array(stdout);
+}
+
+function dumps() {
   const bytes = Uint8Array.from({ length: 33 }, (_, i) => 5 * i);
   const lines = ['00000000  00 05 0a 0f 14 19 1e 23 28 2d 32 37 3c 41 46 4b', '00000010  50 55 5a 5f 64 69 6e 73 78 7d 82 87 8c 91 96 9b', '00000020  a0'];
   for (const most of [0, 1, 2, 3, 4]) assert.equal(dumped(bytes, most), lines.slice(0, most).join('\n'));
   assert.equal(dumped(bytes.slice(0, 16), 9), lines[0]);
 }
 
+// Modules, with the fields of their imports and exports, in the order of the module.
+const FIELDS = [
+  ['(module)', []],
+  ['(import "a" "b\\"\\n" (func (param i32 i64) (result f32 f64))) (import "a" "" (memory 1)) (import "\u6f22" "t" (table 0 5 externref)) (import "" "g" (global (mut v128)))',
+    ['(import "a" "b\\"\\n" (func (param i32 i64) (result f32 f64)))', '(import "a" "" (memory 1))', '(import "\u6f22" "t" (table 0 5 externref))', '(import "" "g" (global (mut v128)))']],
+  // The index spaces begin with the imports.
+  ['(type (func)) (import "a" "f" (func (param f64))) (func $f (result i32) i32.const 1) (memory 1 65536) (table 128 funcref) (export "0" (func 0)) (export "1" (func $f)) (export "m" (memory 0)) (export "t" (table 0))',
+    ['(import "a" "f" (func (param f64)))', '(export "0" (func (param f64)))', '(export "1" (func (result i32)))', '(export "m" (memory 1 65536))', '(export "t" (table 128 funcref))']],
+  // The expressions of globals are skipped, whatever bytes their constants have.
+  ['(global $i (import "a" "g") i32) (func $f) (global i32 (i32.const 0x0b)) (global i64 (i64.const -0x7000000000000000)) (global f32 (f32.const nan:0xb0b0b)) (global f64 (f64.const nan:0xb0b0b0b0b0b0b)) (global v128 (v128.const i64x2 0x0b0b0b0b0b0b0b0b 0x0b0b0b0b0b0b0b0b)) (global funcref (ref.func $f)) (global funcref (ref.null func)) (global externref (ref.null extern)) (global (mut i32) (global.get $i)) (global f64 (f64.const 1)) (export "a" (global 9)) (export "b" (global 10)) (export "c" (global 5)) (export "d" (global 8)) (export "e" (global 1)) (export "h" (global 6))',
+    ['(import "a" "g" (global i32))', '(export "a" (global (mut i32)))', '(export "b" (global f64))', '(export "c" (global v128))', '(export "d" (global externref))', '(export "e" (global i32))', '(export "h" (global funcref))']],
+  // Lists and names whose lengths have two bytes.
+  [`${'(func (param i32))'.repeat(130)} (func (result i64) i64.const 0) (export "${'n'.repeat(200)}" (func 130)) (data "${'d'.repeat(300)}")`, [`(export "${'n'.repeat(200)}" (func (result i64)))`]],
+  ['(memory 0 1) (table 0 0 funcref) (func) (start 0) (elem func 0) (data "") (export "m" (memory 0)) (export "t" (table 0))', ['(export "m" (memory 0 1))', '(export "t" (table 0 0 funcref))']],
+];
+
+function interfaces() {
+  for (const [text, fields] of FIELDS) {
+    const { imports, exports } = interfaceOf(bytesBy(text));
+    assert.deepEqual([...imports, ...exports.map(({ field }) => field)], fields, text.slice(0, 60));
+  }
+  const { exports } = interfaceOf(bytesBy('(func (export "f") (param i32 v128) (result i64)) (memory (export "m") 1)'));
+  assert.deepEqual(exports.map(({ name, kind, type }) => [name, kind, type]), [['f', 'func', { params: ['i32', 'v128'], results: ['i64'] }], ['m', 'memory', '1']]);
+}
+
+// Arguments that are typed: the type, the text, and the value or null.
+const TYPED = [
+  ['i32', '0', 0], ['i32', ' -1 ', -1], ['i32', '+7', 7], ['i32', '0x7f_ff', 0x7fff], ['i32', '-0X10', -16], ['i32', '4294967295', -1], ['i32', '2147483648', -2147483648], ['i32', '-2147483648', -2147483648], ['i32', '4294967296', null], ['i32', '-2147483649', null],
+  ['i32', '', null], ['i32', '1.5', null], ['i32', 'x', null], ['i32', '1x', null], ['i32', 'x1', null], ['i32', '--1', null], ['i32', '0x', null], ['i32', '1e3', null],
+  ['i64', '9223372036854775807', 9223372036854775807n], ['i64', '18446744073709551615', -1n], ['i64', '18446744073709551616', null], ['i64', '-9223372036854775808', -(1n << 63n)], ['i64', '-9223372036854775809', null], ['i64', '-0xF', -15n],
+  ['f32', '0.1', 0.1], ['f64', '-1.5e3', -1500], ['f64', '1_0', 10], ['f64', '-0', -0], ['f64', 'inf', Infinity], ['f64', '+Inf', Infinity], ['f64', '-inf', -Infinity], ['f64', 'NaN', NaN], ['f64', '', null], ['f64', 'x', null], ['f64', '  ', null],
+];
+
+function values() {
+  for (const [type, text, value] of TYPED) assert.deepEqual([argumentOf(type, text)], [value], `${type} ${text}`);
+  const shown = [[0, '0'], [-0, '-0'], [1.5, '1.5'], [-5n, '-5'], [0n, '0'], [Infinity, 'inf'], [-Infinity, '-inf'], [NaN, 'nan'], [null, 'null'], [() => {}, 'a function'], [{}, 'a reference']];
+  for (const [value, text] of shown) assert.equal(printedValue(value), text);
+  const CALLED = [[[], [], true], [['i32', 'i64', 'f32', 'f64'], ['funcref', 'i32'], true], [['v128'], [], false], [['i32', 'funcref'], [], false], [['externref'], [], false], [[], ['i32', 'v128'], false]];
+  for (const [params, results, isOne] of CALLED) assert.equal(isCallable({ params, results }), isOne);
+}
+
+function summaries() {
+  assert.deepEqual([summaryOf('a\nb\n     --> <anon>:12:3\n      |'), summaryOf('a at <anon>:1:604'), summaryOf('a at byte offset 3')], ['Line 12, column 3: a\nb', 'Line 1, column 604: a', 'a at byte offset 3']);
+  assert.deepEqual([cutLines('abc\nd\n\nefgh', 2), cutLines('ab', 2), plural(1, 'byte'), plural(0, 'byte'), plural(1234, 'byte'), visible('a\r\n\tb\n')], ['ab\nd\n\nef', 'ab', '1 byte', '0 bytes', '1,234 bytes', 'a\u240d\u21b5\u21e5b\u21b5']);
+}
+
 // ---- whole texts
 
-// Compiles a module by the program.
-const compiled = (text) => new WebAssembly.Module(spawnSync(program, ['module'], { input: text }).stdout);
+const compiled = (text) => new WebAssembly.Module(bytesBy(text));
 const FUNCTIONS = '(func (export "wat_page_answer") (result i32) i32.const -2147483648) (func (export "wat_page_answer_len") (result i32) i32.const 3)';
 const page = (capacity, isMade) => compiled(`(module (memory (export "memory") 32769) (func (export "wat_page_room") (param i32) (result i32) i32.const ${capacity}) (func (export "wat_page_types") (result i32) i32.const ${isMade}) ${FUNCTIONS} (data (i32.const -2147483648) "abcd"))`);
 
@@ -474,9 +525,31 @@ function wholeTexts() {
   assert.equal(new Whole(page(0, 1)).types(encoder.encode('x')), null);
   assert.equal(new Whole(page(-2147483640, 0)).types(encoder.encode('x')), null);
   assert.deepEqual(new Whole(page(-2147483640, 1)).types(encoder.encode('x')), encoder.encode('abc'));
+  compiledTexts();
   const whole = new Whole(module);
   for (const [settings, text] of [[{ allow: true }, ';;\u202e\n'], [{ strict: false }, '"\\u{1__0}"\n'], [{ allow: true }, '"\\u{1__0}"\n'], [undefined, '"\\u{1__0}"\n']]) assert.deepEqual(whole.layOut(encoder.encode(text), settings), encoder.encode(text));
   for (const [settings, text] of [[undefined, ';;\u202e\n'], [{ strict: true }, '"\\u{1__0}"\n']]) assert.equal(whole.layOut(encoder.encode(text), settings), null);
+}
+
+// A substitute for the module whose compiler rejects a text with an error of four bytes, of which two are the message, or runs `body`.
+const rejecting = (length, body = 'i32.const 0') => compiled(`(module (memory (export "memory") 1) (func (export "wat_page_room") (param i32) (result i32) i32.const 1024) (func (export "wat_page_compile") (result i32) ${body})
+  (func (export "wat_page_answer") (result i32) i32.const 16) (func (export "wat_page_answer_len") (result i32) i32.const ${length}) (func (export "wat_page_message_len") (result i32) i32.const 2)
+  (func (export "wat_page_error_offset") (result i32) i32.const -1) (data (i32.const 16) "ab:c"))`);
+
+function compiledTexts() {
+  const whole = new Whole(module), given = encoder.encode('(func \u{1f600})');
+  assert.deepEqual(whole.compile(encoder.encode('(func nop)')), { bytes: bytesBy('(func nop)') });
+  const { stderr } = spawnSync(program, ['module'], { input: '(module\n frob)' });
+  const { error } = whole.compile(encoder.encode('(module\n frob)'));
+  assert.deepEqual([error.offset, `${error.printed}\n`, error.printed.startsWith(`${error.message}\n`)], [9, stderr.toString(), true]);
+  assert.deepEqual([whole.compile(Uint8Array.of(97, 255)), whole.compile(new Uint8Array())], [null, { bytes: bytesBy('') }]);
+  assert.deepEqual(new Whole(rejecting(4)).compile(given), { error: { message: 'ab', offset: 2 ** 32 - 1, printed: 'ab:c' } });
+  // There is no memory for the result, or for the error's message: the next text is compiled by another instance.
+  assert.equal(new Whole(rejecting(0)).compile(given), null);
+  const trapping = new Whole(rejecting(4, '(global.get $n) (global.set $n (i32.const 1)) (if (i32.eqz) (then unreachable)) i32.const 0) (global $n (mut i32) (i32.const 0)) (func'));
+  for (let i = 0; i < 2; i += 1) assert.equal(trapping.compile(given), null);
+  const unserved = new Whole(compiled('(module (memory (export "memory") 1))'));
+  assert.throws(() => unserved.compile(given), { message: 'this module only reads tokens' });
 }
 
 // ---- the package
@@ -507,9 +580,37 @@ function documents() {
   it.change(0, 0, '"\\u{1__0}"');
   assert.deepEqual([it.fault, wat.lex(';;\u202e').fault.start, wat.lex('"\\u{1__0}"', { strictUnderscores: true }).fault.line], [null, 2, 0]);
   assert.equal(wat.open('\ufeff(a)').text, '\ufeff(a)');
+  compiledDocuments();
   const long = wat.lex(`${'x'.repeat(600)} "\\q`).fault;
   assert.deepEqual([long.message, long.printed, long.column], ["invalid string escape 'q'", "invalid string escape 'q' at <anon>:1:604", 603]);
   assert.deepEqual([new Document(module).text, new Document(module, 'a').count], ['', 1]);
+}
+
+function compiledDocuments() {
+  const it = wat.open('(module\n  (; \u{1f600} ;) (func frob))');
+  const error = thrownBy(() => it.compile());
+  assert.ok(error instanceof CompileError && error instanceof Error);
+  const { name, message, offset, line, column, printed } = error;
+  const { stderr } = spawnSync(program, ['module'], { input: it.text });
+  assert.deepEqual([name, offset, line, column, `${printed}\n`, printed.startsWith(`${message}\n`)], ['CompileError', 25, 1, 17, stderr.toString(), true]);
+  assert.deepEqual(thrownBy(() => wat.compile(it.text)).message, message);
+  it.change(25, 29, 'nop');
+  assert.deepEqual([it.compile(), wat.compile(it.text)], [bytesBy(it.text), bytesBy(it.text)]);
+  // The standard allows confusing characters, and not two underscores in a row, whatever the flags of the lexer.
+  assert.deepEqual([thrownBy(() => wat.compile('(module "\\q')).offset, wat.compile(';;\u202e'), thrownBy(() => wat.compile('(data "\\u{1__0}")')).offset], [10, bytesBy(''), 12]);
+  const { compile } = Whole.prototype;
+  Whole.prototype.compile = () => null;
+  assert.throws(() => it.compile(), { name: 'RangeError', message: 'there is no memory to compile the text' });
+  Whole.prototype.compile = compile;
+}
+
+function thrownBy(call) {
+  try {
+    call();
+  } catch (error) {
+    return error;
+  }
+  return null;
 }
 
 // Changes of a document that are rejected, by the error that they throw.
@@ -550,6 +651,6 @@ async function loading() {
   globalThis.fetch = fetch;
 }
 
-const checks = [rows, tokens, memory, partsOfTexts, places, layoutPlaces, significant, types, names, documents, rejections, loading, kept, stretches, editing, halves, counting, changes, longMessages, wholeTexts];
+const checks = [rows, tokens, memory, partsOfTexts, places, layoutPlaces, significant, dumps, interfaces, values, summaries, names, documents, rejections, loading, kept, stretches, editing, halves, counting, changes, longMessages, wholeTexts];
 for (const check of checks) await check();
 console.log(`parts.mjs: ${checks.length} checks passed`);

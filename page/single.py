@@ -13,8 +13,9 @@ import sys
 folder = pathlib.Path(sys.argv[1])
 # The scripts, each after those that it imports.
 PACKAGE = [f"wat-lex/{name}.js" for name in ("lexer", "sums", "lines", "rows", "reader", "tokens", "whole")]
-SCRIPTS = [*PACKAGE, *(f"{name}.js" for name in ("sight", "columns", "ahead", "edits", "names", "counts", "types", "examples", "link", "page"))]
-WORKER = ["wat-lex/lexer.js", "worker.js"]
+SCRIPTS = [*PACKAGE, *(f"{name}.js" for name in ("dom", "sight", "columns", "ahead", "edits", "names", "counts", "binary", "values", "run", "module", "examples", "link", "page"))]
+# The scripts of each worker.
+WORKERS = {"worker.js": ["wat-lex/lexer.js", "worker.js"], "runner.js": ["values.js", "runner.js"]}
 
 
 def read(name):
@@ -41,11 +42,12 @@ script = replaced(
     "await fetch('wat-lex/wat_lex.wasm').then((answer) => answer.arrayBuffer())",
     f"Uint8Array.from(atob('{module}'), (it) => it.charCodeAt(0))",
 )
-script = replaced(
-    script,
-    "new Worker('worker.js', { type: 'module' })",
-    f"new Worker(URL.createObjectURL(new Blob([{json.dumps(joined(WORKER))}], {{ type: 'text/javascript' }})))",
-)
+for name, scripts in WORKERS.items():
+    script = replaced(
+        script,
+        f"new Worker('{name}', {{ type: 'module' }})",
+        f"new Worker(URL.createObjectURL(new Blob([{json.dumps(joined(scripts))}], {{ type: 'text/javascript' }})))",
+    )
 script = f"\n{script}"
 style = f"\n{read('style.css')}"
 

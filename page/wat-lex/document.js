@@ -18,6 +18,16 @@ function checkString(given) {
   if (typeof given !== 'string') throw new TypeError(`a string was expected, not ${typeof given}`);
 }
 
+// The error of the compiler in a text that is not a module. Its offset is in UTF-16 code units; its line and column count from 0.
+export class CompileError extends Error {
+  name = 'CompileError';
+
+  constructor({ message, offset, line, column, printed }) {
+    super(message);
+    Object.assign(this, { offset, line, column, printed });
+  }
+}
+
 export class Document {
   #reader;
   #units;
@@ -94,18 +104,33 @@ export class Document {
 
   // The lexical error that ends the tokens, or null. Its line and column count from 0.
   get fault() {
-    const { ending, offset, line, lines, message } = this.#reader;
+    const { ending, offset, message } = this.#reader;
     if (ending !== 'faulty') return null;
-    const start = this.#units.at(offset);
     // Only the first line of a message with a column above 500 has the location.
     const [what] = message.split('\n')[0].split(' at <anon>:');
-    return { start, line, column: start - this.#units.at(lines.start(line)), message: what, printed: message };
+    const { offset: start, line, column } = this.#locate(offset);
+    return { start, line, column, message: what, printed: message };
+  }
+
+  // Returns a byte's offset, line and column in UTF-16 code units.
+  #locate(byte) {
+    const { lines } = this.#reader, line = lines.at(byte), offset = this.#units.at(byte);
+    return { offset, line, column: offset - this.#units.at(lines.start(line)) };
   }
 
   // Returns the formatted text, or null if the text has a lexical error or memory runs out.
   format() {
     const laidOut = this.#reader.ending === 'whole' ? this.#whole.layOut(this.#reader.bytes, this.#flags) : null;
     return laidOut && decoder.decode(laidOut);
+  }
+
+  // Returns the binary module. Throws a `CompileError` if the text is not a module by the standard's rules, and a `RangeError` if memory runs out.
+  compile() {
+    const compiled = this.#whole.compile(this.#reader.bytes);
+    if (!compiled) throw new RangeError('there is no memory to compile the text');
+    const { bytes, error } = compiled;
+    if (error) throw new CompileError({ ...error, ...this.#locate(error.offset) });
+    return bytes;
   }
 
   // Returns the binary module, or null if the text is not a module of function types alone or memory runs out.

@@ -25,6 +25,19 @@ export interface Fault {
   printed: string;
 }
 
+/** The error of the compiler in a text that is not a module: a lexical error, or a syntax error at the token that no rule accepts. */
+export declare class CompileError extends Error {
+  readonly name: 'CompileError';
+  /** Offset in UTF-16 code units. */
+  readonly offset: number;
+  /** Index of the line, counted from 0. */
+  readonly line: number;
+  /** Offset in the line, in UTF-16 code units, counted from 0. */
+  readonly column: number;
+  /** The error as the program prints it: message, location, and the line with a marker. */
+  readonly printed: string;
+}
+
 /** The settings of the lexer, which are off by default. */
 export interface Flags {
   /** Allows U+202A, U+202B, U+202D, U+202E, U+2066 to U+2069 and U+206C, which change how a text is displayed, in comments and strings. */
@@ -71,6 +84,11 @@ export declare class Document implements Iterable<Token> {
   replace(text: string, flags?: Flags): void;
   /** Returns the formatted text, or null if the text has a lexical error or memory runs out. */
   format(): string | null;
+  /**
+   * Returns the binary module, which is not validated. Throws a `CompileError` if the text is not a module of WebAssembly 2.0 by the standard's rules,
+   * whatever the flags, and a `RangeError` if memory runs out.
+   */
+  compile(): Uint8Array;
   /** Returns the binary module, or null if the text is not a module of function types alone or memory runs out. */
   types(): Uint8Array | null;
   /** Iterates over all tokens. */
@@ -87,6 +105,11 @@ export declare class WatLex {
   lex(text: string, flags?: Flags): { tokens: Token[]; fault: Fault | null };
   /** Returns the formatted text, or null if the text has a lexical error or memory runs out. */
   format(text: string): string | null;
+  /**
+   * Returns the binary module, which is not validated. Throws a `CompileError` if the text is not a module of WebAssembly 2.0, and a `RangeError` if
+   * memory runs out.
+   */
+  compile(text: string): Uint8Array;
   /** Returns the binary module, or null if the text is not a module of function types alone or memory runs out. */
   types(text: string): Uint8Array | null;
 }

@@ -1,7 +1,7 @@
 // The package's entry for environments in which `fetch` finds the module next to this file: browsers, workers, Deno.
 import { Document } from './document.js';
 
-export { Document } from './document.js';
+export { CompileError, Document } from './document.js';
 export { KINDS } from './lexer.js';
 
 // A lexer over a compiled module.
@@ -23,6 +23,9 @@ export class WatLex {
 
   // Returns the formatted text, or null if the text has a lexical error or memory runs out.
   format(text) { return this.#once(text).format(); }
+
+  // Returns the binary module. Throws a `CompileError` if the text is not a module, and a `RangeError` if memory runs out.
+  compile(text) { return this.#once(text).compile(); }
 
   // Returns the binary module, or null if the text is not a module of function types alone or memory runs out.
   types(text) { return this.#once(text).types(); }

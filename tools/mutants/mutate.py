@@ -547,7 +547,7 @@ def script_suites(tree, program):
     """Returns the commands that test all of the page in a tree, the fastest first."""
     for name in ("packaged.mjs", "agree.mjs"):
         yield Suite(name, ["node", f"page/{name}", str(program)], tree, called=imported(tree, f"page/{name}"), is_limited=False)
-    opened = imported(tree, "page/page.js") | imported(tree, "page/worker.js")
+    opened = frozenset().union(*(imported(tree, f"page/{name}.js") for name in ("page", "worker", "runner")))
     yield Suite("browser.mjs", ["env", "QUICK=1", "node", "page/browser.mjs", str(program)], tree, called=opened, is_limited=False)
 
 

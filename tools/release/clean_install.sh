@@ -276,7 +276,7 @@ the_page() {
     for width in 360 1200; do
         said=$("$chromium" --headless --no-sandbox --disable-gpu --disable-dev-shm-usage --no-first-run --user-data-dir="$work/profile" \
             --window-size="$width,900" --virtual-time-budget=20000 --dump-dom "file://$PWD/$release/page/wat.html" 2> "$work/log") || fail "the page: $(cat "$work/log")"
-        grep -q 'data-ready="yes"' <<< "$said" && grep -q '>No fault\.<' <<< "$said" && grep -q 'class="Keyword"' <<< "$said" \
+        grep -q 'data-ready="yes"' <<< "$said" && grep -q '>No lexical error\.<' <<< "$said" && grep -q 'class="Keyword"' <<< "$said" \
             || fail "the page, $width pixels: $(grep -o '<span id="report".*' <<< "$said" | head -c 400)"
         say "the page in $("$chromium" --version 2> /dev/null), $width pixels: read, in colours"
     done
