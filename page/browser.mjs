@@ -337,7 +337,7 @@ async function examples() {
     await ask(`{ const it = document.querySelector('#example'); it.selectedIndex = ${i}; it.dispatchEvent(new Event('change')); }`);
     const page = await ask(SHOWN);
     assert.equal(page.ending, name.startsWith('A fault') ? 'faulty' : 'whole', name);
-    assert.equal(page.bytes !== null, isServed && compiledBy(await valueOf('text')).status === 0, name);
+    assert.equal(page.bytes !== null, isServed && page.ending === 'whole' && compiledBy(await valueOf('text')).status === 0, name);
   }
   await ask("document.querySelector('#example').focus()");
   await key('Home');

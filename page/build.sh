@@ -1,8 +1,8 @@
 #!/usr/bin/env bash
 # Builds the npm package, page/out/wat-lex, and the page over it: the folder page/out, for a server, and page/out/wat.html, one file that opens
 # without a server. cargo builds the module from rust/wat-page: rustup's, if its rustc has the target wasm32-unknown-unknown, otherwise Debian's, with
-# tools/lib/cargo_with_std.sh. If neither is available, or with BY=rattle, Rattle's compiler builds it from the proved sources, without `format` and
-# `types`, and binaryen's wasm-opt lowers its memory to 32 bits. With BY=cargo, a missing cargo is an error. Needs python3.
+# tools/lib/cargo_with_std.sh. If neither is available, or with BY=rattle, Rattle's compiler builds it from the proved sources, without `format`,
+# `compile` and `types`, and binaryen's wasm-opt lowers its memory to 32 bits. With BY=cargo, a missing cargo is an error. Needs python3.
 #
 #   WASM_CARGO=COMMAND  another cargo whose rustc has the target
 #

@@ -255,7 +255,7 @@ console.log(tokens.filter(({ kind }) => kind !== 'Whitespace').map(({ kind, star
 const document = (await load()).open('(module\n( func "é" $f ) )');
 document.change(21, 21, 'oo');
 console.log(document.text.slice(document.start(9), document.end(9)));
-if (process.argv.length > 2) console.log(JSON.stringify(document.format()), (await load()).types('(module (type (func)))').length);
+if (process.argv.length > 2) console.log(JSON.stringify(document.format()), (await load()).compile('(module (type (func)))').length);
 document.change(16, 17, '\\q');
 const { start, line, column, message } = document.fault;
 console.log(start, line, column, message);
@@ -264,9 +264,9 @@ JS
     local faulty=$'\n17 1 9 invalid string escape \'q\''
     expect 'Node: a program, no flag' "$read$faulty" node node_project/main.js
     if grep -qa wat_page_room node_project/node_modules/wat-lex/wat_lex.wasm; then
-        expect 'Node: formatted text and the binary of types' "$read$formatted$faulty" node node_project/main.js formatted
+        expect 'Node: formatted text and a binary module' "$read$formatted$faulty" node node_project/main.js formatted
     else
-        say "Node: formatted text and binaries of types: skipped: the package's module is that of Rattle's compiler"
+        say "Node: formatted text and binary modules: skipped: the package's module is that of Rattle's compiler"
     fi
 }
 
