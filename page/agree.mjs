@@ -6,6 +6,7 @@
 import { spawnSync } from 'node:child_process';
 import { existsSync, readFileSync, readdirSync } from 'node:fs';
 import { fileURLToPath } from 'node:url';
+import { interfaceOf } from './binary.js';
 import { whatCounts } from './counts.js';
 import { Chance, compare, editOften, readAhead, readOnce } from './edited.mjs';
 import { KINDS, Lexer } from './wat-lex/lexer.js';
@@ -41,7 +42,7 @@ function ran(words, input) {
 const flagsOf = (words) => Object.fromEntries(words.filter((word) => word in FLAGS).map((word) => [FLAGS[word], true]));
 const lineOf = (tokens, i) => `${tokens.start(i)}..${tokens.end(i)} ${tokens.kind(i)}\n`;
 
-const seen = { stored: 0, tokens: 0, faults: 0, edits: 0, stretches: 0, signatures: 0, counting: 0, wrong: 0, modules: 0, refused: 0, compiled: 0, uncompiled: 0, other: [] };
+const seen = { stored: 0, tokens: 0, faults: 0, edits: 0, stretches: 0, signatures: 0, counting: 0, wrong: 0, modules: 0, refused: 0, compiled: 0, uncompiled: 0, valid: 0, other: [] };
 
 // Compares the list and the reported error with both streams of the program.
 function compareTokens(name, bytes, words) {
@@ -123,6 +124,18 @@ function compareModules(name, bytes) {
   seen[mine ? 'compiled' : 'uncompiled'] += 1;
   const isSame = its.isRefused ? error && its.fault === `${error.printed}\n` && error.printed.startsWith(error.message) : mine && its.output.equals(mine);
   if (!isSame) seen.other.push(`${name}: module`);
+  if (mine && WebAssembly.validate(mine)) compareInterfaces(name, mine);
+}
+
+// Compares the imports and the exports of a valid module with those that node's engine lists.
+function compareInterfaces(name, mine) {
+  const { imports, exports } = interfaceOf(mine), compiled = new WebAssembly.Module(mine);
+  const kinds = { function: 'func' };
+  const imported = WebAssembly.Module.imports(compiled).map((it) => `(import ${JSON.stringify(it.module)} ${JSON.stringify(it.name)} (${kinds[it.kind] ?? it.kind}`);
+  const exported = WebAssembly.Module.exports(compiled).map((it) => `${it.name} ${kinds[it.kind] ?? it.kind}`);
+  seen.valid += 1;
+  const isSame = imported.length === imports.length && imported.every((start, i) => imports[i].startsWith(start));
+  if (!isSame || exported.join('\n') !== exports.map((it) => `${it.name} ${it.kind}`).join('\n')) seen.other.push(`${name}: interface`);
 }
 
 const GENERATE = `import json, sys
@@ -213,4 +226,4 @@ for (const strict of [false, true]) {
 const { other, ...counts } = seen;
 for (const name of other.slice(0, 20)) console.log(`other than the program: ${name.slice(0, 200)}`);
 console.log(`agree.mjs: ${Object.entries(counts).map(([what, count]) => `${what} ${count}`).join(', ')}; ${other.length} differ`);
-process.exit(other.length > 0 || seen.stored === 0 || (whole.isServed && Math.min(seen.modules, seen.compiled, seen.uncompiled) === 0) ? 1 : 0);
+process.exit(other.length > 0 || seen.stored === 0 || (whole.isServed && Math.min(seen.modules, seen.compiled, seen.uncompiled, seen.valid) === 0) ? 1 : 0);

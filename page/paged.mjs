@@ -564,7 +564,6 @@ async function longModules() {
     expect({ moduleSaid: said, bytes: null });
   }
   type('(module)');
-  await new Promise((done) => setTimeout(done, 400));
   expect({ moduleSaid: 'The text is a module, whose binary form has 8 bytes.' });
 }
 
