@@ -861,9 +861,9 @@ async function timesOfOpening() {
 // Takes a picture of each scheme: of a module that runs, and of an error of the compiler.
 async function takePictures() {
   await visit(origin);
-  await send('Emulation.setDeviceMetricsOverride', { width: 1100, height: 1100, deviceScaleFactor: 1, mobile: false });
   await ask("for (const id of ['editor', 'list']) document.querySelector(`#${id}`).style.height = '20rem'");
-  for (const [scheme, example] of [['light', 1], ['dark', 2]]) {
+  for (const [scheme, example, height] of [['light', 1, 1080], ['dark', 2, 830]]) {
+    await send('Emulation.setDeviceMetricsOverride', { width: 1100, height, deviceScaleFactor: 1, mobile: false });
     await send('Emulation.setEmulatedMedia', { features: [{ name: 'prefers-color-scheme', value: scheme }] });
     await ask(`{ const it = document.querySelector('#example'); it.selectedIndex = ${example}; it.dispatchEvent(new Event('change')); }`);
     if (isServed && scheme === 'light') {

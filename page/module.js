@@ -1,5 +1,5 @@
 // The part of the page on the binary module: its size and bytes, or the compiler's error; a button that saves it; and its instance, whose functions can
-// be called.
+// be called. All of the module's code runs in a worker.
 import { dumped, interfaceOf } from './binary.js';
 import { $, cutLines, element, plural, summaryOf, tell, visible } from './dom.js';
 import { LIMIT, Runner } from './run.js';

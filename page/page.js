@@ -106,7 +106,7 @@ function piecesOf(line, part, held, matched) {
     at = pieces.putFault(part.to);
   }
   pieces.put('unread', at, part.to);
-  if (rejected === bytes.length && line === lines.count - 1) pieces.put('rejected', rejected, rejected, '▏');
+  if (rejected === bytes.length && part.to === rejected && line === lines.count - 1) pieces.put('rejected', rejected, rejected, '▏');
   if (isCaretAt(bytes.length) && line === lines.count - 1) pieces.putCaret();
   return pieces.all;
 }

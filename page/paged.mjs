@@ -533,6 +533,9 @@ function rejectedTexts() {
   assert.deepEqual(document.revealed, ['text']);
   type('(module)');
   expect({ rejected: [], moduleGo: null, moduleMessage: null });
+  // The end of a line that is cut is not in sight.
+  type(`(module ${' '.repeat(6000)}`);
+  assert.deepEqual([STATE.rejected(), STATE.moduleGo().startsWith('Line 1, column 6009: ')], [[], true]);
   type(`frob ${'x'.repeat(6000)}`);
   assert.equal(STATE.moduleMessage().split('\n')[3].length, 4000);
   type('x (@d (y)');

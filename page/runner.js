@@ -4,7 +4,7 @@ import { printedValue } from './values.js';
 let instance;
 
 const tasks = {
-  // Replies if the module is valid, and instantiated.
+  // Instantiates a module without imports. The reply has `isValid`, `isStarted` if there is an instance, and the `error` of one that could not be made.
   async start({ bytes }) {
     const module = await WebAssembly.compile(bytes);
     if (WebAssembly.Module.imports(module).length > 0) return { isValid: true, isStarted: false };
