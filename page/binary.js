@@ -18,7 +18,8 @@ const SECTIONS = { type: 1, import: 2, func: 3, table: 4, memory: 5, global: 6, 
 // The index spaces, by the codes of external kinds.
 const SPACES = ['func', 'table', 'memory', 'global'];
 // The opcodes of constant expressions with an immediate of a fixed size, in bytes; those with an index or an integer; `end`; and the prefix of vectors.
-const FIXED = { 0x43: 4, 0x44: 8, 0xd0: 1 };
+// Others have no immediate, except `ref.null`, whose type is skipped like an opcode.
+const FIXED = { 0x43: 4, 0x44: 8 };
 const INDEXED = [0x23, 0x41, 0x42, 0xd2];
 const END = 0x0b;
 const VECTOR = 0xfd;
@@ -33,7 +34,7 @@ class BinaryReader {
 
   constructor(bytes) { this.#bytes = bytes; }
 
-  get isAtEnd() { return this.#at >= this.#bytes.length; }
+  get isAtEnd() { return this.#at === this.#bytes.length; }
   get at() { return this.#at; }
   goTo(at) { this.#at = at; }
 

@@ -50,7 +50,6 @@ export class ModulePart {
   // Ends the instance, and hides its part of the page.
   #end() {
     this.#runner.stop();
-    this.#functions = [];
     this.#results = [];
     for (const id of ['results', 'ran']) tell(id, '');
     for (const id of ['interface', 'call']) $(id).hidden = true;
@@ -119,7 +118,7 @@ export class ModulePart {
   async #call() {
     if (this.#runner.isBusy) return;
     const given = this.#arguments(), { name } = this.#chosen;
-    if (!given) return;
+    if (given === null) return;
     tell('ran', 'The function is running.');
     const reply = await this.#runner.ask({ task: 'call', name, given });
     if (!reply) return;

@@ -113,6 +113,8 @@ async function opening() {
   await import('./page.js');
   for (let i = 0; i < 100 && document.body.dataset.ready !== 'yes'; i += 1) await pause();
   expect({ value: EXAMPLES[0].text, said: 'No lexical error.', wrong: '', ending: 'whole', isHidden: false, place: 'Line 1, character 1, byte 0', selection: [0, 0] });
+  const listening = ['save', 'run', 'callee', 'call', 'module-go'].map((id) => Object.keys($(id).listeners).join());
+  assert.deepEqual(listening, ['click', 'click', 'change', 'submit', 'click']);
   assert.deepEqual([document.body.dataset.ready, $('example').children.map((it) => it.textContent), $('format').hidden], ['yes', EXAMPLES.map((it) => it.name), false]);
   for (const [i, { text, name }] of EXAMPLES.entries()) {
     $('example').selectedIndex = i;
@@ -633,7 +635,9 @@ async function calls(worker) {
   expect({ inputs: [] });
   await submit({ results: [] });
   assert.deepEqual([worker.posted.at(-1), STATE.results().split('\n').at(-1)], [{ task: 'call', name: 'g\n', given: [] }, 'g\u21b5() returned no value']);
+  $('results').scrollHeight = 500;
   await submit({ results: ['1', 'null'] });
+  assert.equal($('results').scrollTop, 500);
   assert.equal(STATE.results().split('\n').at(-1), 'g\u21b5() = 1, null');
   for (let i = 0; i < 97; i += 1) await submit({ results: [String(i)] });
   assert.deepEqual([STATE.results().split('\n').length, STATE.results().split('\n').at(-1), STATE.results().split('\n')[0]], [100, 'g\u21b5() = 96', 'f(-1, 16): RuntimeError: unreachable']);
@@ -660,7 +664,10 @@ async function endings(worker) {
   assert.deepEqual([workers.length, workers[2].isTerminated, workers[3].isTerminated], [4, true, false]);
   await workers[3].reply({ isValid: true, isStarted: true });
   expect({ isCalled: true, results: null });
-  $('callee').selectedIndex = 0;
+  $('callee').selectedIndex = 1;
+  $('call').send('submit');
+  await workers[3].reply({ results: [] });
+  expect({ results: 'g\u21b5() returned no value' });
   $('call').send('submit');
   type(`${RUN} `);
   await pause();
@@ -683,6 +690,8 @@ async function notRun() {
   expect({ ...NOT_RUN, ran: 'The module could not be instantiated: RuntimeError: unreachable', fields: ['(export "f" (func))'] });
   await run('(module)', { isValid: true, isStarted: true });
   expect({ ...NOT_RUN, ran: 'The module is instantiated. It exports no function of numbers.', menu: [], inputs: [] });
+  await run('(func (export "f"))', { isValid: true, isStarted: true });
+  expect({ ran: 'The module is instantiated.', menu: ['f'] });
   for (const [count, listed, last] of [[100, 100, '(export "e99" (func))'], [101, 101, 'and 1 more'], [1002, 101, 'and 902 more']]) {
     await run(`(func $f) ${Array.from({ length: count }, (_, i) => `(export "e${i}" (func $f))`).join(' ')}`, { isValid: true, isStarted: true });
     assert.deepEqual([STATE.fields().length, STATE.fields().at(-1), STATE.menu().length], [listed, last, Math.min(count, 1000)]);

@@ -465,6 +465,12 @@ function dumps() {
   assert.equal(dumped(bytes.slice(0, 16), 9), lines[0]);
 }
 
+// Types of globals, with expressions.
+const GLOBALS = [
+  ['i32', 'i32.const 11'], ['i64', 'i64.const 11'], ['i64', 'i64.const -0x7000000000000000'], ['f32', 'f32.const nan:0xb0b0b'], ['f64', 'f64.const nan:0xb0b0b0b0b0b0b'], ['v128', 'v128.const i64x2 0x0b0b0b0b0b0b0b0b 0x0b0b0b0b0b0b0b0b'],
+  ['funcref', 'ref.func 11'], ['funcref', 'ref.null func'], ['externref', 'ref.null extern'], ['(mut i32)', 'global.get 11'], ['i32', 'i32.add (i32.const 11) (i32.const 11)'], ['(mut f64)', 'f64.const 1'], ['i64', 'i64.const 0'],
+];
+
 // Modules, with the fields of their imports and exports, in the order of the module.
 const FIELDS = [
   ['(module)', []],
@@ -473,9 +479,9 @@ const FIELDS = [
   // The index spaces begin with the imports.
   ['(type (func)) (import "a" "f" (func (param f64))) (func $f (result i32) i32.const 1) (memory 1 65536) (table 128 funcref) (export "0" (func 0)) (export "1" (func $f)) (export "m" (memory 0)) (export "t" (table 0))',
     ['(import "a" "f" (func (param f64)))', '(export "0" (func (param f64)))', '(export "1" (func (result i32)))', '(export "m" (memory 1 65536))', '(export "t" (table 128 funcref))']],
-  // The expressions of globals are skipped, whatever bytes their constants have.
-  ['(global $i (import "a" "g") i32) (func $f) (global i32 (i32.const 0x0b)) (global i64 (i64.const -0x7000000000000000)) (global f32 (f32.const nan:0xb0b0b)) (global f64 (f64.const nan:0xb0b0b0b0b0b0b)) (global v128 (v128.const i64x2 0x0b0b0b0b0b0b0b0b 0x0b0b0b0b0b0b0b0b)) (global funcref (ref.func $f)) (global funcref (ref.null func)) (global externref (ref.null extern)) (global (mut i32) (global.get $i)) (global f64 (f64.const 1)) (export "a" (global 9)) (export "b" (global 10)) (export "c" (global 5)) (export "d" (global 8)) (export "e" (global 1)) (export "h" (global 6))',
-    ['(import "a" "g" (global i32))', '(export "a" (global (mut i32)))', '(export "b" (global f64))', '(export "c" (global v128))', '(export "d" (global externref))', '(export "e" (global i32))', '(export "h" (global funcref))']],
+  // The expressions of globals are skipped, even if their constants and indices have bytes like `end`.
+  [`(global $i (import "a" "g") i32) ${GLOBALS.map(([type, expression]) => `(global ${type} (${expression}))`).join(' ')} ${Array.from({ length: GLOBALS.length + 1 }, (_, i) => `(export "${i}" (global ${i}))`).join(' ')}`,
+    ['(import "a" "g" (global i32))', '(export "0" (global i32))', ...GLOBALS.map(([type], i) => `(export "${i + 1}" (global ${type}))`)]],
   // Lists and names whose lengths have two bytes.
   [`${'(func (param i32))'.repeat(130)} (func (result i64) i64.const 0) (export "${'n'.repeat(200)}" (func 130)) (data "${'d'.repeat(300)}")`, [`(export "${'n'.repeat(200)}" (func (result i64)))`]],
   ['(memory 0 1) (table 0 0 funcref) (func) (start 0) (elem func 0) (data "") (export "m" (memory 0)) (export "t" (table 0))', ['(export "m" (memory 0 1))', '(export "t" (table 0 0 funcref))']],
