@@ -821,6 +821,7 @@ const refuse = () => { throw new RangeError('refused'); };
 
 // A page that cannot load the module says so.
 async function loading() {
+  assert.equal(document.body.dataset.ready, 'yes');
   await replacing(globalThis, 'fetch', async () => refuse(), async () => {
     await import('./page.js?again');
     for (let i = 0; i < 100 && !$('said').textContent.startsWith('The lexer'); i += 1) await pause();
