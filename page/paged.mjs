@@ -314,6 +314,9 @@ async function longLines() {
   await drop(`${x(2000)}\u{1}${x(3000)}\r`);
   key('view', 'Home');
   assert.deepEqual(linesOf()[0], ['|true', `Keyword held 0 ${x(2000)}`]);
+  await drop(`"${x(1999)}\ny\r`);
+  key('view', 'Home');
+  assert.deepEqual(linesOf()[0], ['|true', `unread 0 "${x(1999)}`]);
   for (const [count, drawn] of [[1999, 2000], [2000, 113]]) {
     type(`\n\n${x(count)}\n`);
     assert.equal($('seen').children[2].textContent.length, drawn);
