@@ -561,6 +561,8 @@ async function formatting() {
   for (const [given, answer] of [[laid, 'The text is formatted already.'], ['', 'The text is formatted already.'], ['( a "', 'A text with a fault is not formatted.'], [deep, 'Formatted it would have more than a megabyte, and is left as it is.']]) {
     await type(given);
     await press('#format');
+    // A busy browser may act on the press later.
+    for (let i = 0; i < 200 && !(await ask("document.querySelector('#formatted').textContent")); i += 1) await pause(25);
     assert.deepEqual([await ask("document.querySelector('#formatted').textContent"), await valueOf('text')], [answer, given]);
   }
   await drop('( a )\r');
