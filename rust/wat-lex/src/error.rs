@@ -4,6 +4,7 @@ use crate::proved::error::pieces::{Piece, write_chunks};
 use crate::shim::alloc::{Global, granted};
 use crate::shim::boxed::Box;
 use crate::{LexError, Span};
+use alloc::format;
 use alloc::string::{String, ToString};
 use core::fmt::{self, Write as _};
 use core::str;
@@ -37,6 +38,8 @@ pub struct Error(Option<Box<Located>>);
 #[derive(Debug)]
 struct Located {
     error: proved::error::Error,
+    /// The message, if it is static. The verified error has an empty message then. Otherwise empty.
+    message: &'static str,
     #[cfg(feature = "std")]
     path: Option<PathBuf>,
 }
@@ -50,6 +53,30 @@ impl Error {
     #[must_use]
     pub fn new(span: Span, message: String) -> Error {
         proved::error::Error::new(span, message.into()).into()
+    }
+
+    /// Creates an error with a static message at an offset of a text. Becomes an out-of-memory error if an allocation fails.
+    #[doc(hidden)]
+    #[must_use]
+    #[cold]
+    pub fn in_text(span: Span, text: &str, message: &'static str) -> Error {
+        let none = crate::shim::string::String::new(Global);
+        let error = proved::error::Error::parse(Global, span, text, none);
+        Error::located(error, message)
+    }
+
+    /// Boxes an error. Becomes an out-of-memory error if the box cannot be allocated.
+    fn located(error: proved::error::Error, message: &'static str) -> Error {
+        if error.is_out_of_memory() {
+            return Error(None);
+        }
+        let located = Located {
+            error,
+            message,
+            #[cfg(feature = "std")]
+            path: None,
+        };
+        Error(Box::new(Global, located).ok())
     }
 
     /// Returns the offset of the error, or 0 for an out-of-memory error.
@@ -77,7 +104,7 @@ impl Error {
     #[must_use]
     pub fn message(&self) -> String {
         match &self.0 {
-            Some(located) => granted(located.error.message(Global)).into(),
+            Some(located) => located.message(),
             None => OUT_OF_MEMORY.to_string(),
         }
     }
@@ -99,6 +126,13 @@ impl Error {
 }
 
 impl Located {
+    fn message(&self) -> String {
+        match self.message {
+            "" => granted(self.error.message(Global)).into(),
+            message => message.to_string(),
+        }
+    }
+
     /// Returns the file name, if it is known and is UTF-8.
     fn file(&self) -> Option<&str> {
         #[cfg(feature = "std")]
@@ -112,15 +146,7 @@ impl Located {
 impl From<proved::error::Error> for Error {
     #[cold]
     fn from(error: proved::error::Error) -> Error {
-        if error.is_out_of_memory() {
-            return Error(None);
-        }
-        let located = Located {
-            error,
-            #[cfg(feature = "std")]
-            path: None,
-        };
-        Error(Box::new(Global, located).ok())
+        Error::located(error, "")
     }
 }
 
@@ -142,29 +168,43 @@ struct Printed {
 /// Maximum length of an output that is written at once, in bytes. Its line is at most half of it.
 const MAX_PRINTED: usize = 256;
 
+/// The digits, each padded to the width of a line number. As a text, a digit is written faster than as a number.
+const DIGITS: &str = "   0   1   2   3   4   5   6   7   8   9";
+
 impl fmt::Write for Printed {
     fn write_str(&mut self, text: &str) -> fmt::Result {
-        self.len = write_chunks(&[Piece::Text(text)], &mut self.bytes, self.len);
+        self.write_pieces(&[Piece::Text(text)]);
         Ok(())
     }
 }
 
 impl Printed {
+    fn write_pieces(&mut self, pieces: &[Piece<'_>]) {
+        self.len = write_chunks(pieces, &mut self.bytes, self.len);
+    }
+
     /// Returns the output of an error, or `None` if it is long or has no line.
-    fn of(&mut self, error: &proved::error::Error) -> Option<&str> {
-        let pieces = error.excerpt()?.pieces();
-        let is_long = |piece: &Piece<'_>| match piece {
-            Piece::Line(line) => line.0.len() > MAX_PRINTED / 2,
-            _ => false,
-        };
-        if pieces.iter().any(is_long) {
-            return None;
+    fn of(&mut self, located: &Located) -> Option<&str> {
+        let error = &located.error;
+        let mut pieces = error.excerpt()?.pieces();
+        for piece in &mut pieces {
+            match *piece {
+                Piece::Line(line) if line.0.len() > MAX_PRINTED / 2 => return None,
+                Piece::Decimal(digit @ 0..10) => *piece = Piece::Text(&DIGITS[4 * digit + 3..][..1]),
+                Piece::LineNumber(digit @ 0..10) => *piece = Piece::Text(&DIGITS[4 * digit..][..4]),
+                _ => {}
+            }
         }
-        write!(self, "{}", Message(error)).ok()?;
-        let len = write_chunks(&pieces, &mut self.bytes, self.len);
+        match (error.lex_error(), located.message) {
+            (Some(error), _) => self.write_pieces(&error.pieces()),
+            (None, "") => write!(self, "{}", Message(error)).ok()?,
+            (None, message) => self.write_str(message).ok()?,
+        }
+        self.write_pieces(&pieces);
+        // Whole blocks of 16 bytes are validated faster than the bytes of a part of one. The bytes after the output are 0.
+        let text = str::from_utf8(&self.bytes[..self.len.next_multiple_of(16)]).ok()?;
         // If the buffer is full, the output may be longer.
-        let text = str::from_utf8(&self.bytes[..len]).ok()?;
-        (len < MAX_PRINTED).then_some(text)
+        (self.len < MAX_PRINTED).then(|| &text[..self.len])
     }
 }
 
@@ -176,13 +216,13 @@ impl fmt::Display for Located {
                 len: 0,
             };
             // One write takes less time than a write of each part.
-            return match printed.of(&self.error) {
+            return match printed.of(self) {
                 Some(text) => f.write_str(text),
-                None => self.error.fmt(f),
+                None => write!(f, "{}{}", self.message, self.error),
             };
         };
-        let message = granted(self.error.message(Global));
-        let printed = self.error.to_string();
+        let message = self.message();
+        let printed = format!("{}{}", self.message, self.error);
         // The first `<anon>` after the message is the file name, if one is printed.
         let place = printed[message.len()..].replacen(NO_NAME, file, 1);
         write!(f, "{message}{place}")

@@ -56,8 +56,8 @@ const fn no_row(slot: usize) -> Row {
     }
 }
 
-/// The result of a peek at an offset where no row was: at the start, before an annotation, at the end of the text, or at an error. It is valid for the
-/// names that were registered at the time of the peek.
+/// The result of a peek at an offset that has no row: before an annotation, at the end of the text, or at an error. It is valid for the names that
+/// were registered at the time of the peek.
 #[derive(Clone, Copy)]
 struct Peeked {
     byte: usize,
@@ -184,9 +184,17 @@ impl<'a> ParseBuffer<'a> {
         if byte == self.bare.get() {
             return None;
         }
-        let cells = self.cells_from(position);
-        let mut rows = [no_row(1); FILLED];
-        let room = FILLED.min(cells.len());
+        match self.cells_from(position) {
+            one @ [_] => self.fill::<1>(byte, one),
+            cells => self.fill::<FILLED>(byte, cells),
+        }
+    }
+
+    /// Fills up to `N` of the cells with the rows from an offset on, and returns the first token.
+    #[inline(always)]
+    fn fill<const N: usize>(&self, byte: usize, cells: &[Cell<Row>]) -> Option<Token> {
+        let mut rows = [no_row(1); N];
+        let room = N.min(cells.len());
         let filled = self.text_from(byte).fill(0, 0, &mut rows[..room]);
         let rows = &mut rows[..filled];
         move_rows(rows, byte as u32);
@@ -202,20 +210,22 @@ impl<'a> ParseBuffer<'a> {
 
     /// Returns the token that is visible at a position under the registered names.
     pub(super) fn shown_at(&self, position: Position) -> Result<Option<Token>, Fault> {
-        let (row, known) = self.row_at(position);
+        let byte = position.byte();
+        let (row, known) = match byte {
+            0 => (self.first.get(), self.first.get().from == 0),
+            _ => self.row_at(position),
+        };
         if known {
             return Ok(Some(token_of(row)));
         }
         match self.last.get() {
-            Some(last) if last.byte == position.byte() => return last.found,
+            Some(last) if last.byte == byte => return last.found,
             _ => {}
         }
-        let byte = position.byte();
-        let found = match self.filled_at(position) {
-            Some(shown) if byte > 0 => return Ok(Some(shown)),
-            Some(shown) => Ok(Some(shown)),
-            None => self.peeked_at(byte),
-        };
+        if let Some(shown) = self.filled_at(position) {
+            return Ok(Some(shown));
+        }
+        let found = self.peeked_at(byte);
         self.last.set(Some(Peeked { byte, found }));
         found
     }
@@ -289,9 +299,8 @@ impl<'a> ParseBuffer<'a> {
 
     /// Creates an error at an offset.
     #[cold]
-    pub(super) fn error_at(&self, span: Span, message: &str) -> Error {
-        let source = SourceRef::of_text(self.text_from(0));
-        source.error_at(span, message).into()
+    pub(super) fn error_at(&self, span: Span, message: &'static str) -> Error {
+        Error::in_text(span, self.lexer.input(), message)
     }
 }
 
