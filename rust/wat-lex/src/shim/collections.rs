@@ -204,10 +204,8 @@ impl<K: Key, V> Part<K, V> {
     where
         K: Borrow<Q>,
     {
-        if self.leads.numbers.is_empty() {
-            // Equality rejects strings of other lengths at once.
-            let found = self.pairs.iter().position(|(k, _)| k.borrow() == key);
-            return found.map_or_else(|| self.search(key, 0..self.pairs.len()), Ok);
+        if self.has_few() {
+            return self.place_of_few(key);
         }
         let lead = self.leads.lead(key, head, || self.first())?;
         let place = self.leads.numbers.partition_point(|number| *number < lead);
@@ -221,6 +219,26 @@ impl<K: Key, V> Part<K, V> {
             }
             _ => Err(place),
         }
+    }
+
+    /// Returns `true` if the part has at most `FEW` pairs.
+    #[inline(always)]
+    fn has_few(&self) -> bool {
+        self.leads.numbers.is_empty()
+    }
+
+    /// Returns the index of a key, or the index at which to insert it, if there are few pairs.
+    #[inline(always)]
+    fn place_of_few<Q: Key + ?Sized>(&self, key: &Q) -> Result<usize, usize>
+    where
+        K: Borrow<Q>,
+    {
+        if self.pairs.is_empty() {
+            return Err(0);
+        }
+        // Equality rejects strings of other lengths at once.
+        let found = self.pairs.iter().position(|(k, _)| k.borrow() == key);
+        found.map_or_else(|| self.search(key, 0..self.pairs.len()), Ok)
     }
 
     /// Returns the index of a key, or the index at which to insert it, by a binary search in a range of indices.
@@ -388,6 +406,10 @@ impl<K: Key, V> BTreeMap<K, V> {
     where
         K: Borrow<Q>,
     {
+        // The head of a key is not needed then.
+        if self.more.is_empty() && self.first.has_few() {
+            return (0, self.first.place_of_few(key));
+        }
         let head = key.head();
         let begun = self.begun(key, head);
         match self.part(begun).place(key, head) {
