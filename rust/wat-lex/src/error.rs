@@ -190,7 +190,9 @@ impl Printed {
         for piece in &mut pieces {
             match *piece {
                 Piece::Line(line) if line.0.len() > MAX_PRINTED / 2 => return None,
-                Piece::Decimal(digit @ 0..10) => *piece = Piece::Text(&DIGITS[4 * digit + 3..][..1]),
+                Piece::Decimal(digit @ 0..10) => {
+                    *piece = Piece::Text(&DIGITS[4 * digit + 3..][..1])
+                }
                 Piece::LineNumber(digit @ 0..10) => *piece = Piece::Text(&DIGITS[4 * digit..][..4]),
                 _ => {}
             }

@@ -56,10 +56,10 @@ pub type Result<T, E = Error> = core::result::Result<T, E>;
 pub fn parse<'a, T: Parse<'a>>(buffer: &'a ParseBuffer<'a>) -> Result<T> {
     let parser = Parser { buffer };
     let value = parser.parse()?;
-    match parser.cursor().look()? {
-        None => Ok(value),
-        Some(_) => Err(parser.error("extra tokens remaining after parse")),
+    if parser.cursor().with_next(false, |_| true)? {
+        return Err(parser.error("extra tokens remaining after parse"));
     }
+    Ok(value)
 }
 
 /// A parser of a [`ParseBuffer`], which is passed to each [`Parse`]. All copies share one position: if one advances, all do.

@@ -1,6 +1,8 @@
 use super::{ParseBuffer, Parser, Result};
-use crate::proved::parser::names::RegisterError;
+use crate::proved::parser::names::{Names, RegisterError};
 use crate::words::{StdAnnotation, Word};
+use alloc::string::String;
+use core::cell::{Cell, Ref, RefCell};
 use wat_lex::shim::alloc::{Global, granted};
 
 impl<'a> Parser<'a> {
@@ -54,8 +56,8 @@ impl<'a> Parser<'a> {
         'a: 'b,
     {
         let buffer = self.buffer;
-        match buffer.change_names(|names| names.register(Global, annotation)) {
-            Ok(()) => {}
+        match buffer.registry().register(annotation) {
+            Ok(is_changed) => buffer.note_change(is_changed),
             Err(RegisterError::OutOfMemory(refused)) => granted(Err(refused)),
             Err(RegisterError::TooOften) => panic!("annotation registered too often"),
         }
@@ -122,7 +124,75 @@ struct Registered<'b> {
 
 impl Drop for Registered<'_> {
     fn drop(&mut self) {
-        self.buffer
-            .change_names(|names| names.unregister(self.name));
+        let is_changed = self.buffer.registry().unregister(self.name);
+        self.buffer.note_change(is_changed);
+    }
+}
+
+/// The registered names. A parser may register the same name again and again, so that a name is unregistered only by the next peek or the next
+/// unregistration, unless it is registered again before.
+pub(super) struct Registry {
+    names: RefCell<Names>,
+    /// The name that is still to be unregistered, if `is_pending`.
+    pending: RefCell<String>,
+    is_pending: Cell<bool>,
+}
+
+impl Default for Registry {
+    fn default() -> Registry {
+        Registry {
+            names: RefCell::new(Names::new(Global)),
+            pending: RefCell::default(),
+            is_pending: Cell::new(false),
+        }
+    }
+}
+
+impl Registry {
+    /// Adds a registration. Returns `true` if it changes the names.
+    #[inline]
+    fn register(&self, name: &str) -> Result<bool, RegisterError> {
+        if self.is_pending() && *self.pending.borrow() == name {
+            self.is_pending.set(false);
+            return Ok(false);
+        }
+        self.names.borrow_mut().register(Global, name)?;
+        Ok(true)
+    }
+
+    /// Removes a registration, or marks it as pending. Returns `true` if it changes the names.
+    fn unregister(&self, name: &str) -> bool {
+        let is_changed = self.is_pending();
+        if is_changed {
+            self.unregister_pending();
+        }
+        let mut pending = self.pending.borrow_mut();
+        pending.clear();
+        if pending.try_reserve(name.len()).is_err() {
+            self.names.borrow_mut().unregister(name);
+            return true;
+        }
+        pending.push_str(name);
+        self.is_pending.set(true);
+        is_changed
+    }
+
+    /// Returns `true` if a name is still to be unregistered.
+    #[inline(always)]
+    pub(super) fn is_pending(&self) -> bool {
+        self.is_pending.get()
+    }
+
+    /// Unregisters the pending name. Precondition: there is one.
+    #[cold]
+    #[inline(never)]
+    pub(super) fn unregister_pending(&self) {
+        self.is_pending.set(false);
+        self.names.borrow_mut().unregister(&self.pending.borrow());
+    }
+
+    /// Returns the names. Precondition: no name is pending.
+    pub(super) fn names(&self) -> Ref<'_, Names> {
+        self.names.borrow()
     }
 }

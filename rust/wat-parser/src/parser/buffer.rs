@@ -1,11 +1,11 @@
 use super::Result;
+use super::annotations::Registry;
 use super::strings::Strings;
 use crate::Error;
 use crate::lexer::Lexer;
 use crate::proved;
 use crate::proved::lexer::Token;
 use crate::proved::parser::fault::Fault;
-use crate::proved::parser::names::Names;
 use crate::proved::parser::source_ref::SourceRef;
 use crate::proved::parser::text_ref::{Row, TextRef};
 use crate::token::Span;
@@ -24,7 +24,7 @@ pub struct ParseBuffer<'a> {
     pub(super) position: Cell<Position>,
     pub(super) depth: Cell<usize>,
     /// The registered names, which are initialized by the first peek that needs them.
-    names: OnceCell<RefCell<Names>>,
+    names: OnceCell<Registry>,
     /// Rows by slot. They are initialized when the second token is read, so that little is done for a text that is rejected at its first one.
     rows: OnceCell<[Cell<Row>; ROWS]>,
     /// The row of slot 0 before that.
@@ -208,16 +208,13 @@ impl<'a> ParseBuffer<'a> {
         (filled > 0).then(|| token_of(cells[0].get()))
     }
 
-    /// Returns the token that is visible at a position under the registered names.
+    /// Returns the token that is visible at a position without a row under the registered names.
     pub(super) fn shown_at(&self, position: Position) -> Result<Option<Token>, Fault> {
         let byte = position.byte();
-        let (row, known) = match byte {
-            0 => (self.first.get(), self.first.get().from == 0),
-            _ => self.row_at(position),
-        };
-        if known {
-            return Ok(Some(token_of(row)));
+        if byte == 0 && self.first.get().from == 0 {
+            return Ok(Some(token_of(self.first.get())));
         }
+        self.unregister_pending();
         match self.last.get() {
             Some(last) if last.byte == byte => return last.found,
             _ => {}
@@ -232,20 +229,29 @@ impl<'a> ParseBuffer<'a> {
 
     /// Returns the token that is visible at an offset under the registered names.
     fn peeked_at(&self, byte: usize) -> Result<Option<Token>, Fault> {
-        let found = self.text_from(byte).look(0, 0, &self.names().borrow());
-        moved(byte, found)
+        let names = self.registry().names();
+        moved(byte, self.text_from(byte).look(0, 0, &names))
     }
 
-    /// Changes the registered names. The result of the last peek is dropped, as it may be another one under the new names.
-    pub(super) fn change_names<T>(&self, change: impl FnOnce(&mut Names) -> T) -> T {
-        self.last.set(None);
-        change(&mut self.names().borrow_mut())
+    /// Unregisters the name whose unregistration is pending.
+    #[inline(always)]
+    fn unregister_pending(&self) {
+        if let Some(names) = self.names.get().filter(|names| names.is_pending()) {
+            names.unregister_pending();
+            self.note_change(true);
+        }
+    }
+
+    /// Drops the result of the last peek if the registered names were changed, as it may be another one under the new names.
+    pub(super) fn note_change(&self, is_changed: bool) {
+        if is_changed {
+            self.last.set(None);
+        }
     }
 
     /// Returns the registered names.
-    fn names(&self) -> &RefCell<Names> {
-        let names = || RefCell::new(Names::new(Global));
-        self.names.get_or_init(names)
+    pub(super) fn registry(&self) -> &Registry {
+        self.names.get_or_init(Registry::default)
     }
 
     /// Returns the comment at a byte offset, or after whitespace there.
@@ -267,6 +273,9 @@ impl<'a> ParseBuffer<'a> {
     #[cold]
     #[inline(never)]
     fn keeping(&self, position: Position) -> Position {
+        if self.row_at(position).1 {
+            return position;
+        }
         match self.shown_at(position) {
             Ok(Some(shown)) if !self.row_at(position).1 => {
                 let index = self.kept.borrow_mut().get_or_insert_default().index(shown);
