@@ -65,6 +65,31 @@ fn errors_of_any_length_are_printed_whole() {
 }
 
 #[test]
+fn an_error_with_a_static_message_is_another_error() {
+    for (line, column) in (1..=11).flat_map(|line| [(line, 1), (line, 9), (line, 10), (line, 400)])
+    {
+        let text = "\n".repeat(line - 1) + &"x".repeat(column);
+        let span = Span::from_offset(text.len() - 1);
+        let mut error = Error::in_text(span, &text, "no");
+        let mut same = Error::new(span, "no".to_owned());
+        same.set_text(&text);
+        let (shown, marker) = ("x".repeat(column), "^");
+        let excerpt = format!("      |\n {line:4} | {shown}\n      | {marker:>column$}");
+        let wanted = format!("no\n     --> <anon>:{line}:{column}\n{excerpt}");
+        assert_eq!(
+            (error.to_string(), error.message()),
+            (wanted, "no".to_owned())
+        );
+        assert_eq!(error, same);
+        error.set_text("other");
+        error.set_path(Path::new("a.wat"));
+        let wanted = format!("no\n     --> a.wat:{line}:{column}\n{excerpt}");
+        assert_eq!((error.to_string(), error.span()), (wanted, span));
+        assert_eq!(error.lex_error(), None);
+    }
+}
+
+#[test]
 fn only_the_name_of_the_file_is_replaced() {
     let mut error = Error::new(Span::from_offset(7), "no <anon>".to_owned());
     error.set_text("<anon> <anon>");

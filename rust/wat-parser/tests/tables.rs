@@ -305,6 +305,33 @@ fn names() {
     assert_eq!(noted, "(1, 2)");
 }
 
+/// Checks the peeks in each sequence of 6 calls that register one of two names, drop a guard of one of them, or peek.
+#[test]
+fn a_name_is_registered_until_its_guards_are_dropped() {
+    let number = run!("(@a) (@b) 1", |parser| {
+        for sequence in 0..5_usize.pow(6) {
+            let mut guards = [Vec::new(), Vec::new()];
+            for turn in 0..6 {
+                match sequence / 5_usize.pow(turn) % 5 {
+                    name @ 0..2 => guards[name].push(parser.register_annotation(["a", "b"][name])),
+                    name @ 2..4 => drop(guards[name - 2].pop()),
+                    _ => {
+                        let wanted = match guards.each_ref().map(Vec::is_empty) {
+                            [false, _] => 0,
+                            [true, false] => 5,
+                            [true, true] => 10,
+                        };
+                        let shown = parser.cur_span().offset();
+                        assert_eq!(shown, wanted, "sequence {sequence}, turn {turn}");
+                    }
+                }
+            }
+        }
+        parser.parse::<u32>()?
+    });
+    assert_eq!(number, "1");
+}
+
 /// Offsets of the next token, while a name is registered and unregistered.
 struct Shown(Vec<usize>);
 
