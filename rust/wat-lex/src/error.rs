@@ -191,9 +191,11 @@ impl Printed {
             match *piece {
                 Piece::Line(line) if line.0.len() > MAX_PRINTED / 2 => return None,
                 Piece::Decimal(digit @ 0..10) => {
-                    *piece = Piece::Text(&DIGITS[4 * digit + 3..][..1])
+                    *piece = Piece::Text(&DIGITS[4 * digit + 3..][..1]);
                 }
-                Piece::LineNumber(digit @ 0..10) => *piece = Piece::Text(&DIGITS[4 * digit..][..4]),
+                Piece::LineNumber(digit @ 0..10) => {
+                    *piece = Piece::Text(&DIGITS[4 * digit..][..4]);
+                }
                 _ => {}
             }
         }
