@@ -4,18 +4,23 @@ program, which cargo builds with its defaults, has both (tools/bench/benchmark_k
 and the calls take turns on 1 MB, in processor time of a thread, each with its least time of ROUNDS. Sums over the results must agree. Writes
 docs/speed/kinds.tsv.
 
-A ratio below 1.5, or below 1.2 for long line comments, is printed with its reason in BELOW. The status is 1 if a ratio by instructions has none, or
-if a reason has no such ratio. A ratio by time alone needs no reason, as it varies with the load.
+A row with a ratio below 1.5, or below 1.2 for long line comments, has its reason in its last column, from BELOW or, if only the ratio by time is
+below it, from BY_TIME. The status is 1 if a row lacks one, or if a reason has no row.
 
 usage: WAST=FOLDER benchmark_kinds.py WORK [ROUNDS]     WAST has the crate wast 263.0.0; WORK gets the texts and the program
-       benchmark_kinds.py --check                       checks the reasons against docs/speed/kinds.tsv
+       WAST=FOLDER benchmark_kinds.py --prepare WORK    builds the program, writes the texts and counts the instructions, which no load changes
+       benchmark_kinds.py --time WORK [ROUNDS]          measures the times after that, and writes the table
+       benchmark_kinds.py --reasons                     writes the reasons to docs/speed/kinds.tsv
+       benchmark_kinds.py --check                       checks the reasons in docs/speed/kinds.tsv
 
   CARGO=cargo   cargo with its options, if no registry is available
   CPU=N         the processor for the times; default: any
   JOBS=1        the number of kinds at a time; more than one make the times less exact
+  KINDS='A B'   only these kinds; the rows of the others stay as they are
 """
 import concurrent.futures
 import datetime
+import json
 import os
 import pathlib
 import re
@@ -32,8 +37,8 @@ from benchmark_programs import output
 
 DATA = HERE.parents[1] / "docs/speed/kinds.tsv"
 SAMPLE, SIZE = 50_000, 1_000_000
-# The calls that do not read the whole text, with the number of times that a pass makes them.
-REPEATED = {"ParseBuffer::new": 1000, "parser::parse, rejected": 5}
+# The calls that do not read the whole text.
+REPEATED = ("ParseBuffer::new", "parser::parse, rejected")
 JOBS = int(os.environ.get("JOBS", "1"))
 BOUND, BOUND_OF_LONG = 1.5, 1.2
 LONG = {"line_long", "line_4000", "line_64000", "line_one"}
@@ -42,7 +47,7 @@ LONG = {"line_long", "line_4000", "line_64000", "line_one"}
 BY_32 = "`wast` searches a line by 32 bytes with AVX2, which it detects at run time; ours by 16"
 UNDERSCORES = "an underscore sends a number to the general classifier, which runs about half of its instructions"
 BELOW = {
-    "parser::parse, rejected": "an error with its line is built, printed in parts and freed: about 4,000 instructions",
+    "parser::parse, rejected": "an error with its line is built, printed and freed: 2,800 instructions, of which 3 allocations and their frees are 800 and the output 1,100",
     ("strings_typographic", "parser::parse, rejected"): "a message copies a long line in the parts between characters that it may have to escape",
     "Lexer::iter, collected": "a token that is collected takes about 50 instructions more, in `wast` 36, which shows in tokens of few bytes",
     "Token::string and so on": "a token whose value is read takes about 28 instructions more, in `wast` 14, which shows in tokens of few bytes",
@@ -58,6 +63,19 @@ BELOW = {
     "floats_underscored": UNDERSCORES,
 }
 
+# The reasons of ratios that are below the bound by time alone, of a kind or of one of its calls.
+BY_TIME = {
+    "parser::parse, rejected": "the first call of a pass finds its code in no cache: 12 µs, in `wast` 10; a later one takes 0.9 µs, in `wast` 1.1",
+    "Lexer::iter, collected": "both write the same pages of a vector, which the system clears: 4,248 page faults for 1 MB of parentheses",
+    "floats_special": "`nan` and `inf` are found by the general classifier, at the end of a number's and a word's: a quarter of the instructions",
+}
+
+
+def repetitions(call, sample):
+    """Returns how often tools/bench/benchmark_kinds makes a call in a pass that does not read the whole text."""
+    line = sample.read_text(encoding="utf-8").split("\n")[0]
+    return 1000 if call == "ParseBuffer::new" else min(max(100_000 // max(len(line.encode()), 1), 5), 100)
+
 
 def build(work, crate):
     """Builds the program in a folder, with the crate wast in another, and returns its path."""
@@ -71,13 +89,18 @@ def build(work, crate):
     return work / "target/release/benchmark_kinds"
 
 
+def chosen():
+    """Returns the names of the kinds to measure."""
+    return os.environ["KINDS"].split() if "KINDS" in os.environ else list(kinds.kinds())
+
+
 def write(folder, size):
-    """Writes the texts of all kinds to a folder, and returns their paths."""
+    """Writes the texts of the kinds to a folder, and returns their paths."""
     folder.mkdir(parents=True, exist_ok=True)
-    for name, text_of in kinds.kinds().items():
+    for name in chosen():
         # A keyword ends each text, so that each loop over all of it has a sum.
-        (folder / f"{name}.wat").write_text(text_of(size) + "\nend\n", encoding="utf-8", newline="")
-    return [folder / f"{name}.wat" for name in kinds.kinds()]
+        (folder / f"{name}.wat").write_text(kinds.kinds()[name](size) + "\nend\n", encoding="utf-8", newline="")
+    return [folder / f"{name}.wat" for name in chosen()]
 
 
 def pairs_of(program):
@@ -114,10 +137,10 @@ def times(program, rounds, text):
 
 def rows(program, rounds, sample, text):
     """Returns the rows of a kind: suite, kind, call, instructions of ours and of wast, both ratios."""
-    count, time = counts(program, sample), times(program, rounds, text)
+    count, time = json.loads(sample.with_suffix(".json").read_text(encoding="utf-8")), times(program, rounds, text)
     lines = []
     for ours, theirs, call in pairs_of(program):
-        units = REPEATED.get(call, sample.stat().st_size)
+        units = repetitions(call, sample) if call in REPEATED else sample.stat().st_size
         numbers = count[ours] / units, count[theirs] / units, count[theirs] / count[ours], time[theirs] / time[ours]
         lines.append("\t".join(["kinds", text.stem, call, *(f"{number:.2f}" for number in numbers)]))
     print("\n".join(lines), flush=True)
@@ -127,57 +150,86 @@ def rows(program, rounds, sample, text):
 def head(rounds):
     model = next(line.split(": ")[1].strip() for line in open("/proc/cpuinfo", encoding="utf-8") if line.startswith("model name"))
     load = " ".join(f"{load:.2f}" for load in os.getloadavg()[:2])
-    repeated = ", ".join(f"{call} of {times} calls" for call, times in REPEATED.items())
     yield f"# {datetime.date.today()}, commit {output('git', 'rev-parse', '--short', 'HEAD').strip()}, {model}, {os.cpu_count()} processors, load {load},"
     yield f"# {' '.join(output('rustc', '--version').split()[:2])}; {JOBS} kinds at a time; instructions by callgrind, for each byte of 50 kB; ratios by instructions and by time,"
-    yield f"# the least of {rounds} rounds in turn on 1 MB. Instructions for each call: {repeated} in a round."
-    yield "# suite\ttext\tcall\tours\twast\tratio\tratio by time"
+    yield f"# the least of {rounds} rounds in turn on 1 MB. Instructions for each call: {' and '.join(REPEATED)}, of 1,000 calls and of 5 to 100 in a round."
+    yield "# suite\ttext\tcall\tours\twast\tratio\tratio by time\treason if one is below 1.5, or 1.2 for long lines"
 
 
-def below(table):
-    """Yields the cells below the bound: kind, call, ratio by instructions, ratio by time, and whether that by instructions is below it."""
+def reason_of(kind, call, counted, timed):
+    """Returns the key of the reason why a ratio is below the bound, or `None` if there is no reason, or if no ratio is."""
+    bound = BOUND_OF_LONG if kind in LONG else BOUND
+    if min(counted, timed) >= bound:
+        return None
+    general = (call, kind) if call in REPEATED else (kind, call)
+    reasons = BELOW if counted < bound else BY_TIME | BELOW
+    return next((key for key in ((kind, call), *general) if key in reasons), "")
+
+
+def with_reasons(table):
+    """Returns the table with the reasons in its last column, and the faults: rows without a reason, and reasons without a row."""
+    lines, faults, used = [], [], set()
     for line in table:
+        cells = line.split("\t")
         if not line.startswith("#"):
-            _, kind, call, _, _, counted, timed = line.split("\t")
-            bound = BOUND_OF_LONG if kind in LONG else BOUND
-            if min(float(counted), float(timed)) < bound:
-                yield kind, call, counted, timed, float(counted) < bound
+            key = reason_of(*cells[1:3], *map(float, cells[5:7]))
+            used.add(key)
+            faults += [f"{cells[1]}, {cells[2]}: no reason"] if key == "" else []
+            line = "\t".join([*cells[:7], (BELOW | BY_TIME).get(key, "")]).rstrip("\t")
+        lines.append(line)
+    return lines, faults + [f"{key}: a reason without a row" for key in [*BELOW, *BY_TIME] if key not in used]
 
 
-def faults_of(table):
-    """Prints the cells below the bound with their reasons. Returns the faults: cells without a reason, and reasons without a cell."""
-    faults, used = [], set()
-    for kind, call, counted, timed, is_counted in sorted(below(table), key=lambda cell: float(cell[2])):
-        general = (call, kind) if call in REPEATED else (kind, call)
-        keys = [key for key in ((kind, call), *general) if key in BELOW]
-        reason = BELOW[keys[0]] if keys else "no reason" if is_counted else "by time alone"
-        used.update(keys[:1])
-        print(f"{counted} by instructions, {timed} by time: {kind}, {call}: {reason}")
-        if is_counted and not keys:
-            faults.append(f"{kind}, {call}: no reason")
-    return faults + [f"{key}: a reason without a ratio below the bound" for key in BELOW if key not in used]
+def prepare(work):
+    """Builds the program, writes the texts, and counts the instructions of each."""
+    program = build(work, os.path.realpath(os.environ["WAST"]))
+    write(work / "texts", SIZE)
+
+    def count(sample):
+        sample.with_suffix(".json").write_text(json.dumps(counts(program, sample)), encoding="utf-8")
+
+    with concurrent.futures.ThreadPoolExecutor(JOBS) as pool:
+        list(pool.map(count, write(work / "samples", SAMPLE)))
 
 
 def measure(work, rounds):
-    """Returns the lines of the table, after a build of the program."""
-    program = build(work, os.path.realpath(os.environ["WAST"]))
-    samples, texts = write(work / "samples", SAMPLE), write(work / "texts", SIZE)
-    lines = list(head(rounds))
+    """Returns the lines of the table, after `prepare`."""
+    program, lines = work / "target/release/benchmark_kinds", list(head(rounds))
+    paths = [(work / f"samples/{name}.wat", work / f"texts/{name}.wat") for name in chosen()]
     with concurrent.futures.ThreadPoolExecutor(JOBS) as pool:
-        for of_kind in pool.map(lambda paths: rows(program, rounds, *paths), zip(samples, texts)):
+        for of_kind in pool.map(lambda of: rows(program, rounds, *of), paths):
             lines += of_kind
-    return lines
+    if "KINDS" not in os.environ:
+        return lines
+    cell = {tuple(line.split("\t")[1:3]): line for line in lines if not line.startswith("#")}
+    return [cell.get(tuple(line.split("\t")[1:3]), line) for line in lines_of(DATA)]
+
+
+def lines_of(data):
+    return data.read_text(encoding="utf-8").strip().split("\n")
+
+
+def report(table):
+    """Checks the reasons of the table, and exits with status 1 if there is a fault."""
+    wanted, faults = with_reasons(table)
+    faults += [f"{line}: the reason differs" for line, new in zip(table, wanted) if line != new]
+    print("".join(f"{fault}\n" for fault in faults) + f"benchmark_kinds.py: {sum(line[0] != '#' for line in table)} ratios, {len(faults)} faults")
+    sys.exit(bool(faults))
 
 
 def main():
-    if sys.argv[1:] != ["--check"]:
-        work, rounds = pathlib.Path(sys.argv[1]).resolve(), int(sys.argv[2]) if len(sys.argv) > 2 else 5
+    options, words = [[word for word in sys.argv[1:] if word.startswith("--") == is_option] for is_option in (True, False)]
+    if words:
+        work, rounds = pathlib.Path(words[0]).resolve(), int(words[1]) if len(words) > 1 else 5
         work.mkdir(parents=True, exist_ok=True)
-        DATA.write_text("\n".join(measure(work, rounds)) + "\n", encoding="utf-8")
-    table = DATA.read_text(encoding="utf-8").strip().split("\n")
-    faults = faults_of(table)
-    print("".join(f"{fault}\n" for fault in faults) + f"benchmark_kinds.py: {sum(line[0] != '#' for line in table)} ratios, {len(faults)} faults")
-    sys.exit(bool(faults))
+        if "--time" not in options:
+            prepare(work)
+        if "--prepare" in options:
+            return
+    if "--check" not in options:
+        table = measure(work, rounds) if words else lines_of(DATA)
+        DATA.write_text("\n".join(with_reasons(table)[0]) + "\n", encoding="utf-8")
+    report(lines_of(DATA))
 
 
 if __name__ == "__main__":

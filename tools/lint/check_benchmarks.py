@@ -1,7 +1,8 @@
 #!/usr/bin/env python3
 """Checks docs/speed/calls.txt. It must have a row for each public call of Rattle (tools/lint/public_names.txt, and the libraries' sources), of the
 Rust crates and of C, and each row must have a figure from the data of docs/speed, or the reason why there is none. The ratios in the first table
-of docs/benchmarks.md must occur in the data, and the page must name each kind of text that is lexed with more instructions than by `wast`.
+of docs/benchmarks.md must occur in the data, those at worst be the least of kinds.tsv, and the page must name each kind of text that is lexed with more instructions than by `wast`. In
+kinds.tsv each row with a ratio below the bound of tools/bench/benchmark_kinds.py must have its reason.
 
 usage: tools/lint/check_benchmarks.py [--write | --self-test]
 
@@ -14,8 +15,10 @@ import pathlib
 import re
 import sys
 
-sys.path.append(str(pathlib.Path(__file__).resolve().parents[1] / "lib"))
+sys.dont_write_bytecode = True
+sys.path += [str(pathlib.Path(__file__).resolve().parents[1] / folder) for folder in ("lib", "bench")]
 
+import benchmark_kinds
 import check_public_names
 from rattle_source import ROOT, items_of, tokens_of, written
 
@@ -25,6 +28,9 @@ SPEED = ROOT / "docs/benchmarks.md"
 LIBRARIES = ("wat_lex", "wat_words", "wat_lexer_parser")
 CRATES = ("wat-lex", "wat-parser")
 TRAITS = {"Parse", "Peek", "Encode"}
+# Rows of the first table of docs/benchmarks.md, with the call of kinds.tsv whose least ratio they have.
+WORST = {"| Rust: tokens": "Lexer::parse", "| Rust: values": "Token::string and so on", "| Rust: 240 kB": "parser::parse, rejected",
+         "| Rust: typed lists": "Parser::peek, peek2, peek3"}
 
 
 def bare(path):
@@ -143,6 +149,25 @@ def missing_kinds(page, found):
     return [f"docs/benchmarks.md: lacks `{kind}` {ratio}" for kind, ratio in lexed if float(ratio) < 1 and f"`{kind}` {ratio}" not in page]
 
 
+def wrong_worsts(page, found):
+    """Returns a fault for each row of WORST in docs/benchmarks.md that lacks the least ratio of its call in kinds.tsv."""
+    rows = {line.split(" | ")[0]: line.split(" | ")[-1] for line in page.split("\n") if line.startswith("| ")}
+    faults = []
+    for row, call in WORST.items():
+        ratios = [figure.split(", ")[-1] for where, figure in found.items() if where.startswith("kinds.tsv: ") and where.endswith(f"; {call}")]
+        least = min(ratios, key=float)
+        faults += [] if least in next((text for head, text in rows.items() if head.startswith(row)), "") else [f"docs/benchmarks.md: {row}: at worst {least}"]
+    return faults
+
+
+def unexplained(table):
+    """Returns a fault for each row of kinds.tsv whose reason is not that of tools/bench/benchmark_kinds.py, and for each reason without a row."""
+    lines = table.strip().split("\n")
+    wanted, faults = benchmark_kinds.with_reasons(lines)
+    differ = [" ".join(line.split("\t")[1:3]) for line, new in zip(lines, wanted) if line != new]
+    return [f"docs/speed/kinds.tsv: {fault}" for fault in [*faults, *(f"{row}: the reason differs" for row in differ)]]
+
+
 def wanted_calls():
     return list(dict.fromkeys([*calls_of_asked(), *calls_of_libraries(), *calls_of_rust(), *calls_of_c()]))
 
@@ -158,7 +183,14 @@ def self_test():
     missed += [ratio for ratio in ("2.00", "3.00") if bool(unknown_ratios(page.replace("2.00", ratio), found)) != (ratio == "3.00")]
     kinds = {"kinds.tsv: kinds; a; Lexer::parse": "3 ms, 0.90", "kinds.tsv: kinds; b; Lexer::parse": "3 ms, 1.00"}
     missed += [text for text in ("`a` 0.90", "`a` 0.80", "`b` 0.90") if bool(missing_kinds(text, kinds)) != (text != "`a` 0.90")]
-    print("".join(f"not as wanted: {name}\n" for name in missed) + f"check_benchmarks.py --self-test: {len(planted) + 5} tables, {len(missed)} not as wanted")
+    all_calls = {f"kinds.tsv: kinds; a; {call}": "3 ms, 0.90" for call in WORST.values()}
+    pages = ["".join(f"{row} | 1 | {least}: a |\n" for row in WORST) for least in ("0.90", "0.80")]
+    missed += [page for page in pages if len(wrong_worsts(page, all_calls)) != ("0.80" in page) * len(WORST)]
+    row = "kinds\ta\tLexer::parse\t3\t4\t1.40\t1.60"
+    rows = {row: True, f"{row}\twhy": True, row.replace("1.40", "1.50"): False, row.replace("1.40", "1.50").replace("1.60", "1.40"): True}
+    missed += [text for text, is_fault in rows.items() if any("a, Lexer::parse: no" in fault for fault in unexplained(text)) != is_fault]
+    missed += [text for text in (row, f"{row}\twhy") if ("a Lexer::parse: the reason differs" in str(unexplained(text))) != text.endswith("why")]
+    print("".join(f"not as wanted: {name}\n" for name in missed) + f"check_benchmarks.py --self-test: {len(planted) + 13} tables, {len(missed)} not as wanted")
     return missed
 
 
@@ -172,6 +204,7 @@ def main():
         faults = checked(table, wanted, figures(DATA))[1]
     page = SPEED.read_text(encoding="utf-8")
     faults += unknown_ratios(page, figures(DATA)) + missing_kinds(page, figures(DATA))
+    faults += wrong_worsts(page, figures(DATA)) + unexplained((DATA / "kinds.tsv").read_text(encoding="utf-8"))
     measured = sum(" | not measured" not in line and " | " in line for line in table.split("\n"))
     print("".join(f"{fault}\n" for fault in faults) + f"check_benchmarks.py: {len(wanted)} calls, {measured} with a figure, {len(faults)} faults")
     sys.exit(bool(faults))

@@ -37,7 +37,7 @@ macro_rules! calls {
                     let error = parser::parse::<words::absent>(&buffer).err()?;
                     Some((error.to_string().len() + error.span().offset()) as u64)
                 };
-                (0..crate::REJECTIONS).filter_map(reject).sum()
+                (0..crate::rejections(text)).filter_map(reject).sum()
             }
         }
     };

@@ -15,9 +15,14 @@ use layer::layer;
 use measure::{Pair, pair, run_words};
 use std::process::ExitCode;
 
-/// The number of buffers and of rejections in a pass: one alone is too short for the clock.
+/// The number of buffers in a pass: one alone is too short for the clock.
 const BUFFERS: u64 = 1000;
-const REJECTIONS: u64 = 5;
+
+/// Returns the number of rejections in a pass: fewer if the first line is long, as an error has a copy of its line.
+fn rejections(text: &str) -> u64 {
+    let line = text.find('\n').unwrap_or(text.len());
+    (100_000 / line.max(1)).clamp(5, 100) as u64
+}
 
 layer!(
     wast, theirs: theirs_parse, theirs_parse_whole, theirs_iter, theirs_iter_whole, theirs_counting, theirs_values, theirs_comments,
