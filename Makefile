@@ -107,12 +107,12 @@ help:
 	@sed -n 's/^## //p' Makefile
 
 program:
-	cd rust && $(CARGO) build --locked --release --package wat-tokens --bins --example language_server
+	cd rust && $(CARGO) build --locked --release --package wat-tokens --package wat-language-server --bins
 
 install-program: program
 	install -d $(programs) $(share)/man/man1 $(share)/bash-completion/completions $(share)/zsh/site-functions $(share)/fish/vendor_completions.d
 	install -m 755 $(CARGO_TARGET_DIR)/release/wat_tokens $(programs)/
-	install -m 755 $(CARGO_TARGET_DIR)/release/examples/language_server $(programs)/wat_language_server
+	install -m 755 $(CARGO_TARGET_DIR)/release/wat_language_server $(programs)/
 	install -m 644 rust/wat-tokens/man/wat_tokens.1 $(share)/man/man1/
 	install -m 644 rust/wat-tokens/completions/wat_tokens.bash $(share)/bash-completion/completions/wat_tokens
 	install -m 644 rust/wat-tokens/completions/_wat_tokens $(share)/zsh/site-functions/

@@ -15,6 +15,7 @@ IN_RELEASE = r"wat-(\d+\.\d+\.\d+)/rust"
 TEXTS = [
     ("rust/Cargo.lock", r'^name = "wat-.*"\nversion = "(.*)"$'),
     ("rust/wat-format/Cargo.toml", r'^wat-lex = \{ version = "=([^"]*)"'),
+    ("rust/wat-language-server/Cargo.toml", r'^wat-(?:format|lex|modules) = \{ version = "=([^"]*)"'),
     ("rust/wat-modules/Cargo.toml", r'^wat-(?:lex|parser) = \{ version = "=([^"]*)"'),
     ("rust/wat-parser/Cargo.toml", r'^wat-lex = \{ version = "=([^"]*)"'),
     ("rust/wat-tokens/Cargo.toml", r'^wat-(?:format|lex|modules|parser) = \{ version = "=([^"]*)"'),

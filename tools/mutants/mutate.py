@@ -67,7 +67,8 @@ BY_HAND = "by hand: "
 # Files of the Rust packages without mutants: tests, generated code that is proved, and code for other targets.
 SKIPPED = re.compile(r"generated/(?!wat_tokens(/|\.rs$))|(^|/)tests(/|\.rs$)|simd/(neon|wasm)\.rs$|wat-page/src/memory\.rs$")
 # The proved functions of the program's sources have `ensures` in their comments, so sites.py skips them.
-RUST = ("rust/wat-lex", "rust/wat-parser", "rust/wat-format", "rust/wat-modules", "rust/wat-c", "rust/wat-page", "rust/wat-tokens")
+RUST = ("rust/wat-lex", "rust/wat-parser", "rust/wat-format", "rust/wat-modules", "rust/wat-c", "rust/wat-language-server", "rust/wat-page",
+        "rust/wat-tokens")
 PAGE = "page"
 # Scripts that test the program, after all tests of cargo.
 SCRIPTS = ("tools/test/fmt.sh", "tools/test/program.sh")

@@ -135,7 +135,7 @@ workspace() {
 
 crates() {
     local name
-    for name in wat-lex wat-parser wat-modules wat-format wat-tokens; do
+    for name in wat-lex wat-parser wat-modules wat-format wat-tokens wat-language-server; do
         package "$name"
     done
     workspace
@@ -144,7 +144,7 @@ crates() {
 program() {
     has make || { skip 'the program' 'no make' && return; }
     env -u MAKEFLAGS CARGO_PROFILE_RELEASE_STRIP=symbols make --silent install-program PREFIX="$made" BINDIR="$made/bin/$host" CARGO='cargo --quiet'
-    record "$made/bin/$host/wat_tokens" "$made/bin/$host/wat_language_server" -- "rust/wat-tokens, by $compiler"
+    record "$made/bin/$host/wat_tokens" "$made/bin/$host/wat_language_server" -- "rust/wat-tokens and rust/wat-language-server, by $compiler"
     record "$made/share" -- 'rust/wat-tokens/man and rust/wat-tokens/completions'
 }
 

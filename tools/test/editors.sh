@@ -1,7 +1,8 @@
 #!/usr/bin/env bash
-# Runs the language server of rust/wat-tokens/examples in editors without a window: Neovim, and Emacs with eglot and with lsp-mode, with the sessions
-# of tools/test/editors. Each session opens a source text with a lexical error, fixes and formats it; Neovim and lsp-mode also request semantic
-# tokens, for colours. An editor that is not installed is skipped and reported.
+# Runs the language server of rust/wat-language-server in editors without a window: Neovim, and Emacs with eglot and with lsp-mode, with the sessions
+# of tools/test/editors. Each session opens a source text with a lexical error, fixes and formats it, and then a module with an error of the compiler,
+# and one in which it goes to a definition; Neovim and lsp-mode also request semantic tokens, for colours, and Neovim symbols, a hover and completions.
+# An editor that is not installed is skipped and reported.
 #
 # usage: tools/test/editors.sh SERVER
 set -euo pipefail
@@ -11,8 +12,17 @@ room=$(mktemp -d)
 trap 'rm -rf "$room"' EXIT
 faults=0
 
-# wanted BEYOND COLOURS: prints the expected output of a session, for a text with the character BEYOND; without COLOURS, none are expected
+# wanted NAME BEYOND COLOURS: prints the expected output of the session of an editor, for a text with the character BEYOND; without COLOURS, none are
+# expected
 wanted() {
+    local more=()
+    [[ $1 != NVIM* ]] || more=('symbols module $f func 1' 'hover ```wat|(func $f (param $x i32))|```|function 0' 'completion $f')
+    wanted_text "$2" "$3"
+    printf '%s\n' 'fault 0 wat frob' "${more[@]}" 'definition 14'
+}
+
+# wanted_text BEYOND COLOURS: prints the part of it for the first text
+wanted_text() {
     printf '%s\n' "fault 1 invalid character in string '\\n' \"open)" 'no fault' ${2:+"colours $2"} "(module ;; é $1" "  (data (; $1é ;) \"open\")" '  (func nop))'
 }
 
@@ -21,7 +31,7 @@ session() {
     local name=$1 beyond=$2 colours=$3
     shift 3
     printf '(module ;; é %s\n( data (; %sé ;) "open)\n( func nop ) )\n' "$beyond" "$beyond" > "$room/a.wat"
-    if (cd "$room" && HOME=$room SERVER=$server timeout 60 "$@" a.wat > said 2> errors) && diff <(wanted "$beyond" "$colours") "$room/said"; then
+    if (cd "$room" && HOME=$room SERVER=$server timeout 60 "$@" a.wat > said 2> errors) && diff <(wanted "$name" "$beyond" "$colours") "$room/said"; then
         echo "editors.sh: $name: as wanted"
     else
         faults=$((faults + 1))

@@ -47,12 +47,14 @@ mod generated {
 use alloc::format;
 use alloc::vec::Vec;
 #[doc(hidden)]
+pub use generated::wat_module_ast as ast;
+#[doc(hidden)]
 pub use generated::wat_modules as proved;
 /// The verified compiler of modules that contain only function types, and its contracts. [`wat_lex::proved`] explains how to read a contract.
 #[doc(inline)]
 pub use generated::wat_types as types;
 use generated::{
-    wat_module_ast as ast, wat_module_encoder as encoder, wat_module_instructions as instructions,
+    wat_module_encoder as encoder, wat_module_instructions as instructions,
     wat_module_lexer as lexer, wat_module_parser as parser, wat_module_tokens as tokens,
 };
 use wat_lex::shim::alloc::Global;

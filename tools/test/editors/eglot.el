@@ -1,5 +1,5 @@
 ;;; eglot.el --- A session of Emacs with the language server, by eglot  -*- lexical-binding: t -*-
-;; Prints the errors of a buffer, an edit that fixes them, and the formatted text, each on a line.
+;; Prints the errors of a buffer, an edit that fixes them, the formatted text, the error of a module, and the definition in another, each on a line.
 ;; usage: SERVER=PROGRAM emacs --batch -l eglot.el FILE
 (require 'package)
 (package-initialize)
@@ -14,6 +14,12 @@
     (while (/= (length (flymake-diagnostics)) count)
       (accept-process-output nil 0.01)
       (flymake-start))))
+
+(defun replace-with (text)
+  "Replace the buffer's text by TEXT, and send the change."
+  (erase-buffer)
+  (insert text "\n")
+  (eglot--signal-textDocument/didChange))
 
 (let ((eglot-sync-connect t)
       (eglot-send-changes-idle-time 0.01))
@@ -33,5 +39,14 @@
   (princ "no fault\n")
   (eglot-format-buffer)
   (princ (buffer-string))
+  (replace-with "(module (func frob))")
+  (faults-are 1)
+  (let ((fault (car (flymake-diagnostics))))
+    (princ (format "fault 0 wat %s\n" (buffer-substring (flymake-diagnostic-beg fault) (flymake-diagnostic-end fault)))))
+  (replace-with "(module (func $f (param $x i32)) (func (call $f (i32.const 1))))")
+  (faults-are 0)
+  (goto-char 46)
+  (xref-find-definitions "LSP identifier at point.")
+  (princ (format "definition %d\n" (1- (point))))
   (set-buffer-modified-p nil)
   (eglot-shutdown (eglot-current-server)))

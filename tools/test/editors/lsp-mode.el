@@ -1,5 +1,6 @@
 ;;; lsp-mode.el --- A session of Emacs with the language server, by lsp-mode  -*- lexical-binding: t -*-
-;; Prints the errors of a buffer, an edit that fixes them, its semantic tokens, and the formatted text, each on a line.
+;; Prints the errors of a buffer, an edit that fixes them, its semantic tokens, the formatted text, the error of a module, and the definition in
+;; another, each on a line.
 ;; usage: SERVER=PROGRAM emacs --batch -l lsp-mode.el FILE
 (require 'package)
 (package-initialize)
@@ -20,6 +21,11 @@
 
 (defun faults ()
   (lsp--get-buffer-diagnostics))
+
+(defun replace-with (text)
+  "Replace the buffer's text by TEXT."
+  (erase-buffer)
+  (insert text "\n"))
 
 (let ((lsp-semantic-tokens-enable t)
       (lsp-enable-snippet nil)
@@ -45,5 +51,15 @@
     (princ (format "colours %s\n" (mapconcat #'number-to-string (lsp-get answer :data) " "))))
   (lsp-format-buffer)
   (princ (buffer-string))
+  (replace-with "(module (func frob))")
+  (wait-until "error of the compiler" #'faults)
+  (let ((range (lsp:diagnostic-range (car (faults)))))
+    (princ (format "fault 0 wat %s\n" (buffer-substring (lsp--position-to-point (lsp:range-start range))
+                                                        (lsp--position-to-point (lsp:range-end range))))))
+  (replace-with "(module (func $f (param $x i32)) (func (call $f (i32.const 1))))")
+  (wait-until "end of the error" (lambda () (not (faults))))
+  (goto-char 46)
+  (lsp-find-definition)
+  (princ (format "definition %d\n" (1- (point))))
   (set-buffer-modified-p nil)
   (lsp-workspace-shutdown (car (lsp-workspaces))))

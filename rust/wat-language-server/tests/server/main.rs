@@ -1,15 +1,20 @@
-//! Tests of the example language server: a golden session with a client; messages that no client should send, after each of which the server responds
-//! to the next request; and random changes, after each of which the server must respond as for a document that was opened with the changed text.
+//! Tests of the language server: a golden session of the program with a client; messages that no client should send, after each of which the server
+//! responds to the next request; random changes, after each of which the server must respond as for a document that was opened with the changed text;
+//! and tables of texts for each request.
 
-#[path = "../../examples/language_server/document.rs"]
-mod document;
+mod completions;
+mod diagnostics;
 mod hostile;
-#[path = "../../examples/language_server/messages.rs"]
-mod messages;
-#[path = "../../examples/language_server/server.rs"]
-mod server;
+mod hostile_requests;
+mod hovers;
+mod instructions;
+mod marked;
+mod navigation;
+mod symbols;
 
 use serde_json::{Value, json};
+use std::io::Write;
+use std::process::{Command, Stdio};
 
 /// A session: the bodies of the client's messages after `>`, and those of the server's after `<`.
 const SESSION: &str = include_str!("session.txt");
@@ -30,7 +35,23 @@ fn request(id: &str, method: &str, params: &Value) -> String {
 /// Returns the server's messages, and `true` if the client sent `shutdown`.
 fn responses(input: &[u8]) -> (Vec<Value>, bool) {
     let mut output = Vec::new();
-    let has_shut_down = server::serve(input, &mut output).unwrap();
+    let has_shut_down = wat_language_server::serve(input, &mut output).unwrap();
+    (bodies(output), has_shut_down)
+}
+
+/// Returns the messages of the program, and `true` if its status is 0.
+fn responses_of_program(input: &[u8]) -> (Vec<Value>, bool) {
+    let mut program = Command::new(env!("CARGO_BIN_EXE_wat_language_server"))
+        .stdin(Stdio::piped())
+        .stdout(Stdio::piped())
+        .spawn()
+        .unwrap();
+    program.stdin.take().unwrap().write_all(input).unwrap();
+    let ended = program.wait_with_output().unwrap();
+    (bodies(ended.stdout), ended.status.success())
+}
+
+fn bodies(output: Vec<u8>) -> Vec<Value> {
     let (output, mut bodies) = (String::from_utf8(output).unwrap(), Vec::new());
     let mut rest = output.as_str();
     while let Some((head, after)) = rest.split_once("\r\n\r\n") {
@@ -39,7 +60,7 @@ fn responses(input: &[u8]) -> (Vec<Value>, bool) {
         bodies.push(serde_json::from_str(body).unwrap());
         rest = next;
     }
-    (bodies, has_shut_down)
+    bodies
 }
 
 /// Returns the server's messages after its response to `initialize`.
@@ -59,7 +80,7 @@ fn a_session_has_the_golden_responses() {
             .collect::<Vec<_>>()
     };
     let sent: String = side("> ").into_iter().map(message).collect();
-    let (bodies, has_shut_down) = responses(sent.as_bytes());
+    let (bodies, has_shut_down) = responses_of_program(sent.as_bytes());
     for (body, wanted) in bodies.iter().zip(side("< ")) {
         assert_eq!(*body, serde_json::from_str::<Value>(wanted).unwrap());
     }
@@ -111,7 +132,7 @@ fn a_session_ends_with_its_input() {
 
 #[test]
 fn diagnostics_are_limited() {
-    let most = document::MOST_DIAGNOSTICS;
+    let most = wat_language_server::MOST_DIAGNOSTICS;
     for (faults, wanted) in [(most - 1, most - 1), (most, most), (most + 1, most)] {
         let bodies = responses_when_initialized(opened(&"é ".repeat(faults)).as_bytes());
         let sent = bodies[0]["params"]["diagnostics"].as_array().unwrap();

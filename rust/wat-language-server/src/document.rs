@@ -1,10 +1,10 @@
 //! An open document: its changes, and the results of requests about it.
 
+use crate::analysis::Analysis;
+use crate::diagnostics::LONGEST_ANALYZED;
 use serde_json::{Value, json};
-use wat_lex::{Document, Fault, Span, Token, TokenKind};
-
-/// Maximum number of lexical errors that the server sends for a document: the first ones.
-pub const MOST_DIAGNOSTICS: usize = 1000;
+use std::ops::Range;
+use wat_lex::{Document, Span};
 
 /// Replaces a lone surrogate, which UTF-8 cannot represent. Both are one UTF-16 code unit, so columns stay the same.
 const REPLACEMENT: &str = "\u{fffd}";
@@ -14,6 +14,8 @@ pub struct OpenDocument {
     document: Document,
     /// `false` if the client's text may differ: if it has lone surrogates, or after a change that was not applied.
     is_exact: bool,
+    /// `true` for a script of modules and assertions.
+    is_script: bool,
 }
 
 /// A position in a document.
@@ -26,15 +28,39 @@ struct Position {
 }
 
 impl OpenDocument {
-    /// Opens a document. `is_lossy` is `true` if U+FFFD has replaced lone surrogates in the text.
+    /// Opens a document, which is a script or a module. `is_lossy` is `true` if U+FFFD has replaced lone surrogates in the text.
     ///
     /// # Errors
     ///
     /// Returns a message if the text is too long.
-    pub fn new(text: &str, is_lossy: bool) -> Result<OpenDocument, String> {
+    pub fn new(text: &str, is_script: bool, is_lossy: bool) -> Result<OpenDocument, String> {
         let document = Document::new(text).map_err(|error| error.to_string())?;
-        let is_exact = !is_lossy;
-        Ok(OpenDocument { document, is_exact })
+        Ok(OpenDocument {
+            document,
+            is_exact: !is_lossy,
+            is_script,
+        })
+    }
+
+    /// Returns the text with its tokens.
+    pub fn document(&self) -> &Document {
+        &self.document
+    }
+
+    /// Returns `true` for a script of modules and assertions.
+    pub fn is_script(&self) -> bool {
+        self.is_script
+    }
+
+    /// Returns the definitions of the text, or `None` if it has more than [`LONGEST_ANALYZED`] bytes.
+    pub fn analysis(&self) -> Option<Analysis<'_>> {
+        let is_short = self.document.text().len() <= LONGEST_ANALYZED;
+        is_short.then(|| Analysis::new(&self.document))
+    }
+
+    /// Returns the byte offset of the position in the parameters of a request, or `None` if they have none.
+    pub fn offset(&self, params: &Value) -> Option<usize> {
+        Some(self.position(&params["position"])?.offset)
     }
 
     /// Applies the changes of a notification, in order. `is_lossy` is `true` if U+FFFD has replaced lone surrogates in them.
@@ -102,122 +128,24 @@ impl OpenDocument {
         })
     }
 
-    /// Returns the range from one byte offset to another.
-    fn range(&self, from: usize, to: usize) -> Value {
+    /// Returns the range of bytes as the protocol has it.
+    pub fn range(&self, bytes: Range<usize>) -> Value {
         let position = |offset| {
             let (line, column) = self.document.utf16_linecol(Span::from_offset(offset));
             json!({ "line": line, "character": column })
         };
-        json!({ "start": position(from), "end": position(to) })
-    }
-
-    /// Returns the first lexical errors, at most [`MOST_DIAGNOSTICS`].
-    pub fn diagnostics(&self) -> Value {
-        let diagnostic = |fault: Fault| {
-            json!({
-                "range": self.range(fault.offset, fault.end()),
-                "severity": 1,
-                "source": "wat",
-                "message": fault.to_string(),
-            })
-        };
-        let faults = self.document.faults().take(MOST_DIAGNOSTICS);
-        faults.map(diagnostic).collect()
-    }
-
-    /// Returns the tokens that have a type.
-    pub fn semantic_tokens(&self) -> Value {
-        let mut tokens = SemanticTokens::default();
-        for piece in self.document.pieces() {
-            let text = &self.document.text()[piece.range()];
-            tokens.add(text, piece.token().and_then(type_of));
-        }
-        json!({ "data": tokens.data })
-    }
-
-    /// Returns the groups and block comments that span several lines.
-    pub fn folding_ranges(&self) -> Value {
-        let line = |offset| self.document.linecol(Span::from_offset(offset)).0;
-        let (mut open, mut ranges) = (Vec::new(), Vec::new());
-        for token in self.document.tokens() {
-            let from = match token.kind {
-                TokenKind::LParen => {
-                    open.push(token.offset);
-                    continue;
-                }
-                TokenKind::RParen => open.pop(),
-                TokenKind::BlockComment => Some(token.offset),
-                _ => continue,
-            };
-            let (from, to) = (from.map_or(usize::MAX, line), line(token.end()));
-            if from < to {
-                ranges.push(json!({ "startLine": from, "endLine": to }));
-            }
-        }
-        ranges.into()
+        json!({ "start": position(bytes.start), "end": position(bytes.end) })
     }
 
     /// Returns the edit that formats the document, or `null` if the formatter returns an error or the client's text may differ.
-    pub fn formatting(&self) -> Value {
+    pub fn formatting(&self, _: &Value) -> Value {
         if !self.is_exact {
             return Value::Null;
         }
         let text = self.document.text();
         wat_format::format(text).map_or(
             Value::Null,
-            |formatted| json!([{ "range": self.range(0, text.len()), "newText": formatted }]),
+            |formatted| json!([{ "range": self.range(0..text.len()), "newText": formatted }]),
         )
-    }
-}
-
-/// The types of semantic tokens, in the order of their indices.
-pub const TOKEN_TYPES: [&str; 7] = [
-    "comment",
-    "string",
-    "keyword",
-    "number",
-    "variable",
-    "decorator",
-    "operator",
-];
-
-/// Returns the index of a token's type in [`TOKEN_TYPES`], or `None` for whitespace and parentheses.
-fn type_of(token: Token) -> Option<usize> {
-    match token.kind {
-        TokenKind::LineComment | TokenKind::BlockComment => Some(0),
-        TokenKind::String => Some(1),
-        TokenKind::Keyword => Some(2),
-        TokenKind::Integer(_) | TokenKind::Float(_) => Some(3),
-        TokenKind::Id => Some(4),
-        TokenKind::Annotation => Some(5),
-        TokenKind::Reserved => Some(6),
-        TokenKind::Whitespace | TokenKind::LParen | TokenKind::RParen => None,
-    }
-}
-
-/// The encoding of semantic tokens: five integers for each. A token of several lines is encoded as one per line.
-#[derive(Default)]
-struct SemanticTokens {
-    data: Vec<usize>,
-    /// Line and column of the current position in the text.
-    at: (usize, usize),
-    /// Line and column of the last encoded token, to which the next one is relative.
-    last: (usize, usize),
-}
-
-impl SemanticTokens {
-    /// Advances past a text, and encodes it if it has a type.
-    fn add(&mut self, text: &str, type_index: Option<usize>) {
-        for (i, line) in text.split('\n').enumerate() {
-            self.at = if i > 0 { (self.at.0 + 1, 0) } else { self.at };
-            let units = line.encode_utf16().count();
-            if let Some(index) = type_index.filter(|_| units > 0) {
-                let lines = self.at.0 - self.last.0;
-                let column = self.at.1 - if lines > 0 { 0 } else { self.last.1 };
-                self.data.extend([lines, column, units, index, 0]);
-                self.last = self.at;
-            }
-            self.at.1 += units;
-        }
     }
 }

@@ -1,10 +1,17 @@
 //! The server's responses to messages of the Language Server Protocol.
 
-use crate::document::{OpenDocument, TOKEN_TYPES};
+use crate::completion::completion;
+use crate::definitions::{definition, highlights, references, rename};
+use crate::diagnostics::diagnostics;
+use crate::document::OpenDocument;
+use crate::hover::hover;
 use crate::messages::{self, Error, Message};
+use crate::semantic_tokens::{TOKEN_TYPES, folding_ranges, semantic_tokens};
+use crate::symbols::document_symbols;
 use serde_json::{Value, json};
 use std::collections::HashMap;
 use std::io::{self, BufRead, Write};
+use std::path::Path;
 
 /// Responds to messages until `exit` or the end of the input. Returns `true` if the client sent `shutdown` before. No message ends the server: it
 /// responds to a malformed one with an error, and logs a notification that it cannot handle.
@@ -105,20 +112,27 @@ impl<W: Write> Server<W> {
         }
     }
 
-    /// Returns the result of a request about a document, which is `null` if the document is not open.
+    /// Returns the result of a request about a document, which is `null` if the document is not open, or if the position is malformed.
     fn document_result(&self, method: &str, params: &Value) -> Result<Value, Error> {
         let result = match method {
-            "textDocument/semanticTokens/full" => OpenDocument::semantic_tokens,
-            "textDocument/foldingRange" => OpenDocument::folding_ranges,
+            "textDocument/completion" => completion,
+            "textDocument/definition" => definition,
+            "textDocument/documentHighlight" => highlights,
+            "textDocument/documentSymbol" => document_symbols,
+            "textDocument/foldingRange" => folding_ranges,
             "textDocument/formatting" => OpenDocument::formatting,
+            "textDocument/hover" => hover,
+            "textDocument/references" => references,
+            "textDocument/rename" => rename,
+            "textDocument/semanticTokens/full" => semantic_tokens,
             _ => return Err(Error::method_not_found()),
         };
         let uri = params["textDocument"]["uri"].as_str();
         let document = uri.and_then(|uri| self.documents.get(uri));
-        Ok(document.map_or(Value::Null, result))
+        Ok(document.map_or(Value::Null, |document| result(document, params)))
     }
 
-    /// Handles a notification: updates a document and sends its lexical errors. Ignores other notifications, and all before `initialize`.
+    /// Handles a notification: updates a document and sends its errors. Ignores other notifications, and all before `initialize`.
     fn handle_notification(
         &mut self,
         method: &str,
@@ -142,7 +156,9 @@ impl<W: Write> Server<W> {
 
     fn open(&mut self, uri: &str, params: &Value, is_lossy: bool) -> Result<(), String> {
         let text = params["textDocument"]["text"].as_str().ok_or("no text")?;
-        let document = OpenDocument::new(text, is_lossy)?;
+        let is_script = params["textDocument"]["languageId"] == "wast"
+            || Path::new(uri).extension().is_some_and(|it| it == "wast");
+        let document = OpenDocument::new(text, is_script, is_lossy)?;
         self.documents.insert(uri.to_owned(), document);
         Ok(())
     }
@@ -163,10 +179,10 @@ impl<W: Write> Server<W> {
             .ok_or_else(|| "the document is not open".to_owned())
     }
 
-    /// Sends the lexical errors of a document, or an empty list if it is closed.
+    /// Sends the errors of a document, or an empty list if it is closed.
     fn publish(&mut self, uri: &str) -> io::Result<()> {
         let document = self.documents.get(uri);
-        let diagnostics = document.map_or(json!([]), OpenDocument::diagnostics);
+        let diagnostics = document.map_or(json!([]), diagnostics);
         let params = json!({ "uri": uri, "diagnostics": diagnostics });
         self.send(json!({ "method": "textDocument/publishDiagnostics", "params": params }))
     }
@@ -185,8 +201,15 @@ fn capabilities() -> Value {
     json!({ "capabilities": {
         "positionEncoding": "utf-16",
         "textDocumentSync": 2,
-        "semanticTokensProvider": { "legend": legend, "full": true },
-        "foldingRangeProvider": true,
+        "completionProvider": { "triggerCharacters": ["(", "$", "."] },
+        "definitionProvider": true,
         "documentFormattingProvider": true,
+        "documentHighlightProvider": true,
+        "documentSymbolProvider": true,
+        "foldingRangeProvider": true,
+        "hoverProvider": true,
+        "referencesProvider": true,
+        "renameProvider": true,
+        "semanticTokensProvider": { "legend": legend, "full": true },
     }})
 }
