@@ -7,6 +7,7 @@ use crate::index_spaces::{INSTRUCTIONS, Space};
 use crate::syntax::Syntax;
 use serde_json::{Value, json};
 use std::ops::Range;
+use wat_lex::Document;
 
 /// Kinds of completions, by their numbers in the protocol.
 const FUNCTION: u8 = 3;
@@ -38,6 +39,9 @@ pub fn completion(open: &OpenDocument, params: &Value) -> Value {
     let (Some(offset), Some(analysis)) = (open.offset(params), open.analysis()) else {
         return Value::Null;
     };
+    if is_in_text(open.document(), offset) {
+        return json!([]);
+    }
     let prefix = prefix(open.document().text(), offset);
     let at = analysis.syntax.first_after(prefix.start);
     let candidates = candidates(analysis, at);
@@ -52,6 +56,17 @@ pub fn completion(open: &OpenDocument, params: &Value) -> Value {
 fn item(label: &str, kind: u8, range: &Value) -> Value {
     let edit = json!({ "range": range, "newText": label });
     json!({ "label": label, "kind": kind, "textEdit": edit })
+}
+
+/// Returns `true` if a byte offset is inside a comment or a string, or at the end of a line comment.
+fn is_in_text(document: &Document, offset: usize) -> bool {
+    let before = offset.checked_sub(1).map(|last| document.piece_at(last));
+    let Some(piece) = before.and_then(|at| document.piece(at)) else {
+        return false;
+    };
+    let source = &document.text()[piece.range()];
+    let is_inside = piece.end() > offset && source.starts_with(['"', ';', '(']);
+    is_inside || source.starts_with(";;")
 }
 
 /// Returns the range of the characters before a byte offset that can be part of a keyword or an identifier.

@@ -115,6 +115,16 @@ const COMPLETIONS: &[(&str, &str)] = &[
     ("(func (call_indirect («para‸»", "param"),
     ("(func (ref.null «‸»", "func extern"),
     ("(func (i32.const «‸»", ""),
+    // Inside comments and strings.
+    ("(func ;; (nop‸\n)", ""),
+    ("(func ;; ‸nop\n)", ""),
+    ("(func ;‸; nop\n)", ""),
+    ("(func (; (nop‸ ;)", ""),
+    ("(func (;‸;)", ""),
+    ("(func (;;)«nop‸»", "nop"),
+    ("(data \"(‸\")", ""),
+    ("(data \"‸(", ""),
+    ("(data \"\"(«mem‸»", "memory"),
     // After a closed group, and outside of groups.
     ("(func (nop) «nop‸»", "nop"),
     ("(func) «‸»", ""),
