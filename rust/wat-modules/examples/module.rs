@@ -2,41 +2,35 @@
 //!
 //! `cargo run --example module FILE`. An error is written to standard error, and the exit status is then 1.
 
+use std::env;
 use std::error::Error;
-use std::fs;
+use std::ffi::OsStr;
 use std::io::{self, Read, Write};
-use std::path::Path;
 use std::process::ExitCode;
 
-/// Reads the text of a file, or of standard input if no file is named.
-fn text_of(file: Option<&Path>) -> io::Result<String> {
-    let mut text = String::new();
-    match file {
-        Some(file) => text = fs::read_to_string(file)?,
-        None => io::stdin().read_to_string(&mut text).map(drop)?,
+/// Returns the bytes of the module in a file, or on standard input if no file is named.
+fn module_of(file: Option<&OsStr>) -> Result<Vec<u8>, Box<dyn Error>> {
+    if let Some(file) = file {
+        return Ok(wat_modules::parse_file(file)?);
     }
-    Ok(text)
+    let mut input = Vec::new();
+    io::stdin().read_to_end(&mut input)?;
+    Ok(wat_modules::parse_bytes(&input)?.into_owned())
 }
 
-fn run(file: Option<&Path>) -> Result<(), Box<dyn Error>> {
-    let text = text_of(file)?;
-    let bytes = wat_modules::parse_str(text).map_err(|mut error| {
-        if let Some(file) = file {
-            error.set_path(file);
-        }
-        error
-    })?;
-    io::stdout().write_all(&bytes)?;
+fn run(file: Option<&OsStr>) -> Result<(), Box<dyn Error>> {
+    io::stdout().write_all(&module_of(file)?)?;
     Ok(())
 }
 
 fn main() -> ExitCode {
-    let file = std::env::args_os().nth(1);
-    match run(file.as_deref().map(Path::new)) {
-        Ok(()) => ExitCode::SUCCESS,
-        Err(error) => {
-            eprintln!("{error}");
-            ExitCode::FAILURE
-        }
+    let file = env::args_os().nth(1);
+    let Err(error) = run(file.as_deref()) else {
+        return ExitCode::SUCCESS;
+    };
+    match error.source() {
+        Some(cause) => eprintln!("{error}: {cause}"),
+        None => eprintln!("{error}"),
     }
+    ExitCode::FAILURE
 }

@@ -14,15 +14,21 @@
 //! # Ok::<(), wat_modules::Error>(())
 //! ```
 //!
-//! [`parse_str`] documents the modules that it accepts. For any other text it returns an error with its location.
+//! [`parse_str`] documents the modules that it accepts. For any other text it returns an error with its location. [`parse_bytes`] and
+//! [`parse_file`] also accept binaries, which they return unchanged, and [`Detect`] tells the two apart.
 //!
-//! The crate is `no_std` with `alloc`. The feature `std`, which is on by default, adds `Error::set_path`.
+//! The crate is `no_std` with `alloc`. The feature `std`, which is on by default, adds `parse_file`, the methods of [`Parser`] with a path, and
+//! `Error::set_path`.
 #![no_std]
 #![warn(missing_docs)]
 #![forbid(unsafe_code)]
 
 extern crate alloc;
+#[cfg(feature = "std")]
+extern crate std;
 
+mod detect;
+mod error;
 // Generated code has labels that only proofs use, parameters and fields that only contracts use, and imports of shim names that a file may not
 // use. Clippy's style lints are meant for hand-written code.
 #[allow(
@@ -44,21 +50,32 @@ mod generated {
     pub mod wat_types;
 }
 
+use alloc::borrow::Cow;
 use alloc::format;
 use alloc::vec::Vec;
+use core::str;
+pub use detect::Detect;
+pub use error::Error;
 #[doc(hidden)]
 pub use generated::wat_module_ast as ast;
 #[doc(hidden)]
 pub use generated::wat_modules as proved;
 /// The verified compiler of modules that contain only function types, and its contracts. [`wat_lex::proved`] explains how to read a contract.
+///
+/// `compile_types` returns the bytes of [`parse_str`] wherever both return bytes; it alone compiles two types of one name.
 #[doc(inline)]
 pub use generated::wat_types as types;
 use generated::{
     wat_module_encoder as encoder, wat_module_instructions as instructions,
     wat_module_lexer as lexer, wat_module_parser as parser, wat_module_tokens as tokens,
 };
+#[cfg(feature = "std")]
+use std::path::Path;
 use wat_lex::shim::alloc::Global;
-pub use wat_lex::{Error, Span};
+pub use wat_lex::{LexError, Span};
+
+/// The result of compiling a module.
+pub type Result<T, E = Error> = core::result::Result<T, E>;
 
 /// Compiles a module from the text format to the binary format, and returns its bytes.
 ///
@@ -82,14 +99,146 @@ pub use wat_lex::{Error, Span};
 /// - a text or a module of more than `u32::MAX` bytes, at offset 0.
 ///
 /// `Display` prints the location, and the line of the text unless it is long. If an allocation fails, the error is out of memory.
-pub fn parse_str(text: impl AsRef<str>) -> Result<Vec<u8>, Error> {
-    let text = text.as_ref();
-    // `requires` of `proved::compile`.
-    if u32::try_from(text.len()).is_err() {
-        let message = format!("the text has more than {} bytes", u32::MAX);
-        return Err(Error::new(Span::from_offset(0), message));
+pub fn parse_str(text: impl AsRef<str>) -> Result<Vec<u8>> {
+    Parser::new().compile(text.as_ref())
+}
+
+/// Compiles a module from the text format, or returns a binary unchanged.
+///
+/// Bytes that begin with the magic number `\0asm` are a binary, which is not parsed. Other bytes must be UTF-8, and are compiled like the text of
+/// [`parse_str`].
+///
+/// ```
+/// let binary = wat_modules::parse_bytes(b"(module)")?;
+/// assert_eq!(*binary, *b"\0asm\x01\0\0\0");
+/// assert_eq!(wat_modules::parse_bytes(&binary)?, binary);
+/// # Ok::<(), wat_modules::Error>(())
+/// ```
+///
+/// # Errors
+///
+/// Returns the errors of [`parse_str`], or an error at the offset at which the bytes stop being UTF-8.
+pub fn parse_bytes(bytes: &[u8]) -> Result<Cow<'_, [u8]>> {
+    Parser::new().compile_bytes(bytes)
+}
+
+/// Compiles the module in a file, or returns its binary unchanged, like [`parse_bytes`].
+///
+/// # Errors
+///
+/// Returns the errors of [`parse_bytes`], which print the path, or an error if the file cannot be read.
+#[cfg(feature = "std")]
+pub fn parse_file(path: impl AsRef<Path>) -> Result<Vec<u8>> {
+    Parser::new().parse_file(path)
+}
+
+/// A compiler of modules, whose methods also take the path of the source file.
+///
+/// ```
+/// use wat_modules::Parser;
+///
+/// let binary = Parser::new().compile("(module)")?;
+/// assert_eq!(binary, *b"\0asm\x01\0\0\0");
+/// # Ok::<(), wat_modules::Error>(())
+/// ```
+#[derive(Clone, Debug, Default)]
+pub struct Parser(());
+
+impl Parser {
+    /// Creates a compiler with the default options.
+    #[must_use]
+    pub fn new() -> Parser {
+        Parser(())
     }
-    let bytes = proved::compile(Global, text)?;
+
+    /// Compiles a module from the text format, like [`parse_str`](parse_str()).
+    ///
+    /// # Errors
+    ///
+    /// Returns the errors of [`parse_str`](parse_str()).
+    pub fn compile(&self, text: &str) -> Result<Vec<u8>> {
+        // `requires` of the functions of `proved`.
+        if u32::try_from(text.len()).is_err() {
+            let message = format!("the text has more than {} bytes", u32::MAX);
+            return Err(wat_lex::Error::new(Span::from_offset(0), message).into());
+        }
+        compile(text)
+    }
+
+    /// Compiles a module from the text format, or returns a binary unchanged.
+    fn compile_bytes<'a>(&self, bytes: &'a [u8]) -> Result<Cow<'a, [u8]>> {
+        if bytes.starts_with(detect::MAGIC) {
+            return Ok(Cow::Borrowed(bytes));
+        }
+        let text = text_of(bytes)?;
+        self.compile(text).map(Cow::Owned)
+    }
+
+    /// Compiles a module from the text format, like [`parse_str`](parse_str()). Errors print the path, if it is given.
+    ///
+    /// ```
+    /// use std::path::Path;
+    /// use wat_modules::Parser;
+    ///
+    /// let error = Parser::new().parse_str(Some(Path::new("a.wat")), "(module").unwrap_err();
+    /// assert!(error.to_string().contains("--> a.wat:1:8"));
+    /// ```
+    ///
+    /// # Errors
+    ///
+    /// Returns the errors of [`parse_str`](parse_str()).
+    #[cfg(feature = "std")]
+    pub fn parse_str(&self, path: Option<&Path>, text: impl AsRef<str>) -> Result<Vec<u8>> {
+        let result = self.compile(text.as_ref());
+        result.map_err(|error| at_path(error, path))
+    }
+
+    /// Compiles a module from the text format, or returns a binary unchanged, like [`parse_bytes`](parse_bytes()). Errors print the path, if it is
+    /// given.
+    ///
+    /// # Errors
+    ///
+    /// Returns the errors of [`parse_bytes`](parse_bytes()).
+    #[cfg(feature = "std")]
+    pub fn parse_bytes<'a>(&self, path: Option<&Path>, bytes: &'a [u8]) -> Result<Cow<'a, [u8]>> {
+        let result = self.compile_bytes(bytes);
+        result.map_err(|error| at_path(error, path))
+    }
+
+    /// Compiles the module in a file, or returns its binary unchanged, like [`parse_file`](parse_file()).
+    ///
+    /// # Errors
+    ///
+    /// Returns the errors of [`parse_file`](parse_file()).
+    #[cfg(feature = "std")]
+    pub fn parse_file(&self, path: impl AsRef<Path>) -> Result<Vec<u8>> {
+        let path = path.as_ref();
+        let contents = std::fs::read(path).map_err(|error| Error::unreadable(path, error))?;
+        let module = self.parse_bytes(Some(path), &contents)?;
+        Ok(module.into_owned())
+    }
+}
+
+/// Attaches the path of the source file to an error, if it is given.
+#[cfg(feature = "std")]
+fn at_path(mut error: Error, path: Option<&Path>) -> Error {
+    if let Some(path) = path {
+        error.set_path(path);
+    }
+    error
+}
+
+/// Returns bytes as a text, or an error at the offset at which they stop being UTF-8.
+fn text_of(bytes: &[u8]) -> Result<&str> {
+    str::from_utf8(bytes).map_err(|_| {
+        let start = bytes.utf8_chunks().next().map_or("", |chunk| chunk.valid());
+        Error::not_utf8(start)
+    })
+}
+
+/// Compiles a text of at most `u32::MAX` bytes.
+fn compile(text: &str) -> Result<Vec<u8>> {
+    let bytes = proved::compile(Global, text).map_err(wat_lex::Error::from)?;
     Ok(bytes.into())
 }
 
