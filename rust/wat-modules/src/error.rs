@@ -141,7 +141,8 @@ impl core::error::Error for Error {
     }
 }
 
-#[cfg(all(test, feature = "std"))]
+#[cfg(feature = "std")]
+#[cfg(test)]
 mod tests {
     use super::Error;
     use std::io;

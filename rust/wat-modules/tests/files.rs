@@ -53,5 +53,6 @@ fn a_file_that_cannot_be_read_is_an_error() {
     let cause = error.source().unwrap().downcast_ref::<io::Error>().unwrap();
     assert_eq!(cause.kind(), io::ErrorKind::NotFound);
     let full = format!("{message}: {cause}");
-    assert_eq!(wat_lex::Error::from(error).message(), full);
+    let error = wat_lex::Error::from(error);
+    assert_eq!((error.message(), error.span().offset()), (full, 0));
 }
