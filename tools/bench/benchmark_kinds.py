@@ -65,7 +65,7 @@ BELOW = {
 
 # The reasons of ratios that are below the bound by time alone, of a kind or of one of its calls.
 BY_TIME = {
-    "parser::parse, rejected": "the first call of a pass finds its code in no cache: 12 µs, in `wast` 10; a later one takes 0.9 µs, in `wast` 1.1",
+    "parser::parse, rejected": "the first call of a pass finds its code in no cache and takes 12 µs, in `wast` 10",
     "Lexer::iter, collected": "both write the same pages of a vector, which the system clears: 4,248 page faults for 1 MB of parentheses",
     "floats_special": "`nan` and `inf` are found by the general classifier, at the end of a number's and a word's: a quarter of the instructions",
 }
@@ -157,27 +157,28 @@ def head(rounds):
 
 
 def reason_of(kind, call, counted, timed):
-    """Returns the key of the reason why a ratio is below the bound, or `None` if there is no reason, or if no ratio is."""
+    """Returns the reasons that apply to ratios, BELOW or BY_TIME, and the key among them: "" if there is none, `None` if no ratio is below the bound."""
     bound = BOUND_OF_LONG if kind in LONG else BOUND
     if min(counted, timed) >= bound:
-        return None
-    general = (call, kind) if call in REPEATED else (kind, call)
-    reasons = BELOW if counted < bound else BY_TIME | BELOW
-    return next((key for key in ((kind, call), *general) if key in reasons), "")
+        return BELOW, None
+    keys = [(kind, call), *((call, kind) if call in REPEATED else (kind, call))]
+    found = [(reasons, key) for reasons in ([BELOW] if counted < bound else [BY_TIME, BELOW]) for key in keys if key in reasons]
+    return found[0] if found else (BELOW, "")
 
 
 def with_reasons(table):
     """Returns the table with the reasons in its last column, and the faults: rows without a reason, and reasons without a row."""
-    lines, faults, used = [], [], set()
+    lines, faults, used = [], [], {id(BELOW): set(), id(BY_TIME): set()}
     for line in table:
         cells = line.split("\t")
         if not line.startswith("#"):
-            key = reason_of(*cells[1:3], *map(float, cells[5:7]))
-            used.add(key)
+            reasons, key = reason_of(*cells[1:3], *map(float, cells[5:7]))
+            used[id(reasons)].add(key)
             faults += [f"{cells[1]}, {cells[2]}: no reason"] if key == "" else []
-            line = "\t".join([*cells[:7], (BELOW | BY_TIME).get(key, "")]).rstrip("\t")
+            line = "\t".join([*cells[:7], reasons.get(key, "")]).rstrip("\t")
         lines.append(line)
-    return lines, faults + [f"{key}: a reason without a row" for key in [*BELOW, *BY_TIME] if key not in used]
+    unused = [key for reasons in (BELOW, BY_TIME) for key in reasons if key not in used[id(reasons)]]
+    return lines, faults + [f"{key}: a reason without a row" for key in unused]
 
 
 def prepare(work):
