@@ -6,7 +6,7 @@ use wat_lex::shim::prelude::*;
 use wat_lex::shim::alloc::{AllocError, Global};
 use wat_lex::shim::borrow::{CowSlice, CowStr};
 use wat_parser::proved::lexer::{Lexer, Settings, SignToken, Token, TokenKind};
-use wat_parser::proved::parser::{Cursor, LazyBuffer};
+use wat_parser::proved::parser::{Cursor, LazyBuffer, Parser};
 use wat_parser::proved::{Error, laws};
 use crate::tokens::stream::{PackedToken, PackedU32, SideValue};
 use crate::tokens::token::Sign;
@@ -450,59 +450,93 @@ fn push_token<'t>(
 pub fn pack_tokens(alloc: Global, text: &str) -> Result<PackedText<'_>, Error> {
     let buffer = LazyBuffer::new_with_lexer(alloc, Lexer::with_settings(text, SETTINGS));
     let mut parser = buffer.parser();
-    parser.step(|cursor| pack_from(alloc, text, cursor))
+    pack_all(alloc, text, &mut parser)
 }
 
-/// Returns the visible tokens from a cursor on, packed, and the cursor after them. A lexical error
-/// is part of the result. Fails only if an allocation fails.
+/// Consumes the next visible token and returns it with the cursor after it, or returns `None` and
+/// the same cursor at the end of the text. Fails at a lexical error, or if an allocation fails.
 ///
 /// # Proved
 ///
 /// ```text
-/// requires { from.parser.now.source.setting.text ≡ text.now }
-/// ensures shown { IfOk result (λ r.
-///     TerminalsFrom from.entry.parser.now.source from.entry.parser.now.names from.entry.at
-///     (draft_terminals text.now r.0.packed) r.0.error) }
-/// ensures readable { IfOk result (λ r. AreReadable text.now (length r.0.packed.kept.items)
-///     r.0.packed.tokens.items) }
-/// ensures linked { IfOk result (λ r. AreLinked (draft_terminals text.now r.0.packed)
-///     r.0.packed.tokens.items) }
+/// ensures value { Answers false (λ r. option_map (λ t. (t, r.1.at)) r.0)
+///     (peek_at (at_place from.entry.parser.now from.entry.at)) result }
 /// ensures parser { IfOk result (λ r. r.1.parser ≡ from.entry.parser) }
 /// ensures on { IfOk result (λ r. from.entry.at ≤ r.1.at) }
+/// ensures past { IfOk result (λ r. IfSome r.0 (λ _. from.entry.at < r.1.at)) }
+/// ensures reader { IfOk result (λ r. IfSome r.0
+///     (IsTokenOf from.entry.parser.now.source.setting.text)) }
+/// ```
+fn next_token<'p, 'a>(from: Cursor<'p, 'a>) -> Result<(Option<Token>, Cursor<'p, 'a>), Error> {
+    match from.any()? {
+        Some((token, next)) => Ok((Some(token), next)),
+        None => Ok((None, from)),
+    }
+}
+
+/// Consumes the next visible token of a parser and returns it, or returns `None` at the end of the
+/// text. Fails at a lexical error, or if an allocation fails; the parser then stays.
+///
+/// # Proved
+///
+/// ```text
+/// ensures value { Answers false (λ found. option_map (λ t. (t, parser.new.place)) found)
+///     (peek_at parser.old) result }
+/// ensures parser { parser.new ≡ record parser.old { place = parser.new.place } }
+/// ensures on { IfOk result (λ found. IfSome found (λ _. parser.old.place < parser.new.place)) }
+/// ensures reader { IfOk result (λ found. IfSome found
+///     (IsTokenOf parser.old.source.setting.text)) }
+/// ensures sound { IsSound parser.new }
+/// ```
+#[inline(always)]
+fn next_visible(parser: &mut Parser<'_>) -> Result<Option<Token>, Error> {
+    let found = parser.step(|cursor| next_token(cursor));
+    parser.lemma_sound();
+    found
+}
+
+/// Returns the visible tokens from the position of a parser on, packed. A lexical error is part of
+/// the result. Fails only if an allocation fails.
+// The parser moves from token to token, which is faster than a cursor: it finds each token while it
+// moves, and caches it.
+/// # Proved
+///
+/// ```text
+/// requires { parser.old.source.setting.text ≡ text.now }
+/// ensures shown { IfOk result (λ r.
+///     TerminalsFrom parser.old.source parser.old.names parser.old.place
+///     (draft_terminals text.now r.packed) r.error) }
+/// ensures readable { IfOk result (λ r. AreReadable text.now (length r.packed.kept.items)
+///     r.packed.tokens.items) }
+/// ensures linked { IfOk result (λ r. AreLinked (draft_terminals text.now r.packed)
+///     r.packed.tokens.items) }
 /// ensures refused { IfErr result (λ e. e ≡ None) }
 /// ```
-fn pack_from<'p, 'a, 't>(
+fn pack_all<'t>(
     alloc: Global,
     text: &'t str,
-    from: Cursor<'p, 'a>,
-) -> Result<(PackedText<'t>, Cursor<'p, 'a>), Error> {
+    parser: &mut Parser<'_>,
+) -> Result<PackedText<'t>, Error> {
     laws::all_shown();
-    from.lemma_sound();
+    parser.lemma_sound();
     let mut packed = PackedTokens {
         tokens: Vec::new(alloc),
         kept: Vec::new(alloc),
     };
     let mut groups = Vec::new(alloc);
-    let mut cursor = from;
     'tokens: loop {
-        match cursor.any() {
-            Ok(Some((token, next))) => {
-                push_token(alloc, text, &token, &mut packed, &mut groups)?;
-                cursor = next;
-            }
+        match next_visible(parser) {
+            Ok(Some(token)) => push_token(alloc, text, &token, &mut packed, &mut groups)?,
             Ok(None) => {
-                return Ok((
-                    PackedText {
-                        packed,
-                        error: None,
-                    },
-                    cursor,
-                ));
+                return Ok(PackedText {
+                    packed,
+                    error: None,
+                });
             }
             Err(error) if error.is_out_of_memory() => return Err(error),
             Err(error) => {
                 let error = Some(error);
-                return Ok((PackedText { packed, error }, cursor));
+                return Ok(PackedText { packed, error });
             }
         }
     }
