@@ -3,3 +3,4 @@ pub mod SectionBytes
 pub mod RunLaws
 pub mod LocalLaws
 pub mod FunctionElements
+pub mod NameLaws

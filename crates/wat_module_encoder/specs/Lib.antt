@@ -1,2 +1,3 @@
 pub mod Binary
+pub mod NameSection
 pub mod Views

@@ -13,10 +13,13 @@ use Rattle.wat_module_encoder.specs.declared.data.DataTarget.TheVariants as plac
 use Rattle.wat_module_encoder.specs.declared.elements.ElementSegment as declared_elements
 use Rattle.wat_module_encoder.specs.declared.elements.ElementTarget.{ElementTarget}
 use Rattle.wat_module_encoder.specs.declared.elements.ElementTarget.TheVariants as elem_places
+use Rattle.wat_module_encoder.specs.declared.names.NameSpace.{NameSpace}
+use Rattle.wat_module_encoder.specs.declared.names.NameSpace.TheVariants as names
 use Rattle.wat_lex.specs.binary.Leb128.{unsigned_leb128}
 use Rattle.wat_module_ast.specs.Types.{FunctionType}
+use Rattle.wat_module_tokens.specs.Terminals.{Label}
 use Rattle.wat_module_encoder.specs.Binary.{mode_bytes, Export, ImportEntry, Run, export, next_index, run, section, ElementSegment, element_segment, DataSegment, at_zero, data_segment}
-use Rattle.wat_module_ast.specs.Fields.{Field, TypeField, Import, Func, Table, Memory, Global, Start, extern_space, Data, Elem, ElemMode, Passive, Active, Declarative, Target, target}
+use Rattle.wat_module_ast.specs.Fields.{Field, TypeField, Import, Func, Table, Memory, Global, Start, extern_space, Data, Elem, ElemMode, Passive, Active, Declarative, Target, target, binding_of, bindings_of, definition_name, definition_of, definitions_of, elem_of, elems_of, data_of, datas_of, names_in}
 use Rattle.wat_module_ast.specs.Fields as field
 use Rattle.wat_module_ast.specs.Views.{extern_of, expressions_of, together}
 
@@ -166,3 +169,17 @@ run_of r = run r.count r.byte
 -- 5.5.2: a section of `count` items, which are encoded in the bytes `items`. It is omitted if `count` is 0.
 abbrev pub counted_section : ℕ → ℕ → List ℕ → List ℕ
 counted_section number count items = if count == 0 then [] else section number (unsigned_leb128 count ++ items)
+
+-- The identifier of the item that a field adds to an index space, if it adds one.
+abbrev pub labels_in : NameSpace → Field → List Label
+labels_in (names.Items s) f = names_in s (binding_of f)
+labels_in names.Types f = map definition_name (definition_of f)
+labels_in names.Elements f = elem_of f
+labels_in names.Data f = data_of f
+
+-- The identifiers of the items that fields add to an index space, in the order of their indices.
+abbrev pub labels_of : NameSpace → List Field → List Label
+labels_of (names.Items s) fs = names_in s (bindings_of fs)
+labels_of names.Types fs = map definition_name (definitions_of fs)
+labels_of names.Elements fs = elems_of fs
+labels_of names.Data fs = datas_of fs

@@ -13,6 +13,7 @@ mod imports;
 mod indices;
 mod instructions;
 mod memories;
+mod names;
 mod start;
 mod tables;
 mod types;

@@ -10,19 +10,22 @@ use crate::encoder::functions::put_functions;
 use crate::encoder::globals::put_globals;
 use crate::encoder::imports::put_imports;
 use crate::encoder::memories::put_memories;
+use crate::encoder::names::put_names;
 use crate::encoder::start::put_start;
 use crate::encoder::tables::put_tables;
 use crate::encoder::types::put_types;
 use wat_lex::shim::alloc::{AllocError, Global};
 use crate::ast::fields::Field;
 use crate::ast::implicit_types::types_of;
+use crate::tokens::token::Name;
 
 /// The magic number `\0asm` and version 1.
 const HEADER: [u8; 8] = [0x00, 0x61, 0x73, 0x6D, 0x01, 0x00, 0x00, 0x00];
 
 /// Returns the encoding of a module in the binary format.
 ///
-/// Sections without content are left out, and custom sections are not generated.
+/// Sections without content are left out, and custom sections are not generated;
+/// `put_name_section` appends the name section.
 ///
 /// # Errors
 ///
@@ -54,4 +57,26 @@ pub fn module_bytes(alloc: Global, fields: &[Field<'_>]) -> Result<Vec<u8>, Allo
     put_codes(alloc, &mut bytes, &types, fields)?;
     put_data(alloc, &mut bytes, &types, &segments)?;
     Ok(bytes)
+}
+
+/// Appends the name section of a module to its encoding: the identifier `name` of the module, and
+/// the identifiers of its items, without `$`, by their indices. Appends nothing if there are none.
+///
+/// # Errors
+///
+/// Fails if an allocation fails.
+///
+/// # Proved
+///
+/// ```text
+/// ensures { OnOk result (bytes.new.items ≡
+/// bytes.old.items ++ name_section (label name.entry) (fields_of fields.now)) }
+/// ```
+pub fn put_name_section(
+    alloc: Global,
+    bytes: &mut Vec<u8>,
+    name: Name<'_>,
+    fields: &[Field<'_>],
+) -> Result<(), AllocError> {
+    put_names(alloc, bytes, name, fields)
 }
