@@ -21,15 +21,14 @@ use Rattle.wat_lexer_parser.specs.names.RegisteredNames.{no_names}
 use Rattle.wat_lexer_parser.specs.parser.State.{Answers, report_of}
 use Rattle.wat_module_ast.specs.declared.error.FaultKind.{FaultKind}
 use Rattle.wat_module_ast.specs.Grammar as grammar
-use Rattle.wat_module_tokens.specs.Terminals.{Terminal}
-use Rattle.wat_module_encoder.specs.Binary.{module_bytes}
+use Rattle.wat_module_tokens.specs.Terminals.{Terminal, Label}
 use Rattle.wat_module_ast.specs.Fields.{Field}
 use Rattle.wat_module_ast.specs.Modules.{Module}
 use Rattle.wat_module_parser.specs.Law.{ReadingIsGrammar}
 use Rattle.wat_module_parser.specs.Reading as reading
 use Rattle.wat_module_lexer.specs.TokenTerminals.{plain, terminal_of}
 use Rattle.wat_module_lexer.specs.Shown.{TerminalsShown, TextShown}
-use Rattle.wat_modules.specs.Compiling.{Fits, DenotesModule, compiled, compiled_by, compiled_tokens, fitted, message, place, too_long}
+use Rattle.wat_modules.specs.Compiling.{DenotesModule, DenotesNamed, FitsNamed, named_bytes, compiled_as, compiled_by, compiled_tokens, encoding, fitted, message, module_name, place, too_long}
 
 -- The visible tokens of a text, and the error after them, are unique.
 pub shows_one : TilingsAreUnique → AllShownIsOne → (text : List ℕ) (us vs : List Token) (f g : Option Fault) → TextShows (plain text) no_names us f → TextShows (plain text) no_names vs g → (us ≡ vs) × (f ≡ g)
@@ -67,11 +66,11 @@ abbrev pub Is : Result (List ℕ) Report → Answer → Type 0
 Is m r = Answers {T = Vec ℕ Global} true (λ bytes. bytes.items) m r
 
 -- the bytes of a module that the tokens are
-pub of_bytes : ReadingIsGrammar → (text : List ℕ) (us : List Token) (ts : List Terminal) (fs : List Field) (bytes : List ℕ) (r : Answer) → Module ts fs → bytes ≡ module_bytes fs → Is (fitted text bytes) r → ts ≡ map (terminal_of text) us → Is (compiled_tokens text us) r
+pub of_bytes : ReadingIsGrammar → (n : Bool) (text : List ℕ) (us : List Token) (ts : List Terminal) (fs : List Field) (bytes : List ℕ) (r : Answer) → Module ts fs → bytes ≡ encoding n (module_name ts) fs → Is (fitted text bytes) r → ts ≡ map (terminal_of text) us → Is (compiled_tokens n text us) r
 unfolding compiled_tokens
-of_bytes law text us ts fs bytes r m e a t =
+of_bytes law n text us ts fs bytes r m e a t =
     let q : reading.whole (map (terminal_of text) us) ≡ Ok fs = ap reading.whole (sym t) ∙ (law ts fs).1 m in
-    subst (λ x. Is (compiled_by text us x) r) (sym q) (subst (λ b. Is (fitted text b) r) e a)
+    subst (λ x. Is (compiled_by n (module_name (map (terminal_of text) us)) text us x) r) (sym q) (subst (λ b. Is (fitted text b) r) (e ∙ ap (λ x. encoding n (module_name x) fs) t) a)
 
 -- The report of a syntax error at which `left` tokens remain.
 abbrev pub fault_report : List ℕ → List Token → FaultKind → ℕ → Report
@@ -81,11 +80,11 @@ unless_memory : (m : Report) (error : Option Report) → IsUnlessMemory error m 
 unless_memory m None h = refl
 unless_memory m (Some e) h = ap Err (sym h)
 
-pub of_fault : (text : List ℕ) (us : List Token) (ts : List Terminal) (kind : FaultKind) (left : List Terminal) (n : ℕ) (error : Option Report) → reading.whole ts ≡ Err (kind, left) → n ≡ length left → IsUnlessMemory error (fault_report text us kind n) → ts ≡ map (terminal_of text) us → Is (compiled_tokens text us) (Err error)
+pub of_fault : (names : Bool) (text : List ℕ) (us : List Token) (ts : List Terminal) (kind : FaultKind) (left : List Terminal) (n : ℕ) (error : Option Report) → reading.whole ts ≡ Err (kind, left) → n ≡ length left → IsUnlessMemory error (fault_report text us kind n) → ts ≡ map (terminal_of text) us → Is (compiled_tokens names text us) (Err error)
 unfolding compiled_tokens
-of_fault text us ts kind left n error e l h t =
+of_fault names text us ts kind left n error e l h t =
     let q : reading.whole (map (terminal_of text) us) ≡ Err (kind, left) = ap reading.whole (sym t) ∙ e in
-    subst (λ x. Is (compiled_by text us x) (Err error)) (sym q) (unless_memory (fault_report text us kind (length left)) error (subst (λ k. IsUnlessMemory error (fault_report text us kind k)) l h))
+    subst (λ x. Is (compiled_by names (module_name (map (terminal_of text) us)) text us x) (Err error)) (sym q) (unless_memory (fault_report text us kind (length left)) error (subst (λ k. IsUnlessMemory error (fault_report text us kind k)) l h))
 
 -- The tokens of a text without an error are the same if they are computed again.
 pub fault_of_tokens : TilingsAreUnique → AllShownIsOne → (text : List ℕ) (items us : List Token) (shown : Option (Option Report)) (kind : FaultKind) (left : ℕ) (error : Option Report) → TextShown text items shown → IsUnlessMemory error (fault_report text items kind left) → TextShows (plain text) no_names us None → IsUnlessMemory error (fault_report text us kind left)
@@ -94,81 +93,91 @@ fault_of_tokens tilings one text items us shown kind left error s h k =
     subst (λ ts. IsUnlessMemory error (fault_report text ts kind left)) (shows_one tilings one text items us a.fault None a.shows k).0 h
 
 -- The result is that of all visible tokens of the text and the error after them.
-abbrev pub IsRefused : List ℕ → Answer → Type 0
-IsRefused text r = (tokens : List Token) (last : Option Fault) → TextShows (plain text) no_names tokens last → Is (compiled text tokens last) r
+abbrev pub IsRefused : Bool → List ℕ → Answer → Type 0
+IsRefused n text r = (tokens : List Token) (last : Option Fault) → TextShows (plain text) no_names tokens last → Is (compiled_as n text tokens last) r
 
-refused_by : TilingsAreUnique → AllShownIsOne → (text : List ℕ) (us : List Token) (f : Option Fault) (r : Answer) → TextShows (plain text) no_names us f → Is (compiled text us f) r → IsRefused text r
-refused_by tilings one text us f r h a = λ vs g k.
-    let e = shows_one tilings one text us vs f g h k in subst (λ x. Is (compiled text vs x) r) e.1 (subst (λ x. Is (compiled text x f) r) e.0 a)
+refused_by : TilingsAreUnique → AllShownIsOne → (n : Bool) (text : List ℕ) (us : List Token) (f : Option Fault) (r : Answer) → TextShows (plain text) no_names us f → Is (compiled_as n text us f) r → IsRefused n text r
+refused_by tilings one n text us f r h a = λ vs g k.
+    let e = shows_one tilings one text us vs f g h k in subst (λ x. Is (compiled_as n text vs x) r) e.1 (subst (λ x. Is (compiled_as n text x f) r) e.0 a)
 
-spelled_by : ReadingIsGrammar → (text : List ℕ) (r : Answer) → IsRefused text r → (fs : List Field) → DenotesModule text fs → Is (fitted text (module_bytes fs)) r
+spelled_by : ReadingIsGrammar → (n : Bool) (text : List ℕ) (r : Answer) → IsRefused n text r → (fs : List Field) (m : DenotesModule text fs) → Is (fitted text (encoding n (module_name m.terminals) fs)) r
 unfolding compiled_tokens
-spelled_by law text r h = λ fs s.
-    subst (λ q. Is (compiled_by text s.shown.tokens q) r) (ap reading.whole (sym s.shown.are) ∙ (law s.terminals fs).1 s.spelled) (h s.shown.tokens None s.shown.shown)
+spelled_by law n text r h = λ fs s.
+    subst (λ ts. Is (fitted text (encoding n (module_name ts) fs)) r) (sym s.shown.are)
+    (subst (λ q. Is (compiled_by n (module_name (map (terminal_of text) s.shown.tokens)) text s.shown.tokens q) r) (ap reading.whole (sym s.shown.are) ∙ (law s.terminals fs).1 s.spelled) (h s.shown.tokens None s.shown.shown))
 
-abbrev pub HasBytes : List ℕ → Answer → Type 0
-HasBytes text r = IfOk r (λ bytes. (fs : List Field) × DenotesModule text fs × Fits fs × (bytes.items ≡ module_bytes fs))
+abbrev pub HasBytes : Bool → List ℕ → Answer → Type 0
+HasBytes n text r = IfOk r (λ bytes. (fs : List Field) × (m : DenotesModule text fs) × (length (encoding n (module_name m.terminals) fs) < 2 ^ 32) × (bytes.items ≡ encoding n (module_name m.terminals) fs))
 
 fitted_is : (text : List ℕ) (bytes out : List ℕ) (b : Bool) → nat_lt (length bytes) (2 ^ 32) ≡ b → (if b then Ok bytes else Err (too_long text)) ≡ Ok out → (length bytes < 2 ^ 32) × (out ≡ bytes)
 fitted_is text bytes out true e h = let k : bytes ≡ out = cc in ((Decides-ltb (length bytes) (2 ^ 32)).0 e, sym k)
 fitted_is text bytes out false e h = cc
 
-bytes_of : ReadingIsGrammar → (text : List ℕ) (us : List Token) (out : Vec ℕ Global) → TextShows (plain text) no_names us None → (q : Result (List Field) grammar.Fault) → reading.whole (map (terminal_of text) us) ≡ q → compiled_by text us q ≡ Ok out.items
-    → (fs : List Field) × DenotesModule text fs × Fits fs × (out.items ≡ module_bytes fs)
-bytes_of law text us out h (Ok fs) e k =
-    let f = fitted_is text (module_bytes fs) out.items (nat_lt (length (module_bytes fs)) (2 ^ 32)) refl k in
+bytes_of : ReadingIsGrammar → (n : Bool) (text : List ℕ) (us : List Token) (out : Vec ℕ Global) → TextShows (plain text) no_names us None → (q : Result (List Field) grammar.Fault) → reading.whole (map (terminal_of text) us) ≡ q → compiled_by n (module_name (map (terminal_of text) us)) text us q ≡ Ok out.items
+    → (fs : List Field) × (m : DenotesModule text fs) × (length (encoding n (module_name m.terminals) fs) < 2 ^ 32) × (out.items ≡ encoding n (module_name m.terminals) fs)
+bytes_of law n text us out h (Ok fs) e k =
+    let bytes = encoding n (module_name (map (terminal_of text) us)) fs in
+    let f = fitted_is text bytes out.items (nat_lt (length bytes) (2 ^ 32)) refl k in
     (fs, record { terminals = map (terminal_of text) us; shown = record { tokens = us; shown = h; are = refl }; spelled = (law (map (terminal_of text) us) fs).0 e }, f.0, f.1)
-bytes_of law text us out h (Err f) e k = cc
+bytes_of law n text us out h (Err f) e k = cc
 
-bytes_by : ReadingIsGrammar → (text : List ℕ) (us : List Token) (f : Option Fault) (r : Answer) → TextShows (plain text) no_names us f → Is (compiled text us f) r → HasBytes text r
+bytes_by : ReadingIsGrammar → (n : Bool) (text : List ℕ) (us : List Token) (f : Option Fault) (r : Answer) → TextShows (plain text) no_names us f → Is (compiled_as n text us f) r → HasBytes n text r
 unfolding compiled_tokens
-bytes_by law text us None (Ok out) h a = bytes_of law text us out h (reading.whole (map (terminal_of text) us)) refl a
-bytes_by law text us (Some f) (Ok out) h a = cc
-bytes_by law text us f (Err e) h a = tt
+bytes_by law n text us None (Ok out) h a = bytes_of law n text us out h (reading.whole (map (terminal_of text) us)) refl a
+bytes_by law n text us (Some f) (Ok out) h a = cc
+bytes_by law n text us f (Err e) h a = tt
 
 -- the fault that was shown
-fault_is : (text : List ℕ) (us : List Token) (f : Option Fault) (e : Option Report) → Some e ≡ option_map (λ f. Some (report_of text f)) f → Is (compiled text us f) (Err e)
-fault_is text us (Some f) e h = let k : e ≡ Some (report_of text f) = cc in subst (λ x. Is (Err (report_of text f)) (Err x)) (sym k) refl
-fault_is text us None e h = cc
+fault_is : (n : Bool) (text : List ℕ) (us : List Token) (f : Option Fault) (e : Option Report) → Some e ≡ option_map (λ f. Some (report_of text f)) f → Is (compiled_as n text us f) (Err e)
+fault_is n text us (Some f) e h = let k : e ≡ Some (report_of text f) = cc in subst (λ x. Is (Err (report_of text f)) (Err x)) (sym k) refl
+fault_is n text us None e h = cc
 
 -- none was shown
-no_fault : (text : List ℕ) (us : List Token) (f : Option Fault) (r : Answer) → None ≡ option_map (λ f. Some (report_of text f)) f → Is (compiled_tokens text us) r → Is (compiled text us f) r
-no_fault text us None r h a = a
-no_fault text us (Some f) r h a = cc
+no_fault : (n : Bool) (text : List ℕ) (us : List Token) (f : Option Fault) (r : Answer) → None ≡ option_map (λ f. Some (report_of text f)) f → Is (compiled_tokens n text us) r → Is (compiled_as n text us f) r
+no_fault n text us None r h a = a
+no_fault n text us (Some f) r h a = cc
 
 shows_end : (text : List ℕ) (us : List Token) (f : Option Fault) → None ≡ option_map (λ f. Some (report_of text f)) f → TextShows (plain text) no_names us f → TextShows (plain text) no_names us None
 shows_end text us None e h = h
 shows_end text us (Some f) e h = cc
 
 -- The result is that of some visible tokens of the text and the error after them.
-pub record IsCompiled (text : List ℕ) (r : Answer) : Type 0 where
+pub record IsCompiled (n : Bool) (text : List ℕ) (r : Answer) : Type 0 where
   pub tokens : List Token
   pub fault : Option Fault
   pub shows : TextShows (plain text) no_names tokens fault
-  pub is : Is (compiled text tokens fault) r
+  pub is : Is (compiled_as n text tokens fault) r
 
-pub compiled_fault : (text : List ℕ) (ts : List Terminal) (e : Option Report) → TerminalsShown text ts (Some e) → IsCompiled text (Err e)
-compiled_fault text ts e h =
+pub compiled_fault : (n : Bool) (text : List ℕ) (ts : List Terminal) (e : Option Report) → TerminalsShown text ts (Some e) → IsCompiled n text (Err e)
+compiled_fault n text ts e h =
     let s = seen text h.tokens (Some e) h.shown in
-    record { tokens = h.tokens; fault = s.fault; shows = s.shows; is = fault_is text h.tokens s.fault e s.reported }
+    record { tokens = h.tokens; fault = s.fault; shows = s.shows; is = fault_is n text h.tokens s.fault e s.reported }
 
 -- The result is that of all tokens with these terminals.
-abbrev pub IsOfTerminals : List ℕ → List Terminal → Answer → Type 0
-IsOfTerminals text ts r = (tokens : List Token) → TextShows (plain text) no_names tokens None → ts ≡ map (terminal_of text) tokens → Is (compiled_tokens text tokens) r
+abbrev pub IsOfTerminals : Bool → List ℕ → List Terminal → Answer → Type 0
+IsOfTerminals n text ts r = (tokens : List Token) → TextShows (plain text) no_names tokens None → ts ≡ map (terminal_of text) tokens → Is (compiled_tokens n text tokens) r
 
-pub compiled_end : (text : List ℕ) (ts : List Terminal) (r : Answer) → TerminalsShown text ts None → IsOfTerminals text ts r → IsCompiled text r
-compiled_end text ts r h k =
+pub compiled_end : (n : Bool) (text : List ℕ) (ts : List Terminal) (r : Answer) → TerminalsShown text ts None → IsOfTerminals n text ts r → IsCompiled n text r
+compiled_end n text ts r h k =
     let s = seen text h.tokens None h.shown in
-    record { tokens = h.tokens; fault = s.fault; shows = s.shows; is = no_fault text h.tokens s.fault r s.reported (k h.tokens (shows_end text h.tokens s.fault s.reported s.shows) h.are) }
+    record { tokens = h.tokens; fault = s.fault; shows = s.shows; is = no_fault n text h.tokens s.fault r s.reported (k h.tokens (shows_end text h.tokens s.fault s.reported s.shows) h.are) }
 
-pub compiled_refused : TilingsAreUnique → AllShownIsOne → (text : List ℕ) (r : Answer) → IsCompiled text r → IsRefused text r
-compiled_refused tilings one text r h = refused_by tilings one text h.tokens h.fault r h.shows h.is
+pub compiled_refused : TilingsAreUnique → AllShownIsOne → (n : Bool) (text : List ℕ) (r : Answer) → IsCompiled n text r → IsRefused n text r
+compiled_refused tilings one n text r h = refused_by tilings one n text h.tokens h.fault r h.shows h.is
 
-pub compiled_spelled : TilingsAreUnique → AllShownIsOne → ReadingIsGrammar → (text : List ℕ) (r : Answer) → IsCompiled text r → (fs : List Field) → DenotesModule text fs → Is (fitted text (module_bytes fs)) r
-compiled_spelled tilings one law text r h = spelled_by law text r (compiled_refused tilings one text r h)
+pub compiled_spelled : TilingsAreUnique → AllShownIsOne → ReadingIsGrammar → (n : Bool) (text : List ℕ) (r : Answer) → IsCompiled n text r → (fs : List Field) (m : DenotesModule text fs) → Is (fitted text (encoding n (module_name m.terminals) fs)) r
+compiled_spelled tilings one law n text r h = spelled_by law n text r (compiled_refused tilings one n text r h)
 
-pub compiled_bytes : ReadingIsGrammar → (text : List ℕ) (r : Answer) → IsCompiled text r → HasBytes text r
-compiled_bytes law text r h = bytes_by law text h.tokens h.fault r h.shows h.is
+pub compiled_bytes : ReadingIsGrammar → (n : Bool) (text : List ℕ) (r : Answer) → IsCompiled n text r → HasBytes n text r
+compiled_bytes law n text r h = bytes_by law n text h.tokens h.fault r h.shows h.is
+
+-- The bytes with a name section, by the identifier of the module.
+pub named_by : (text : List ℕ) (r : Answer) → HasBytes true text r → IfOk r (λ bytes. (l : Label) × (fs : List Field) × DenotesNamed text l fs × FitsNamed l fs × (bytes.items ≡ named_bytes l fs))
+named_by text (Ok out) (fs, m, small, is) = (module_name m.terminals, fs, record { terminals = m.terminals; shown = m.shown; spelled = m.spelled; named = refl }, small, is)
+named_by text (Err e) h = tt
+
+pub named_spelled : (text : List ℕ) (r : Answer) → ((fs : List Field) (m : DenotesModule text fs) → Is (fitted text (encoding true (module_name m.terminals) fs)) r) → (l : Label) (fs : List Field) → DenotesNamed text l fs → Is (fitted text (named_bytes l fs)) r
+named_spelled text r h = λ l fs d. subst (λ k. Is (fitted text (named_bytes k fs)) r) d.named (h fs (record { terminals = d.terminals; shown = d.shown; spelled = d.spelled }))
 
 -- A text denotes at most one module.
 pub one_module : TilingsAreUnique → AllShownIsOne → ReadingIsGrammar → (text : List ℕ) (fs gs : List Field) → DenotesModule text fs → DenotesModule text gs → fs ≡ gs

@@ -1,6 +1,6 @@
--- WebAssembly 2.0, 6.6.13 (text format, modules) and 5.5.16 (binary format, modules): which text denotes which
--- module, and the result of compiling a text.
-use Rattle.std.specs.Prelude.{◌≡◌, ◌<◌, ℕ, ◌^◌, ◌-◌, nat_lt, List, length, map, codes, slice_get, if◌then◌else◌, Option, Some, None, Result, Ok, Err}
+-- WebAssembly 2.0, 6.6.13 (text format, modules), 5.5.16 (binary format, modules) and 7.4.1 (name section): which text
+-- denotes which module, and the result of compiling a text.
+use Rattle.std.specs.Prelude.{◌≡◌, ◌<◌, ℕ, ◌^◌, ◌-◌, ◌++◌, nat_lt, Bool, true, false, List, length, map, codes, slice_get, if◌then◌else◌, Option, Some, None, Result, Ok, Err}
 use Rattle.wat_lex.specs.declared.lexer.kinds.Token.{Token}
 use Rattle.wat_lex.specs.errors.Errors.{Report, Custom, report_in}
 use Rattle.wat_lexer_parser.specs.declared.parser.fault.Fault.{Fault}
@@ -8,9 +8,10 @@ use Rattle.wat_lexer_parser.specs.parser.State.{report_of}
 use Rattle.wat_module_ast.specs.declared.error.FaultKind.{FaultKind}
 use Rattle.wat_module_ast.specs.declared.error.FaultKind.TheVariants.{Unexpected, UnknownWord, UnknownName, WrongLabel, OutOfRange, NotUtf8, Duplicate, SecondStart, OtherType, LateImport}
 use Rattle.wat_module_ast.specs.Grammar as grammar
-use Rattle.wat_module_tokens.specs.Terminals.{Terminal}
+use Rattle.wat_module_tokens.specs.Terminals.{Terminal, Label}
 use Rattle.wat_module_lexer.specs.TokenTerminals.{Shows, terminal_of}
 use Rattle.wat_module_encoder.specs.Binary.{module_bytes}
+use Rattle.wat_module_encoder.specs.NameSection.{name_section}
 use Rattle.wat_module_ast.specs.Fields.{Field}
 use Rattle.wat_module_ast.specs.Modules.{Module}
 use Rattle.wat_module_parser.specs.Reading as reading
@@ -22,6 +23,23 @@ pub record DenotesModule (text : List ℕ) (fs : List Field) : Type 0 where
   pub shown : Shows text terminals
   pub spelled : Module terminals fs
 
+abbrev pub name_after : Option (List Terminal) → Label
+name_after (Some ts) = (grammar.label_of ts).0
+name_after None = None
+
+-- 6.6.13: the identifier of a module with these tokens: that after `(module`, if there is one. `(module )` may be omitted
+-- (`by_fields`), and no field has the keyword `module`.
+abbrev pub module_name : List Terminal → Label
+module_name ts = name_after (grammar.after (codes "module") ts)
+
+-- `DenotesNamed text l fs`: the text denotes a module with the fields `fs`, and the module has the identifier `l`, or
+-- none.
+pub record DenotesNamed (text : List ℕ) (l : Label) (fs : List Field) : Type 0 where
+  pub terminals : List Terminal
+  pub shown : Shows text terminals
+  pub spelled : Module terminals fs
+  pub named : module_name terminals ≡ l
+
 -- Theorem: a text denotes at most one module.
 abbrev pub SpellingIsOne : Type 0
 SpellingIsOne = (text : List ℕ) (fs gs : List Field) → DenotesModule text fs → DenotesModule text gs → fs ≡ gs
@@ -31,6 +49,19 @@ SpellingIsOne = (text : List ℕ) (fs gs : List Field) → DenotesModule text fs
 -- because the text is shorter than 2^32 bytes.
 abbrev pub Fits : List Field → Type 0
 Fits fs = length (module_bytes fs) < 2 ^ 32
+
+-- 5.5.16, 7.4.1: the binary of a module with this identifier and these fields, followed by its name section.
+abbrev pub named_bytes : Label → List Field → List ℕ
+named_bytes l fs = module_bytes fs ++ name_section l fs
+
+-- `FitsNamed l fs`: the binary of the module with its name section is shorter than 2^32 bytes.
+abbrev pub FitsNamed : Label → List Field → Type 0
+FitsNamed l fs = length (named_bytes l fs) < 2 ^ 32
+
+-- The binary of a module with this identifier and these fields, with its name section if `has_names` is true.
+abbrev pub encoding : Bool → Label → List Field → List ℕ
+encoding false l fs = module_bytes fs
+encoding true l fs = named_bytes l fs
 
 -- The errors of the compiler, and their offsets. The standard does not define them.
 
@@ -62,16 +93,25 @@ too_long text = report_in text 0 (Custom (codes "module too long"))
 abbrev pub fitted : List ℕ → List ℕ → Result (List ℕ) Report
 fitted text bytes = if nat_lt (length bytes) (2 ^ 32) then Ok bytes else Err (too_long text)
 
--- The result of compiling a text, by the result of parsing its visible tokens.
-abbrev pub compiled_by : List ℕ → List Token → Result (List Field) grammar.Fault → Result (List ℕ) Report
-compiled_by text tokens (Ok fs) = fitted text (module_bytes fs)
-compiled_by text tokens (Err f) = Err (report_in text (place text tokens (length f.1)) (Custom (message f.0)))
+-- The result of compiling a text, with a name section if `has_names` is true, by the identifier of the module and the
+-- result of parsing the visible tokens.
+abbrev pub compiled_by : Bool → Label → List ℕ → List Token → Result (List Field) grammar.Fault → Result (List ℕ) Report
+compiled_by has_names l text tokens (Ok fs) = fitted text (encoding has_names l fs)
+compiled_by has_names l text tokens (Err f) = Err (report_in text (place text tokens (length f.1)) (Custom (message f.0)))
 
 -- The result of compiling a text, by its visible tokens, if it has no error.
-unfoldable pub compiled_tokens : List ℕ → List Token → Result (List ℕ) Report
-compiled_tokens text tokens = compiled_by text tokens (reading.whole (map (terminal_of text) tokens))
+unfoldable pub compiled_tokens : Bool → List ℕ → List Token → Result (List ℕ) Report
+compiled_tokens has_names text tokens = compiled_by has_names (module_name (map (terminal_of text) tokens)) text tokens (reading.whole (map (terminal_of text) tokens))
 
 -- The result of compiling a text, by its visible tokens and the error after them, if there is one.
+abbrev pub compiled_as : Bool → List ℕ → List Token → Option Fault → Result (List ℕ) Report
+compiled_as has_names text tokens None = compiled_tokens has_names text tokens
+compiled_as has_names text tokens (Some f) = Err (report_of text f)
+
+-- The result of compiling a text without a name section.
 abbrev pub compiled : List ℕ → List Token → Option Fault → Result (List ℕ) Report
-compiled text tokens None = compiled_tokens text tokens
-compiled text tokens (Some f) = Err (report_of text f)
+compiled text tokens last = compiled_as false text tokens last
+
+-- The result of compiling a text with a name section.
+abbrev pub compiled_named : List ℕ → List Token → Option Fault → Result (List ℕ) Report
+compiled_named text tokens last = compiled_as true text tokens last

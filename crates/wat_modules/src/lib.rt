@@ -2,8 +2,10 @@
 //! encoding of the module from which the grammar derives the text.
 #![tactic(auto)]
 
-ghost use Rattle.std.specs.Prelude.{◌≡◌, ◌<◌, ◌^◌, true, length, map, IfOk, List, None, Option};
+ghost use Rattle.std.specs.Prelude.{◌≡◌, ◌<◌, ◌^◌, ◌++◌, true, length, map, IfOk, List, None, Option};
 ghost use Rattle.wat_module_ast.specs.Fields.{Field};
+ghost use Rattle.wat_module_tokens.specs.TokenCursor.{terminals_of};
+ghost use Rattle.wat_module_tokens.specs.Terminals.{Label, label};
 ghost use Rattle.wat_module_tokens.specs.Tokens.{AreLinked, AreReadable};
 ghost use Rattle.wat_lex.specs.declared.lexer.kinds.Token.{Token};
 ghost use Rattle.wat_lex.specs.errors.Errors.{Custom, IsUnlessMemory, report_in};
@@ -12,23 +14,29 @@ ghost use Rattle.wat_lexer_parser.specs.laws.Blanking.{TextShows};
 ghost use Rattle.wat_lexer_parser.specs.names.RegisteredNames.{no_names};
 ghost use Rattle.wat_lexer_parser.specs.parser.State.{Answers};
 ghost use Rattle.wat_modules.specs.Compiling.{Fits, DenotesModule, compiled, compiled_tokens};
-ghost use Rattle.wat_modules.specs.Compiling.{fitted};
+ghost use Rattle.wat_modules.specs.Compiling.{FitsNamed, compiled_as, compiled_named, encoding};
+ghost use Rattle.wat_modules.specs.Compiling.{DenotesNamed, fitted, module_name};
 ghost use Rattle.wat_modules.specs.Compiling as compiling;
 ghost use Rattle.wat_module_lexer.specs.Drafts.{draft_terminals};
 ghost use Rattle.wat_module_lexer.specs.TokenTerminals.{plain, terminal_of};
+ghost use Rattle.wat_module_ast.specs.Views.{fields_of};
 ghost use Rattle.wat_module_encoder.specs.Binary.{module_bytes};
+ghost use Rattle.wat_module_encoder.specs.NameSection.{name_section};
 
 pub mod laws;
 
-use std::alloc::Global;
+use std::alloc::{AllocError, Global};
 use wat_lexer_parser::Error;
 use wat_lexer_parser::lexer::Token;
 use wat_lexer_parser::token::Span;
 use wat_module_ast::error::{FaultKind, ParseFailure};
+use wat_module_ast::fields::Field;
 use wat_module_encoder::encode;
+use wat_module_instructions::reading;
 use wat_module_lexer::{PackedText, PackedTokens, pack_tokens, shown_tokens};
 use wat_module_parser::module;
-use wat_module_tokens::stream::TokenStream;
+use wat_module_tokens::stream::{TokenCursor, TokenStream};
+use wat_module_tokens::token::Name;
 
 /// Compiles a module from text to binary.
 ///
@@ -61,6 +69,60 @@ pub fn compile(alloc: Global, text: &str) -> Result<Vec<u8>, Error>
     ensures some { (tokens : List Token) × (last : Option Fault) ×
         TextShows (plain text.now) no_names tokens last }
 {
+    compile_as(alloc, text, false)
+}
+
+/// Compiles a module from text to binary, with a name section.
+///
+/// Returns the binary encoding of the module from which the grammar derives the text, followed by
+/// the custom section `name`, which has the identifiers of the text by the indices of their items
+/// (`specs/NameSection` of `wat_module_encoder`). A module without identifiers has no such section.
+/// The text must be shorter than 2^32 bytes.
+///
+/// # Errors
+///
+/// Returns the errors of [`compile`]. The name section counts for the size of the module.
+pub fn compile_with_names(alloc: Global, text: &str) -> Result<Vec<u8>, Error>
+    requires { length text.now < 2 ^ 32 }
+
+    // The bytes encode a module from which the grammar derives the text, and its names.
+    ensures bytes { IfOk result (λ bytes. (l : Label) × (fs : List Field)
+        × DenotesNamed text.now l fs × FitsNamed l fs
+        × (bytes.items ≡ module_bytes fs ++ name_section l fs)) }
+
+    // If the grammar derives the text from a module, the result is the encoding of that module and
+    // of its names, the error that it is too long, or an allocation failure.
+    ensures spelled { (l : Label) (fs : List Field) → DenotesNamed text.now l fs →
+        Answers true (λ bytes. bytes.items)
+        (fitted text.now (module_bytes fs ++ name_section l fs)) result }
+
+    // The result is that of the visible tokens and the lexical error after them, if there is one.
+    ensures refused { (tokens : List Token) (last : Option Fault) →
+        TextShows (plain text.now) no_names tokens last →
+        Answers true (λ bytes. bytes.items) (compiled_named text.now tokens last) result }
+
+    // A text has visible tokens, with or without a lexical error after them.
+    ensures some { (tokens : List Token) × (last : Option Fault) ×
+        TextShows (plain text.now) no_names tokens last }
+{
+    compile_as(alloc, text, true)
+}
+
+/// Compiles a module from text to binary, with a name section if `has_names`.
+fn compile_as(alloc: Global, text: &str, has_names: bool) -> Result<Vec<u8>, Error>
+    requires { length text.now < 2 ^ 32 }
+    ensures bytes { IfOk result (λ bytes. (fs : List Field) × (m : DenotesModule text.now fs)
+        × (length (encoding has_names (module_name m.terminals) fs) < 2 ^ 32)
+        × (bytes.items ≡ encoding has_names (module_name m.terminals) fs)) }
+    ensures spelled { (fs : List Field) (m : DenotesModule text.now fs) →
+        Answers true (λ bytes. bytes.items)
+        (fitted text.now (encoding has_names (module_name m.terminals) fs)) result }
+    ensures refused { (tokens : List Token) (last : Option Fault) →
+        TextShows (plain text.now) no_names tokens last →
+        Answers true (λ bytes. bytes.items) (compiled_as has_names text.now tokens last) result }
+    ensures some { (tokens : List Token) × (last : Option Fault) ×
+        TextShows (plain text.now) no_names tokens last }
+{
     wat_lex::laws::one_tiling();
     wat_lexer_parser::laws::all_shown();
     wat_module_parser::laws::reading_is_grammar();
@@ -68,41 +130,85 @@ pub fn compile(alloc: Global, text: &str) -> Result<Vec<u8>, Error>
     let PackedText { packed, error } = pack_tokens(alloc, text)?;
     match error {
         Some(error) => Err(error),
-        None => compile_packed(alloc, text, packed),
+        None => compile_packed(alloc, text, has_names, packed),
     }
 }
 
 /// Compiles a text without lexical errors from its packed tokens.
-fn compile_packed(alloc: Global, text: &str, packed: PackedTokens<'_>) -> Result<Vec<u8>, Error>
+fn compile_packed(
+    alloc: Global,
+    text: &str,
+    has_names: bool,
+    packed: PackedTokens<'_>,
+) -> Result<Vec<u8>, Error>
     requires short { length text.now < 2 ^ 32 }
     requires readable { AreReadable text.now (length packed.kept.items) packed.tokens.items }
     requires linked { AreLinked (draft_terminals text.now packed) packed.tokens.items }
     ensures { (tokens : List Token) → TextShows (plain text.now) no_names tokens None →
         draft_terminals text.now packed.entry ≡ map (terminal_of text.now) tokens →
-        Answers true (λ bytes. bytes.items) (compiled_tokens text.now tokens) result }
+        Answers true (λ bytes. bytes.items) (compiled_tokens has_names text.now tokens) result }
 {
     let PackedTokens { tokens, kept } = packed;
-    compile_tokens(alloc, text, TokenStream::new(text, tokens, &kept))
+    compile_tokens(
+        alloc,
+        text,
+        has_names,
+        TokenStream::new(text, tokens, &kept),
+    )
 }
 
 /// Compiles a text without lexical errors from its significant tokens.
-fn compile_tokens(alloc: Global, text: &str, source: TokenStream<'_>) -> Result<Vec<u8>, Error>
+fn compile_tokens(
+    alloc: Global,
+    text: &str,
+    has_names: bool,
+    source: TokenStream<'_>,
+) -> Result<Vec<u8>, Error>
     requires { length text.now < 2 ^ 32 }
     ensures { (tokens : List Token) → TextShows (plain text.now) no_names tokens None →
         source.entry ≡ map (terminal_of text.now) tokens →
-        Answers true (λ bytes. bytes.items) (compiled_tokens text.now tokens) result }
+        Answers true (λ bytes. bytes.items) (compiled_tokens has_names text.now tokens) result }
 {
     wat_module_parser::laws::reading_is_grammar();
-    match module::module(alloc, source.cursor()) {
+    let cursor = source.cursor();
+    let name = module_name(cursor);
+    match module::module(alloc, cursor) {
         Ok(fields) => {
             // Fields borrow from the text and from the side table, but not from the packed tokens.
             // These are freed before the bytes are allocated.
             drop(source);
-            bound_size(alloc, text, encode::module_bytes(alloc, &fields)?)
+            bound_size(alloc, text, encoded(alloc, name, &fields, has_names)?)
         }
         Err(ParseFailure::Memory(refused)) => Err(Error::from(refused)),
         Err(ParseFailure::Text(fault)) => Err(fault_at(alloc, text, fault.kind, fault.left.len())),
     }
+}
+
+/// Returns the identifier of a module, which is after `(module`, if there is one.
+fn module_name<'a>(cursor: TokenCursor<'_, 'a>) -> Name<'a>
+    ensures { label result ≡ module_name (terminals_of cursor.entry) }
+{
+    match reading::after("module", cursor) {
+        Some(rest) => reading::label(rest).0,
+        None => Name::Absent,
+    }
+}
+
+/// Returns the encoding of a module, with its name section if `has_names`.
+fn encoded(
+    alloc: Global,
+    name: Name<'_>,
+    fields: &[Field<'_>],
+    has_names: bool,
+) -> Result<Vec<u8>, AllocError>
+    ensures { IfOk result (λ bytes. bytes.items ≡
+        encoding has_names (label name.entry) (fields_of fields.now)) }
+{
+    let mut bytes = encode::module_bytes(alloc, fields)?;
+    if has_names {
+        encode::put_name_section(alloc, &mut bytes, name, fields)?;
+    }
+    Ok(bytes)
 }
 
 /// Returns the error for a syntax error with `left` remaining tokens. Lexes the text again: not

@@ -5,15 +5,18 @@
 use wat_lex::shim::prelude::*;
 pub mod laws;
 
-use wat_lex::shim::alloc::Global;
+use wat_lex::shim::alloc::{AllocError, Global};
 use wat_parser::proved::Error;
 use wat_parser::proved::lexer::Token;
 use wat_parser::proved::token::Span;
 use crate::ast::error::{FaultKind, ParseFailure};
+use crate::ast::fields::Field;
 use crate::encoder::encode;
+use crate::instructions::reading;
 use crate::lexer::{PackedText, PackedTokens, pack_tokens, shown_tokens};
 use crate::parser::module;
-use crate::tokens::stream::TokenStream;
+use crate::tokens::stream::{TokenCursor, TokenStream};
+use crate::tokens::token::Name;
 
 /// Compiles a module from text to binary.
 ///
@@ -50,6 +53,68 @@ use crate::tokens::stream::TokenStream;
 ///     TextShows (plain text.now) no_names tokens last }
 /// ```
 pub fn compile(alloc: Global, text: &str) -> Result<Vec<u8>, Error> {
+    compile_as(alloc, text, false)
+}
+
+/// Compiles a module from text to binary, with a name section.
+///
+/// Returns the binary encoding of the module from which the grammar derives the text, followed by
+/// the custom section `name`, which has the identifiers of the text by the indices of their items
+/// (`specs/NameSection` of `wat_module_encoder`). A module without identifiers has no such section.
+/// The text must be shorter than 2^32 bytes.
+///
+/// # Errors
+///
+/// Returns the errors of [`compile`]. The name section counts for the size of the module.
+///
+/// # Proved
+///
+/// ```text
+/// requires { length text.now < 2 ^ 32 }
+///
+/// // The bytes encode a module from which the grammar derives the text, and its names.
+/// ensures bytes { IfOk result (λ bytes. (l : Label) × (fs : List Field)
+///     × DenotesNamed text.now l fs × FitsNamed l fs
+///     × (bytes.items ≡ module_bytes fs ++ name_section l fs)) }
+///
+/// // If the grammar derives the text from a module, the result is the encoding of that module and
+/// // of its names, the error that it is too long, or an allocation failure.
+/// ensures spelled { (l : Label) (fs : List Field) → DenotesNamed text.now l fs →
+///     Answers true (λ bytes. bytes.items)
+///     (fitted text.now (module_bytes fs ++ name_section l fs)) result }
+///
+/// // The result is that of the visible tokens and the lexical error after them, if there is one.
+/// ensures refused { (tokens : List Token) (last : Option Fault) →
+///     TextShows (plain text.now) no_names tokens last →
+///     Answers true (λ bytes. bytes.items) (compiled_named text.now tokens last) result }
+///
+/// // A text has visible tokens, with or without a lexical error after them.
+/// ensures some { (tokens : List Token) × (last : Option Fault) ×
+///     TextShows (plain text.now) no_names tokens last }
+/// ```
+pub fn compile_with_names(alloc: Global, text: &str) -> Result<Vec<u8>, Error> {
+    compile_as(alloc, text, true)
+}
+
+/// Compiles a module from text to binary, with a name section if `has_names`.
+///
+/// # Proved
+///
+/// ```text
+/// requires { length text.now < 2 ^ 32 }
+/// ensures bytes { IfOk result (λ bytes. (fs : List Field) × (m : DenotesModule text.now fs)
+///     × (length (encoding has_names (module_name m.terminals) fs) < 2 ^ 32)
+///     × (bytes.items ≡ encoding has_names (module_name m.terminals) fs)) }
+/// ensures spelled { (fs : List Field) (m : DenotesModule text.now fs) →
+///     Answers true (λ bytes. bytes.items)
+///     (fitted text.now (encoding has_names (module_name m.terminals) fs)) result }
+/// ensures refused { (tokens : List Token) (last : Option Fault) →
+///     TextShows (plain text.now) no_names tokens last →
+///     Answers true (λ bytes. bytes.items) (compiled_as has_names text.now tokens last) result }
+/// ensures some { (tokens : List Token) × (last : Option Fault) ×
+///     TextShows (plain text.now) no_names tokens last }
+/// ```
+fn compile_as(alloc: Global, text: &str, has_names: bool) -> Result<Vec<u8>, Error> {
     wat_lex::proved::laws::one_tiling();
     wat_parser::proved::laws::all_shown();
     crate::parser::laws::reading_is_grammar();
@@ -57,7 +122,7 @@ pub fn compile(alloc: Global, text: &str) -> Result<Vec<u8>, Error> {
     let PackedText { packed, error } = pack_tokens(alloc, text)?;
     match error {
         Some(error) => Err(error),
-        None => compile_packed(alloc, text, packed),
+        None => compile_packed(alloc, text, has_names, packed),
     }
 }
 
@@ -71,11 +136,21 @@ pub fn compile(alloc: Global, text: &str) -> Result<Vec<u8>, Error> {
 /// requires linked { AreLinked (draft_terminals text.now packed) packed.tokens.items }
 /// ensures { (tokens : List Token) → TextShows (plain text.now) no_names tokens None →
 ///     draft_terminals text.now packed.entry ≡ map (terminal_of text.now) tokens →
-///     Answers true (λ bytes. bytes.items) (compiled_tokens text.now tokens) result }
+///     Answers true (λ bytes. bytes.items) (compiled_tokens has_names text.now tokens) result }
 /// ```
-fn compile_packed(alloc: Global, text: &str, packed: PackedTokens<'_>) -> Result<Vec<u8>, Error> {
+fn compile_packed(
+    alloc: Global,
+    text: &str,
+    has_names: bool,
+    packed: PackedTokens<'_>,
+) -> Result<Vec<u8>, Error> {
     let PackedTokens { tokens, kept } = packed;
-    compile_tokens(alloc, text, TokenStream::new(text, tokens, &kept))
+    compile_tokens(
+        alloc,
+        text,
+        has_names,
+        TokenStream::new(text, tokens, &kept),
+    )
 }
 
 /// Compiles a text without lexical errors from its significant tokens.
@@ -86,20 +161,62 @@ fn compile_packed(alloc: Global, text: &str, packed: PackedTokens<'_>) -> Result
 /// requires { length text.now < 2 ^ 32 }
 /// ensures { (tokens : List Token) → TextShows (plain text.now) no_names tokens None →
 ///     source.entry ≡ map (terminal_of text.now) tokens →
-///     Answers true (λ bytes. bytes.items) (compiled_tokens text.now tokens) result }
+///     Answers true (λ bytes. bytes.items) (compiled_tokens has_names text.now tokens) result }
 /// ```
-fn compile_tokens(alloc: Global, text: &str, source: TokenStream<'_>) -> Result<Vec<u8>, Error> {
+fn compile_tokens(
+    alloc: Global,
+    text: &str,
+    has_names: bool,
+    source: TokenStream<'_>,
+) -> Result<Vec<u8>, Error> {
     crate::parser::laws::reading_is_grammar();
-    match module::module(alloc, source.cursor()) {
+    let cursor = source.cursor();
+    let name = module_name(cursor);
+    match module::module(alloc, cursor) {
         Ok(fields) => {
             // Fields borrow from the text and from the side table, but not from the packed tokens.
             // These are freed before the bytes are allocated.
             drop(source);
-            bound_size(alloc, text, encode::module_bytes(alloc, &fields)?)
+            bound_size(alloc, text, encoded(alloc, name, &fields, has_names)?)
         }
         Err(ParseFailure::Memory(refused)) => Err(Error::from(refused)),
         Err(ParseFailure::Text(fault)) => Err(fault_at(alloc, text, fault.kind, fault.left.len())),
     }
+}
+
+/// Returns the identifier of a module, which is after `(module`, if there is one.
+///
+/// # Proved
+///
+/// ```text
+/// ensures { label result ≡ module_name (terminals_of cursor.entry) }
+/// ```
+fn module_name<'a>(cursor: TokenCursor<'_, 'a>) -> Name<'a> {
+    match reading::after("module", cursor) {
+        Some(rest) => reading::label(rest).0,
+        None => Name::Absent,
+    }
+}
+
+/// Returns the encoding of a module, with its name section if `has_names`.
+///
+/// # Proved
+///
+/// ```text
+/// ensures { IfOk result (λ bytes. bytes.items ≡
+/// encoding has_names (label name.entry) (fields_of fields.now)) }
+/// ```
+fn encoded(
+    alloc: Global,
+    name: Name<'_>,
+    fields: &[Field<'_>],
+    has_names: bool,
+) -> Result<Vec<u8>, AllocError> {
+    let mut bytes = encode::module_bytes(alloc, fields)?;
+    if has_names {
+        encode::put_name_section(alloc, &mut bytes, name, fields)?;
+    }
+    Ok(bytes)
 }
 
 /// Returns the error for a syntax error with `left` remaining tokens. Lexes the text again: not
