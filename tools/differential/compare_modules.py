@@ -16,15 +16,18 @@ It also rejects `table.get`, `set`, `size`, `grow` and `fill` without an index: 
 ENCODER is the program that tools/differential/wast_encoder.sh builds. Its results are reported for texts on which PROGRAM and `wat2wasm` differ. If
 both reference implementations agree with each other and not with PROGRAM, that is a fault, except for mutants with missing forms, later proposals or
 older syntax, as known_differences.py lists them. A known difference is also a fault if all three produce bytes, and wast's are not equivalent to
-PROGRAM's. The three are compared section by section, except for wast's section of names, as `wat2wasm` writes none. Modules are `the same, spelled
-otherwise` if their sections differ only in
+PROGRAM's. The three are compared section by section, except for name sections, as `wat2wasm` writes none. Modules are `the same, spelled otherwise` if
+their sections differ only in
 - the flags of an element segment: wast keeps an explicit table 0, and elements as instructions; `wat2wasm` writes the short form;
 - the type of a block, by its index or short; and an index in more bytes than necessary.
+With --names, PROGRAM writes a name section (rust/wat-modules/examples/names.rs), which is compared with wast's: it must be the same, or differ in a way
+that known_differences.py explains. Without --names, PROGRAM must write none.
+
 Wast does not accept an underscore in a memory argument, or a folded block in a segment without `offset` or `item`. It is given changed texts instead.
 
-usage: compare_modules.py [--modules N] [--mutants N] [--seed N] [--without FORM,..] [--second ENCODER] [--show] PROGRAM [ARGUMENT..]
+usage: compare_modules.py [--modules N] [--mutants N] [--seed N] [--without FORM,..] [--second ENCODER [--names]] [--show] PROGRAM [ARGUMENT..]
        compare_modules.py [..] --second ENCODER                     compares only the two reference implementations
-       compare_modules.py --texts FOLDER [--second ENCODER] PROGRAM [ARGUMENT..]       each FOLDER/**/*.wat instead of generated texts
+       compare_modules.py --texts FOLDER [--second ENCODER [--names]] PROGRAM [ARGUMENT..]       each FOLDER/**/*.wat instead of generated texts
        compare_modules.py --write FUNCTIONS [--named] [--seed N] [--without FORM,..] > TEXT
 """
 import argparse
@@ -36,6 +39,7 @@ import sys
 sys.dont_write_bytecode = True
 
 import known_differences as known
+import name_sections
 from generate_modules import FORMS, big_module, choices, laid, made_texts
 from module_sections import NAMES, agreement
 from oracles import Encoder, Program, Wat2wasm
@@ -110,18 +114,51 @@ class Beside:
             print(f"compare_modules.py: wast agrees on {count} texts when they are changed, as it does not read them: {name}")
 
 
+class Names:
+    """The name sections of the program, compared with those of wast."""
+
+    def __init__(self, is_written):
+        self.is_written, self.counts, self.differ = is_written, collections.Counter(), []
+
+    def split(self, answer):
+        """Returns a result of the program without its name section, and the section. Without --names the section stays."""
+        if not self.is_written or answer[0] is None:
+            return answer, b""
+        module, section = name_sections.split(answer[0])
+        return (module, answer[1]), section
+
+    def compare(self, text, ours, section, other):
+        """Compares the name section of a result with that of wast's result for the same text, and counts the outcome."""
+        if not self.is_written or None in (ours[0], other and other[0]):
+            return
+        theirs = name_sections.split(other[0])[1]
+        how = known.names_agreement(section, theirs)
+        if how is None:
+            self.differ.append((text, section, theirs))
+        else:
+            self.counts[how] += 1
+
+    def show(self):
+        """Prints the counts, and the texts whose name sections differ."""
+        for text, ours, theirs in self.differ[:SHOWN]:
+            print("--- names", text, f"ours: {ours.hex()}", f"wast: {theirs.hex()}", sep="\n")
+        counts = "".join(f"{count} {how}, " for how, count in self.counts.items())
+        if self.is_written:
+            print(f"compare_modules.py: name sections: {counts}{len(self.differ)} differ")
+
+
 class Comparison:
     """The comparison of generated texts, and its counts."""
 
     def __init__(self, given):
         self.given, self.rng = given, choices(given.seed, FORMS.keys() - given.without)
         self.program = Program(given.program) if given.program else None
-        self.oracle, self.second = Wat2wasm(), Beside(given.second) if given.second else None
+        self.oracle, self.second, self.names = Wat2wasm(), Beside(given.second) if given.second else None, Names(given.names)
         self.counts, self.asked, self.sides, self.differ = collections.Counter({RIGHT: 0, REFUSED: 0}), collections.Counter(), collections.Counter(), []
 
     def made(self, _, text):
-        """Returns the result of the program under test for a text."""
-        return self.program.answer(text)
+        """Returns the result of the program under test for a text, without its name section."""
+        return self.names.split(self.program.answer(text))[0]
 
     def reference(self, tokens, text):
         """Returns the result of `wat2wasm` for a text. If it rejects the text, returns the result for an equivalent text, if there is one."""
@@ -152,9 +189,10 @@ class Comparison:
     def compare(self, mutant, tokens, text):
         """Compares the results for a text, and counts the outcome."""
         theirs = self.reference(tokens, text)
-        ours = self.program.answer(text) if self.program else theirs
+        ours, section = self.names.split(self.program.answer(text)) if self.program else (theirs, b"")
         name = self.names_of(mutant, tokens, ours, theirs)
         other = self.second.answer(self.rng, tokens, text, (ours, theirs)) if self.second else None
+        self.names.compare(text, ours, section, other)
         what = MUTANTS if mutant else MODULES
         if other and name in (RIGHT, REFUSED):
             self.second.note(what, text, other, theirs)
@@ -175,6 +213,7 @@ class Comparison:
             print("--- mutant" if mutant else "--- module", text, *answers(*three), sep="\n")
         if self.second:
             self.second.show(self.given.show)
+        self.names.show()
         for (what, name, side), count in sorted(self.sides.items()):
             print(f"compare_modules.py: wast, {what} {name}: {count} {side}")
         for name, count in self.asked.items():
@@ -192,12 +231,14 @@ def answers(ours, theirs, other):
 def compare_texts(given):
     """Compares the results for the texts of a folder. Returns `True` if any two differ, or if no module has the same bytes."""
     counts, differ = collections.Counter({RIGHT: 0, REFUSED: 0}), []
-    program, oracle, second = Program(given.program), Wat2wasm(), Beside(given.second) if given.second else None
+    program, oracle, second, names = Program(given.program), Wat2wasm(), Beside(given.second) if given.second else None, Names(given.names)
     for path in sorted(pathlib.Path(given.texts).rglob("*.wat")):
         text = path.read_text(encoding="utf-8")
-        ours, theirs = program.answer(text), oracle.answer(text)
+        (ours, section), theirs = names.split(program.answer(text)), oracle.answer(text)
         if second:
-            second.note("texts", str(path), second.oracle.answer(text), theirs)
+            other = second.oracle.answer(text)
+            second.note("texts", str(path), other, theirs)
+            names.compare(str(path), ours, section, other)
         if ours[0] == theirs[0]:
             counts[REFUSED if ours[0] is None else RIGHT] += 1
         else:
@@ -206,8 +247,9 @@ def compare_texts(given):
         print(line)
     if second:
         second.show(True)
+    names.show()
     print(f"compare_modules.py: {given.texts}: " + "".join(f"{n} {what}, " for what, n in counts.items()) + f"{len(differ)} differ")
-    return bool(differ) or not counts[RIGHT]
+    return bool(differ or names.differ) or not counts[RIGHT]
 
 
 def compare_made(given):
@@ -216,7 +258,7 @@ def compare_made(given):
     for made in made_texts(comparison.rng, given.modules, given.mutants):
         comparison.compare(*made)
     comparison.show()
-    return bool(comparison.differ)
+    return bool(comparison.differ or comparison.names.differ)
 
 
 def forms(words):
@@ -235,6 +277,7 @@ def main():
     parser.add_argument("--seed", type=int, default=1)
     parser.add_argument("--without", type=forms, default=set(), metavar="FORM,..", help=f"forms that PROGRAM leaves out, of {', '.join(FORMS)}")
     parser.add_argument("--second", metavar="ENCODER", help="a second oracle, which tools/differential/wast_encoder.sh builds")
+    parser.add_argument("--names", action="store_true", help="PROGRAM writes a name section, which is compared with that of ENCODER")
     parser.add_argument("--texts", metavar="FOLDER", help="a folder with texts, which are compared in the place of made ones")
     parser.add_argument("--show", action="store_true", help="shows each text that a known departure explains")
     parser.add_argument("--write", type=int, metavar="FUNCTIONS", help="writes a module of so many functions, and compares nothing")
@@ -243,6 +286,8 @@ def main():
     given = parser.parse_args()
     if not given.write and not given.program and (given.texts or not given.second):
         parser.error("PROGRAM is not given")
+    if given.names and not (given.program and given.second):
+        parser.error("--names needs PROGRAM and ENCODER")
     if given.write:
         print(big_module(choices(given.seed, FORMS.keys() - given.without), given.write, given.named))
     elif given.texts:

@@ -4,6 +4,7 @@ import functools
 import module_tokens as tokens_of
 from generate_modules import FORMS, laid
 from module_sections import DATA_COUNT, contents, differences, meaning, type_count
+from name_sections import LABELS, LOCALS, are_shifted, subsections
 
 # Texts that `wat2wasm` accepts and the program rejects: the program's message, and a test of the tokens.
 REFUSED = {
@@ -117,6 +118,26 @@ def departures(makers, without, rng, tokens, ours, theirs):
     else:
         name = CONDITIONS if tokens_of.has_more_conditions(tokens) and "expected" in theirs[1] else None
     return [name] if name else []
+
+
+# The outcomes for name sections: equal ones, and the known differences from those of wast.
+SAME_NAMES, NO_NAMES = "the same names", "no names"
+NOT_WRITTEN = {LOCALS: "without locals, which the program does not write", LABELS: "without labels, which the program does not write"}
+SHIFTED = "of a local after `(type x)` alone, whose index wast counts without the parameters of the type (6.6.5)"
+
+
+def names_agreement(ours, theirs):
+    """Returns how the name section of the program agrees with that of wast: the same, or the known differences. Returns `None` if it does not."""
+    if ours == theirs:
+        return SAME_NAMES if ours else NO_NAMES
+    ours, theirs, names = subsections(ours), subsections(theirs), []
+    for subsection, name in NOT_WRITTEN.items():
+        if subsection in dict(theirs) and subsection not in dict(ours):
+            theirs, names = [part for part in theirs if part[0] != subsection], [*names, name]
+    one, other = dict(ours).get(LOCALS), dict(theirs).get(LOCALS)
+    if None not in (one, other) and one != other and are_shifted(one, other):
+        theirs, names = [(number, one if number == LOCALS else content) for number, content in theirs], [*names, SHIFTED]
+    return " and ".join(names) if ours == theirs else None
 
 
 # Changes to a text that a reference implementation does not accept as it is, by the construct that is changed.
