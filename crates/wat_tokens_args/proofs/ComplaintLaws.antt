@@ -5,8 +5,8 @@ use Rattle.std.specs.Option.{option_map}
 use Rattle.std.proofs.lemmas.Bool.Decides.{nat_tests}
 use Rattle.wat_tokens_args.specs.Arguments.{Word, Given, after_front, first_of, is_file, named_kind, times}
 use Rattle.wat_tokens_args.specs.Complaints.{Reason, asks_for_words, first_reason, is_mode, is_own_option, modes_in, plays, reason_beyond, reason_of, rejects, repeated, wrong_command, wrong_number, wrong_option, wrong_start, wrong_word}
-use Rattle.wat_tokens_args.specs.Complaints.Reason.{Usage, Twice, Nameless, Late, Unknown, Nothing, NoJson, NoFlags, NoCall, Mixed, TooMany, NoOutput, NoMode, Modes, Terminal}
-use Rattle.wat_tokens_args.specs.Options.{AsksMode, Parts, all_args, files_of, formats, looks_like_file, parts_of, verb_named}
+use Rattle.wat_tokens_args.specs.Complaints.Reason.{Usage, Twice, Nameless, Late, Unknown, Nothing, NoJson, NoFlags, NoCall, Mixed, TooMany, NoOutput, Overwrites, NoMode, Modes, Terminal}
+use Rattle.wat_tokens_args.specs.Options.{AsksMode, Parts, all_args, files_of, formats, looks_like_file, overwrites, parts_of, verb_named}
 use Rattle.wat_tokens_args.specs.declared.arguments.Kind.TheVariants as kind
 use Rattle.wat_tokens_args.specs.declared.complaint.Complaint.{Complaint}
 use Rattle.wat_tokens_args.specs.declared.complaint.Complaint.TheVariants as variant
@@ -26,6 +26,7 @@ is_usage NoCall = false
 is_usage Mixed = false
 is_usage TooMany = false
 is_usage NoOutput = false
+is_usage Overwrites = false
 is_usage NoMode = false
 is_usage Modes = false
 is_usage Terminal = false
@@ -75,13 +76,14 @@ argument_named None = tt
 argument_named (Some word) = word_named word
 
 number_named : (p : Parts) → is_usage (wrong_number p) ≡ false
-number_named p = by (formats p.verb && nat_lt 1 (modes_in (all_args p))) (plays p.verb && not (nat_lt 1 (length (files_of p)))) (nat_lt 0 (times kind.File (all_args p)) && nat_lt 0 (length p.last))
+number_named p = by (formats p.verb && nat_lt 1 (modes_in (all_args p))) (plays p.verb && not (nat_lt 1 (length (files_of p)))) (nat_lt 0 (times kind.File (all_args p)) && nat_lt 0 (length p.last)) (overwrites p)
   where
-    by : (a b c : Bool) → is_usage (if a then Modes else if b then NoCall else if c then Mixed else TooMany) ≡ false
-    by true b c = refl
-    by false true c = refl
-    by false false true = refl
-    by false false false = refl
+    by : (a b c d : Bool) → is_usage (if a then Modes else if b then NoCall else if c then Mixed else if d then Overwrites else TooMany) ≡ false
+    by true b c d = refl
+    by false true c d = refl
+    by false false true d = refl
+    by false false false true = refl
+    by false false false false = refl
 
 command_named : (p : Parts) → is_usage (wrong_command p) ≡ false
 command_named p = first_named (wrong_option p) _ _ (option_named p) (first_named (option_map wrong_word (first_of kind.Wrong p.args)) _ _ (argument_named (first_of kind.Wrong p.args)) (number_named p))

@@ -3,7 +3,7 @@ use Rattle.std.specs.Prelude.{ℕ, ◌+◌, Bool, true, false, ◌||◌, ◌&&�
 use Rattle.std.specs.Option.{option_map}
 use Rattle.wat_tokens_output.specs.Places.{visible}
 use Rattle.wat_tokens_args.specs.Arguments.{Word, Given, spells, is_file, named_kind, after_front, times, first_of}
-use Rattle.wat_tokens_args.specs.Options.{Parts, all_args, files_of, formats, parts_of, takes, verb_named, owns_operands, looks_like_file}
+use Rattle.wat_tokens_args.specs.Options.{Parts, all_args, files_of, formats, overwrites, parts_of, takes, verb_named, owns_operands, looks_like_file}
 use Rattle.wat_tokens_args.specs.declared.arguments.Kind.{Kind}
 use Rattle.wat_tokens_args.specs.declared.arguments.Kind.TheVariants as kind
 use Rattle.wat_tokens_args.specs.declared.complaint.Complaint.{Complaint}
@@ -56,6 +56,7 @@ complaint variant.NoCall = codes "wat_tokens: play takes calls of a parser alone
 complaint variant.Mixed = codes "wat_tokens: files are before -- or after it, not both" ++ more
 complaint variant.TooMany = codes "wat_tokens: this command takes one file" ++ more
 complaint variant.NoOutput = codes "wat_tokens: -o goes with module and types alone" ++ more
+complaint variant.Overwrites = codes "wat_tokens: -o names the input file" ++ more
 complaint variant.NoMode = codes "wat_tokens: --check, --write and --diff go with fmt alone" ++ more
 complaint variant.Modes = codes "wat_tokens: fmt takes one of --check, --write and --diff" ++ more
 complaint variant.Terminal = codes "wat_tokens: standard output is a terminal; -o FILE writes to a file"
@@ -74,6 +75,7 @@ pub data Reason : Type 0 where
   Mixed : Reason
   TooMany : Reason
   NoOutput : Reason
+  Overwrites : Reason
   NoMode : Reason
   Modes : Reason
   Terminal : Reason
@@ -91,6 +93,7 @@ reason_of variant.NoCall = NoCall
 reason_of variant.Mixed = Mixed
 reason_of variant.TooMany = TooMany
 reason_of variant.NoOutput = NoOutput
+reason_of variant.Overwrites = Overwrites
 reason_of variant.NoMode = NoMode
 reason_of variant.Modes = Modes
 reason_of variant.Terminal = Terminal
@@ -157,12 +160,14 @@ plays verb.Module = false
 plays verb.Fmt = false
 
 -- The reason if each argument is accepted: `fmt` has several modes; `play`, with at most one file, has a word that is
--- not a call; there are files both before and after `--`; or there are too many files.
+-- not a call; there are files both before and after `--`; the output file is the input file; or there are too many
+-- files.
 abbrev pub wrong_number : Parts → Reason
 wrong_number p =
     if formats p.verb && nat_lt 1 (modes_in (all_args p)) then Modes
     else if plays p.verb && not (nat_lt 1 (length (files_of p))) then NoCall
     else if nat_lt 0 (times kind.File (all_args p)) && nat_lt 0 (length p.last) then Mixed
+    else if overwrites p then Overwrites
     else TooMany
 
 -- The first of these reasons that there is, or else the last one.

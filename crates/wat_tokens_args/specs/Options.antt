@@ -1,6 +1,7 @@
 -- Parsing of the command line: its parts, and the command that they form. Not part of the standard.
 use Rattle.std.specs.Prelude.{◌≡◌, ◌⊎◌, ◌≤◌, ◌+◌, ◌-◌, ◌||◌, ◌&&◌, ◌==◌, nat_lt, not, ℕ, Bool, true, false, ⊤, List, [], ◌∷◌, ◌++◌, take, drop, length, codes, if◌then◌else◌, string_bytes, Option, Some, None, is_some, unwrap_or}
 use Rattle.std.specs.List.{list_any, prefix_len}
+use Rattle.std.specs.Str.{bytes_eq}
 use Rattle.std.specs.Option.{option_map}
 use Rattle.wat_lex.specs.declared.lexer.settings.Settings.{Settings}
 use Rattle.wat_lexer_parser.specs.declared.parser.calls.Call.{Call}
@@ -193,6 +194,19 @@ pub record HasFiles (p : Parts) (files : List Word) : Type 0 where
   pub alone : (times kind.File (all_args p) ≡ 0) ⊎ (length p.last ≡ 0)
   pub few : (accepts_many_files p.verb ≡ true) ⊎ (length files ≤ 1)
 
+-- The name in `--output`, if it is given.
+abbrev pub target_of : Parts → Option (List ℕ)
+target_of p = option_map string_bytes (first_of kind.Output (all_args p))
+
+-- The output file is the first input file, by name. `-` is not a file.
+abbrev pub overwrites : Parts → Bool
+overwrites p = is_first (target_of p) (files_of p)
+  where
+    is_first : Option (List ℕ) → List Word → Bool
+    is_first None files = false
+    is_first (Some target) [] = false
+    is_first (Some target) (file ∷ files) = spells target file && not (bytes_eq target (codes "-"))
+
 -- One if the condition holds, and zero otherwise.
 abbrev pub once_if : Bool → ℕ
 once_if b = if b then 1 else 0
@@ -261,13 +275,14 @@ abbrev pub wants_help : List Word → Bool
 wants_help words = asks_help (after_front words) || (begins_with_files (after_front words) && asks_help (after_verb (after_front words)))
 
 -- The words request `task` with these settings over `files`. The output goes to the file `target` if `--output` is
--- given, at most once. `--` is not the first word after the leading options.
+-- given, at most once; it is not the first of `files`. `--` is not the first word after the leading options.
 pub record AsksRun (words : List Word) (settings : Settings) (task : Task) (target : Option (List ℕ)) (files : List Word) : Type 0 where
   pub taken : take_all (parts_of words).verb (all_args (parts_of words)) ≡ true
   pub selects : Selects (all_args (parts_of words)) settings
   pub asked : AsksTask (parts_of words).verb (wants_json (all_args (parts_of words))) (parts_of words).own task
-  pub target_is : target ≡ option_map string_bytes (first_of kind.Output (all_args (parts_of words)))
+  pub target_is : target ≡ target_of (parts_of words)
   pub once : times kind.Output (all_args (parts_of words)) ≤ 1
+  pub apart : overwrites (parts_of words) ≡ false
   pub named : HasFiles (parts_of words) files
   pub begun : begins_with (codes "--") (after_front words) ≡ false
   pub other : wants_help words ≡ false

@@ -47,6 +47,8 @@ pub enum Complaint<'a> {
     TooMany,
     /// `-o` with a command other than `types` and `module`.
     NoOutput,
+    /// `-o` with the name of the input file.
+    Overwrites,
     /// `--check`, `--write` or `--diff` with a command other than `fmt`.
     NoMode,
     /// More than one of `--check`, `--write` and `--diff`, or one of them twice.
@@ -90,6 +92,7 @@ impl fmt::Display for Complaint<'_> {
             Complaint::NoOutput => {
                 write!(f, "wat_tokens: -o goes with module and types alone{MORE}")
             }
+            Complaint::Overwrites => write!(f, "wat_tokens: -o names the input file{MORE}"),
             Complaint::NoMode => write!(
                 f,
                 "wat_tokens: --check, --write and --diff go with fmt alone{MORE}"
@@ -293,6 +296,8 @@ fn wrong_number(line: Line<'_>) -> Complaint<'_>
         Complaint::NoCall
     } else if has_mixed_files(line) {
         Complaint::Mixed
+    } else if line.overwrites() {
+        Complaint::Overwrites
     } else {
         Complaint::TooMany
     }

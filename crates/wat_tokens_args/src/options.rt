@@ -16,7 +16,8 @@ ghost use Rattle.wat_tokens_args.specs.Options.{after_verb, all_args, asks_help,
 ghost use Rattle.wat_tokens_args.specs.Options.{begins_with, begins_with_files};
 ghost use Rattle.wat_tokens_args.specs.Options.{calls_of, file_in_question, file_names, files_of};
 ghost use Rattle.wat_tokens_args.specs.Options.{is_known, last_words, line_parts};
-ghost use Rattle.wat_tokens_args.specs.Options.{looks_like_file, own_len, own_words, owns_operands};
+ghost use Rattle.wat_tokens_args.specs.Options.{looks_like_file, overwrites, own_len, own_words};
+ghost use Rattle.wat_tokens_args.specs.Options.{owns_operands};
 ghost use Rattle.wat_tokens_args.specs.Options.{parts_of, takes, takes_flags, accepts_many_files};
 ghost use Rattle.wat_tokens_args.specs.Options.{take_all, verb_named, verb_of, wants_help};
 ghost use Rattle.wat_tokens_args.specs.Options.{wants_json};
@@ -182,6 +183,20 @@ impl<'a> Line<'a> {
             return None;
         };
         Some(name.as_str())
+    }
+
+    /// Returns `true` if the output file is the first input file, by name. `-` is not a file.
+    pub(crate) fn overwrites(&self) -> bool
+        ensures { result ≡ overwrites (line_parts self.now) }
+    {
+        let Some(target) = self.first(Kind::Output) else {
+            return false;
+        };
+        let mut files = self.files();
+        let Some(file) = files.next() else {
+            return false;
+        };
+        file == target && target != "-"
     }
 
     /// Returns `true` if `--json` is given.
@@ -505,7 +520,7 @@ fn run_of<'a>(
     if !line.accepts_all() || !line.has_files() {
         return Ok(None);
     }
-    if line.times(Kind::Output) > 1 {
+    if line.times(Kind::Output) > 1 || line.overwrites() {
         return Ok(None);
     }
     let Some(settings) = line.settings() else {

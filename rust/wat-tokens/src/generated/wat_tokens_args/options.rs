@@ -174,6 +174,24 @@ impl<'a> Line<'a> {
         Some(name.as_str())
     }
 
+    /// Returns `true` if the output file is the first input file, by name. `-` is not a file.
+    ///
+    /// # Proved
+    ///
+    /// ```text
+    /// ensures { result ≡ overwrites (line_parts self.now) }
+    /// ```
+    pub(crate) fn overwrites(&self) -> bool {
+        let Some(target) = self.first(Kind::Output) else {
+            return false;
+        };
+        let mut files = self.files();
+        let Some(file) = files.next() else {
+            return false;
+        };
+        file == target && target != "-"
+    }
+
     /// Returns `true` if `--json` is given.
     ///
     /// # Proved
@@ -587,7 +605,7 @@ fn run_of<'a>(
     if !line.accepts_all() || !line.has_files() {
         return Ok(None);
     }
-    if line.times(Kind::Output) > 1 {
+    if line.times(Kind::Output) > 1 || line.overwrites() {
         return Ok(None);
     }
     let Some(settings) = line.settings() else {
