@@ -3,7 +3,7 @@ use Rattle.std.specs.Prelude.{◌≡◌, ◌+◌, ◌<◌, ◌||◌, nat_eq, not
 use Rattle.std.specs.Str.{bytes_eq}
 use Rattle.std.specs.declared.alloc.Global.{Global}
 use Rattle.wat_tokens_args.specs.declared.arguments.Kind.{Kind}
-use Rattle.wat_tokens_args.specs.declared.arguments.Kind.TheVariants.{Allow, Strict, Json, Check, Write, Diff, Named, Output, File, Wrong}
+use Rattle.wat_tokens_args.specs.declared.arguments.Kind.TheVariants.{Allow, Strict, Json, NoNames, Check, Write, Diff, Named, Output, File, Wrong}
 
 abbrev pub Word : Type 0
 Word = String Global
@@ -29,6 +29,7 @@ alone_kind word =
     if spells (codes "--allow-confusing") word then Allow
     else if spells (codes "--strict-underscores") word then Strict
     else if spells (codes "--json") word then Json
+    else if spells (codes "--no-names") word then NoNames
     else if spells (codes "--check") word then Check
     else if spells (codes "--write") word then Write
     else if spells (codes "--diff") word then Diff
@@ -59,6 +60,7 @@ abbrev pub leads : Kind → Bool
 leads Allow = true
 leads Strict = true
 leads Json = true
+leads NoNames = true
 leads Check = false
 leads Write = false
 leads Diff = false
@@ -81,13 +83,14 @@ abbrev pub number : Kind → ℕ
 number Allow = 0
 number Strict = 1
 number Json = 2
-number Check = 3
-number Write = 4
-number Diff = 5
-number Named = 6
-number Output = 7
-number File = 8
-number Wrong = 9
+number NoNames = 3
+number Check = 4
+number Write = 5
+number Diff = 6
+number Named = 7
+number Output = 8
+number File = 9
+number Wrong = 10
 
 abbrev pub is_kind : Kind → Kind → Bool
 is_kind kind other = nat_eq (number kind) (number other)

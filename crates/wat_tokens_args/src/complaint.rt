@@ -47,6 +47,8 @@ pub enum Complaint<'a> {
     TooMany,
     /// `-o` with a command other than `types` and `module`.
     NoOutput,
+    /// `--no-names` with a command other than `module`.
+    NoNames,
     /// `-o` with the name of the input file.
     Overwrites,
     /// `--check`, `--write` or `--diff` with a command other than `fmt`.
@@ -91,6 +93,9 @@ impl fmt::Display for Complaint<'_> {
             Complaint::TooMany => write!(f, "wat_tokens: this command takes one file{MORE}"),
             Complaint::NoOutput => {
                 write!(f, "wat_tokens: -o goes with module and types alone{MORE}")
+            }
+            Complaint::NoNames => {
+                write!(f, "wat_tokens: --no-names goes with module alone{MORE}")
             }
             Complaint::Overwrites => write!(f, "wat_tokens: -o names the input file{MORE}"),
             Complaint::NoMode => write!(
@@ -153,13 +158,14 @@ fn goes_beyond(words: &[String], there: bool) -> bool
 {
     let line = Line::of(words);
     times(Kind::Json, line.front) > 0
+        || times(Kind::NoNames, line.front) > 0
         || times(Kind::Named, line.front) > 0
         || times(Kind::Output, line.front) > 0
         || rest_goes_beyond(after_front(words), there)
 }
 
-/// Returns the first of four options that is given more than once: `--allow-confusing`,
-/// `--strict-underscores`, `--json` and `-o`.
+/// Returns the first of five options that is given more than once: `--allow-confusing`,
+/// `--strict-underscores`, `--json`, `--no-names` and `-o`.
 fn repeated(line: Line<'_>) -> Option<&'static str>
     ensures { option_map (λ option. option.now) result
         ≡ repeated (all_args (line_parts line.entry)) }
@@ -172,6 +178,9 @@ fn repeated(line: Line<'_>) -> Option<&'static str>
     }
     if line.times(Kind::Json) > 1 {
         return Some("--json");
+    }
+    if line.times(Kind::NoNames) > 1 {
+        return Some("--no-names");
     }
     if line.times(Kind::Output) > 1 {
         return Some("-o");
@@ -254,6 +263,9 @@ fn wrong_option(line: Line<'_>) -> Option<Complaint<'_>>
     }
     if rejects(line, Kind::Output) {
         return Some(Complaint::NoOutput);
+    }
+    if rejects(line, Kind::NoNames) {
+        return Some(Complaint::NoNames);
     }
     if rejects_mode(line) {
         return Some(Complaint::NoMode);

@@ -1,6 +1,6 @@
 //! Parsing of the command line.
 ghost use Rattle.std.specs.Prelude.{◌≡◌, ◌≤◌, ◌<◌, true, false, IfOk, OnErr, IfSome, IfNone};
-ghost use Rattle.std.specs.Prelude.{IsTrue, ◌↔◌, ℕ};
+ghost use Rattle.std.specs.Prelude.{IsTrue, ◌↔◌, ℕ, Bool};
 ghost use Rattle.std.specs.Prelude.{MatchOption, Option, List, [], length, nat_eq, nat_lt, codes};
 ghost use Rattle.std.specs.Prelude.{string_bytes};
 ghost use Rattle.std.specs.Option.{option_map};
@@ -20,7 +20,7 @@ ghost use Rattle.wat_tokens_args.specs.Options.{looks_like_file, overwrites, own
 ghost use Rattle.wat_tokens_args.specs.Options.{owns_operands};
 ghost use Rattle.wat_tokens_args.specs.Options.{parts_of, takes, takes_flags, accepts_many_files};
 ghost use Rattle.wat_tokens_args.specs.Options.{take_all, verb_named, verb_of, wants_help};
-ghost use Rattle.wat_tokens_args.specs.Options.{wants_json};
+ghost use Rattle.wat_tokens_args.specs.Options.{wants_json, wants_names};
 ghost use Rattle.wat_tokens_args.specs.Options.{Asks, AsksFormat, AsksMode, AsksNothing, AsksPlay};
 ghost use Rattle.wat_tokens_args.specs.Options.{AsksRun, AsksTask};
 ghost use Rattle.wat_tokens_args.specs.Options.{HasFiles, Selects, NamesCalls};
@@ -68,8 +68,8 @@ pub enum Task<'a> {
     Blank,
     /// The bytes of a module whose fields are all function types.
     Types,
-    /// The bytes of a module.
-    Module,
+    /// The bytes of a module, with a name section if `true`.
+    Module(bool),
 }
 
 /// The action of `fmt` for each text.
@@ -206,6 +206,13 @@ impl<'a> Line<'a> {
         self.times(Kind::Json) > 0
     }
 
+    /// Returns `true` unless `--no-names` is given.
+    fn wants_names(&self) -> bool
+        ensures { result ≡ wants_names (all_args (line_parts self.now)) }
+    {
+        self.times(Kind::NoNames) == 0
+    }
+
     /// Returns `true` if the command accepts each of its arguments.
     fn accepts_all(&self) -> bool
         ensures { result ≡ take_all self.now.verb (all_args (line_parts self.now)) }
@@ -234,7 +241,7 @@ impl<'a> Line<'a> {
     }
 
     /// Returns the lexer settings that the flags select, or `None` if `--allow-confusing`,
-    /// `--strict-underscores` or `--json` is given twice.
+    /// `--strict-underscores`, `--json` or `--no-names` is given twice.
     fn settings(&self) -> Option<Settings>
         ensures selected { IfSome result
             (λ settings. Selects (all_args (line_parts self.now)) settings) }
@@ -243,7 +250,7 @@ impl<'a> Line<'a> {
     {
         let allow = self.times(Kind::Allow);
         let strict = self.times(Kind::Strict);
-        if allow > 1 || strict > 1 || self.times(Kind::Json) > 1 {
+        if allow > 1 || strict > 1 || self.times(Kind::Json) > 1 || self.times(Kind::NoNames) > 1 {
             return None;
         }
         Some(Settings {
@@ -414,6 +421,7 @@ impl Verb {
             Kind::Allow | Kind::Strict => self.takes_flags(),
             Kind::Json => matches!(self, Verb::List | Verb::Sig),
             Kind::Check | Kind::Write | Kind::Diff => self == Verb::Fmt,
+            Kind::NoNames => self == Verb::Module,
             Kind::Output => matches!(self, Verb::Types | Verb::Module),
             Kind::Named | Kind::File => true,
             Kind::Wrong => false,
@@ -440,8 +448,9 @@ fn read_calls(alloc: Global, words: &[String]) -> Result<Option<Vec<Call>>, Allo
 /// Returns the task of a command with `--json` and the given names. Returns `None` unless the
 /// command is `list` or `sig`.
 fn json_task_of(verb: Verb, words: &[String]) -> Option<Task<'_>>
-    ensures { MatchOption result ((t : Task) → ¬ AsksTask verb true words.now t)
-        (AsksTask verb true words.now) }
+    ensures { (names : Bool) → MatchOption result
+        ((t : Task) → ¬ AsksTask verb true names words.now t)
+        (AsksTask verb true names words.now) }
 {
     match verb {
         Verb::List => Some(Task::JsonList),
@@ -451,16 +460,18 @@ fn json_task_of(verb: Verb, words: &[String]) -> Option<Task<'_>>
 }
 
 /// Returns the task of a command with the given names or calls. Returns `None` for `fmt`, for a
-/// word of `play` that is not a call, and for `json` with a command that writes no JSON.
+/// word of `play` that is not a call, and for `json` with a command that writes no JSON. A module
+/// has a name section if `names` is `true`.
 fn task_of<'a>(
     alloc: Global,
     verb: Verb,
     json: bool,
+    names: bool,
     words: &'a [String],
 ) -> Result<Option<Task<'a>>, AllocError>
     ensures asked { IfOk result (λ task. MatchOption task
-        ((t : Task) → ¬ AsksTask verb json words.now t)
-        (AsksTask verb json words.now)) }
+        ((t : Task) → ¬ AsksTask verb json names words.now t)
+        (AsksTask verb json names words.now)) }
     ensures refused { OnErr result (verb ≡ verbs.Play) }
 {
     if json {
@@ -472,7 +483,7 @@ fn task_of<'a>(
         Verb::Play => read_calls(alloc, words)?.map(|calls| Task::Play(Calls::Owned(calls))),
         Verb::Blank => Some(Task::Blank),
         Verb::Types => Some(Task::Types),
-        Verb::Module => Some(Task::Module),
+        Verb::Module => Some(Task::Module(names)),
         Verb::Fmt => None,
     })
 }
@@ -526,7 +537,8 @@ fn run_of<'a>(
     let Some(settings) = line.settings() else {
         return Ok(None);
     };
-    let Some(task) = task_of(alloc, line.verb, line.wants_json(), line.own)? else {
+    let (json, names) = (line.wants_json(), line.wants_names());
+    let Some(task) = task_of(alloc, line.verb, json, names, line.own)? else {
         return Ok(None);
     };
     let target = line.first(Kind::Output);

@@ -51,7 +51,7 @@ is_plain_list (task.JsonSig names) = false
 is_plain_list (task.Play calls) = false
 is_plain_list task.Blank = false
 is_plain_list task.Types = false
-is_plain_list task.Module = false
+is_plain_list (task.Module names) = false
 
 -- The line that names a file before its list. An empty line precedes it if a file was opened before (`begun`). Only
 -- lists that are not JSON have such a line, and only if there are several files.
@@ -185,7 +185,7 @@ is_binary (Run settings t None files) = compiles t
   where
     compiles : Task → Bool
     compiles task.Types = true
-    compiles task.Module = true
+    compiles (task.Module names) = true
     compiles task.List = false
     compiles (task.Sig names) = false
     compiles task.JsonList = false

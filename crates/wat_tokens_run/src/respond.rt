@@ -416,7 +416,7 @@ fn is_binary(command: &Command<'_>) -> bool
 {
     matches!(
         command,
-        Command::Run(_, Task::Types | Task::Module, None, _)
+        Command::Run(_, Task::Types | Task::Module(_), None, _)
     )
 }
 

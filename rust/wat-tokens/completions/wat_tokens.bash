@@ -11,7 +11,8 @@ _wat_tokens() {
     case $command in
         '') words="$options list sig play blank fmt module types help" ;;
         fmt) words="$options --check --diff --write" ;;
-        module | types) words="$options -o --output" ;;
+        module) words="$options -o --output --no-names" ;;
+        types) words="$options -o --output" ;;
         play) words='look take comment reg= unreg= parens=' ;;
         sig | help) words= ;;
         *) words=$options ;;

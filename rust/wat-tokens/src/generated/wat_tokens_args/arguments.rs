@@ -11,6 +11,8 @@ pub(crate) enum Kind {
     Strict,
     /// The option `--json`.
     Json,
+    /// The option `--no-names`.
+    NoNames,
     /// The option `--check`.
     Check,
     /// The option `--write`.
@@ -57,7 +59,8 @@ impl Kind {
     /// ```
     pub(crate) fn leads(self) -> bool {
         match self {
-            Kind::Allow | Kind::Strict | Kind::Json | Kind::Named | Kind::Output => true,
+            Kind::Allow | Kind::Strict | Kind::Json | Kind::NoNames => true,
+            Kind::Named | Kind::Output => true,
             Kind::Check | Kind::Write | Kind::Diff | Kind::File | Kind::Wrong => false,
         }
     }
@@ -112,6 +115,7 @@ fn alone_kind(word: &String) -> Kind {
         "--allow-confusing" => Kind::Allow,
         "--strict-underscores" => Kind::Strict,
         "--json" => Kind::Json,
+        "--no-names" => Kind::NoNames,
         "--check" => Kind::Check,
         "--write" => Kind::Write,
         "--diff" => Kind::Diff,

@@ -57,6 +57,7 @@ options, before the command or, except with `sig` and `play`, anywhere after it:
   --file NAME           read this file; may be given more than once
   -o, --output FILE     write the bytes of `types` or `module` to FILE, if the text compiles; `-` is
                         standard output, also if that is a terminal
+  --no-names            write `module` without a name section
   -h, --help            this text; first, or after `list`, `blank`, `types`, `module` or `fmt`
   -V, --version         the version, as first word
 

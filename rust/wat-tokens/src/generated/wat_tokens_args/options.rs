@@ -46,8 +46,8 @@ pub enum Task<'a> {
     Blank,
     /// The bytes of a module whose fields are all function types.
     Types,
-    /// The bytes of a module.
-    Module,
+    /// The bytes of a module, with a name section if `true`.
+    Module(bool),
 }
 
 /// The action of `fmt` for each text.
@@ -203,6 +203,17 @@ impl<'a> Line<'a> {
         self.times(Kind::Json) > 0
     }
 
+    /// Returns `true` unless `--no-names` is given.
+    ///
+    /// # Proved
+    ///
+    /// ```text
+    /// ensures { result ≡ wants_names (all_args (line_parts self.now)) }
+    /// ```
+    fn wants_names(&self) -> bool {
+        self.times(Kind::NoNames) == 0
+    }
+
     /// Returns `true` if the command accepts each of its arguments.
     ///
     /// # Proved
@@ -243,7 +254,7 @@ impl<'a> Line<'a> {
     }
 
     /// Returns the lexer settings that the flags select, or `None` if `--allow-confusing`,
-    /// `--strict-underscores` or `--json` is given twice.
+    /// `--strict-underscores`, `--json` or `--no-names` is given twice.
     ///
     /// # Proved
     ///
@@ -256,7 +267,7 @@ impl<'a> Line<'a> {
     fn settings(&self) -> Option<Settings> {
         let allow = self.times(Kind::Allow);
         let strict = self.times(Kind::Strict);
-        if allow > 1 || strict > 1 || self.times(Kind::Json) > 1 {
+        if allow > 1 || strict > 1 || self.times(Kind::Json) > 1 || self.times(Kind::NoNames) > 1 {
             return None;
         }
         Some(Settings {
@@ -479,6 +490,7 @@ impl Verb {
             Kind::Allow | Kind::Strict => self.takes_flags(),
             Kind::Json => matches!(self, Verb::List | Verb::Sig),
             Kind::Check | Kind::Write | Kind::Diff => self == Verb::Fmt,
+            Kind::NoNames => self == Verb::Module,
             Kind::Output => matches!(self, Verb::Types | Verb::Module),
             Kind::Named | Kind::File => true,
             Kind::Wrong => false,
@@ -512,8 +524,9 @@ fn read_calls(alloc: Global, words: &[String]) -> Result<Option<Vec<Call>>, Allo
 /// # Proved
 ///
 /// ```text
-/// ensures { MatchOption result ((t : Task) → ¬ AsksTask verb true words.now t)
-/// (AsksTask verb true words.now) }
+/// ensures { (names : Bool) → MatchOption result
+/// ((t : Task) → ¬ AsksTask verb true names words.now t)
+/// (AsksTask verb true names words.now) }
 /// ```
 fn json_task_of(verb: Verb, words: &[String]) -> Option<Task<'_>> {
     match verb {
@@ -524,20 +537,22 @@ fn json_task_of(verb: Verb, words: &[String]) -> Option<Task<'_>> {
 }
 
 /// Returns the task of a command with the given names or calls. Returns `None` for `fmt`, for a
-/// word of `play` that is not a call, and for `json` with a command that writes no JSON.
+/// word of `play` that is not a call, and for `json` with a command that writes no JSON. A module
+/// has a name section if `names` is `true`.
 ///
 /// # Proved
 ///
 /// ```text
 /// ensures asked { IfOk result (λ task. MatchOption task
-///     ((t : Task) → ¬ AsksTask verb json words.now t)
-///     (AsksTask verb json words.now)) }
+///     ((t : Task) → ¬ AsksTask verb json names words.now t)
+///     (AsksTask verb json names words.now)) }
 /// ensures refused { OnErr result (verb ≡ verbs.Play) }
 /// ```
 fn task_of<'a>(
     alloc: Global,
     verb: Verb,
     json: bool,
+    names: bool,
     words: &'a [String],
 ) -> Result<Option<Task<'a>>, AllocError> {
     if json {
@@ -549,7 +564,7 @@ fn task_of<'a>(
         Verb::Play => read_calls(alloc, words)?.map(|calls| Task::Play(Calls::Owned(calls))),
         Verb::Blank => Some(Task::Blank),
         Verb::Types => Some(Task::Types),
-        Verb::Module => Some(Task::Module),
+        Verb::Module => Some(Task::Module(names)),
         Verb::Fmt => None,
     })
 }
@@ -611,7 +626,8 @@ fn run_of<'a>(
     let Some(settings) = line.settings() else {
         return Ok(None);
     };
-    let Some(task) = task_of(alloc, line.verb, line.wants_json(), line.own)? else {
+    let (json, names) = (line.wants_json(), line.wants_names());
+    let Some(task) = task_of(alloc, line.verb, json, names, line.own)? else {
         return Ok(None);
     };
     let target = line.first(Kind::Output);

@@ -332,7 +332,7 @@ fn print_of<W: Sink>(
         }
         Task::Blank => print_blank(alloc, text, settings, output),
         Task::Types => print_types(alloc, text, output),
-        Task::Module => print_module(alloc, text, output),
+        Task::Module(_) => print_module(alloc, text, output),
     }
 }
 

@@ -490,7 +490,7 @@ fn run_to<I: Inputs, W: Sink, E: io::Write>(
 fn is_binary(command: &Command<'_>) -> bool {
     matches!(
         command,
-        Command::Run(_, Task::Types | Task::Module, None, _)
+        Command::Run(_, Task::Types | Task::Module(_), None, _)
     )
 }
 
