@@ -1,7 +1,7 @@
 -- WebAssembly specification, text format and binary format: modules. The output of the commands `types` and `module`:
 -- the bytes of the module that the grammar derives from the text, or no bytes and an error. That no bytes are written
 -- with an error is not part of the standard.
-use Rattle.std.specs.Prelude.{◌≡◌, ◌<◌, ◌^◌, false, ℕ, List, [], length, Option, Some, Err, MatchOption}
+use Rattle.std.specs.Prelude.{◌≡◌, ◌<◌, ◌^◌, Bool, false, true, ℕ, List, [], length, Option, Some, Err, MatchOption}
 use Rattle.std.specs.Str.{IsUtf8}
 use Rattle.wat_module_ast.specs.Fields.{Field}
 use Rattle.wat_lex.specs.errors.Errors.{Report}
@@ -13,6 +13,7 @@ use Rattle.wat_lexer_parser.specs.laws.Blanking.{TextShows}
 use Rattle.wat_lexer_parser.specs.names.RegisteredNames.{no_names}
 use Rattle.wat_modules.specs.Compiling as modules
 use Rattle.wat_module_lexer.specs.TokenTerminals as lexer
+use Rattle.wat_module_tokens.specs.Terminals.{Label}
 use Rattle.wat_module_encoder.specs.Binary as encoder
 use Rattle.wat_types.specs.Binary as binary
 use Rattle.wat_types.specs.Compiling as types
@@ -55,14 +56,32 @@ pub record IsTypesError (text : List ℕ) (refusal : Report) : Type 0 where
 abbrev pub CompilesTypes : List ℕ → List ℕ → Option (Option Report) → Type 0
 CompilesTypes = Compiles {V = List Signature} types.SpellsTypes binary.Fits binary.module_bytes IsTypesError
 
--- `IsModuleError text refusal`: `module` rejects the text's visible tokens, or the error after them, with the error
--- `refusal`.
-pub record IsModuleError (text : List ℕ) (refusal : Report) : Type 0 where
+-- `IsModuleError has_names text refusal`: `module`, with a name section if `has_names` is true, rejects the text's
+-- visible tokens, or the error after them, with the error `refusal`.
+pub record IsModuleError (has_names : Bool) (text : List ℕ) (refusal : Report) : Type 0 where
   pub tokens : List Token
   pub last : Option Fault
   pub shown : TextShows (lexer.plain text) no_names tokens last
-  pub refused : modules.compiled text tokens last ≡ Err refusal
+  pub refused : modules.compiled_as has_names text tokens last ≡ Err refusal
 
--- The output of `module`, for a module of any fields.
-abbrev pub CompilesModule : List ℕ → List ℕ → Option (Option Report) → Type 0
-CompilesModule = Compiles {V = List Field} modules.DenotesModule modules.Fits encoder.module_bytes IsModuleError
+-- The output of `module --no-names`, for a module of any fields.
+abbrev pub CompilesUnnamed : List ℕ → List ℕ → Option (Option Report) → Type 0
+CompilesUnnamed = Compiles {V = List Field} modules.DenotesModule modules.Fits encoder.module_bytes (IsModuleError false)
+
+-- The output of `module`, for a module of any fields and its identifier: its bytes and those of its name section.
+abbrev pub CompilesNamed : List ℕ → List ℕ → Option (Option Report) → Type 0
+CompilesNamed = Compiles {V = Label × List Field} denotes fits bytes (IsModuleError true)
+  where
+    denotes : List ℕ → Label × List Field → Type 0
+    denotes text m = modules.DenotesNamed text m.0 m.1
+
+    fits : Label × List Field → Type 0
+    fits m = modules.FitsNamed m.0 m.1
+
+    bytes : Label × List Field → List ℕ
+    bytes m = modules.named_bytes m.0 m.1
+
+-- The output of `module`, with a name section or without one.
+abbrev pub CompilesModule : Bool → List ℕ → List ℕ → Option (Option Report) → Type 0
+CompilesModule true = CompilesNamed
+CompilesModule false = CompilesUnnamed

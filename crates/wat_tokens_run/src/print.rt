@@ -10,7 +10,8 @@ ghost use Rattle.wat_tokens_output.specs.JsonLists.{JsonLists, JsonShows, json_r
 ghost use Rattle.wat_tokens_output.specs.Lists.{Lists};
 ghost use Rattle.wat_tokens_output.specs.Refusals.{IsNotUtf8, IsFailedWrite, answered};
 ghost use Rattle.wat_tokens_output.specs.Shows.{Shows};
-ghost use Rattle.wat_tokens_run.specs.Compiles.{CompilesModule, CompilesTypes};
+ghost use Rattle.wat_tokens_run.specs.Compiles.{CompilesModule, CompilesNamed, CompilesTypes};
+ghost use Rattle.wat_tokens_run.specs.Compiles.{CompilesUnnamed};
 ghost use Rattle.wat_tokens_run.specs.Printed.{task_prints};
 ghost use Rattle.wat_tokens_run.specs.JsonWrites.{AppendsRows, AppendsRowsCut};
 ghost use Rattle.wat_tokens_run.specs.Writes.{Writes};
@@ -20,7 +21,7 @@ use std::alloc::{AllocError, Global};
 use wat_lex::error::Error;
 use wat_lex::lexer::{Lexer, Settings};
 use wat_lexer_parser::laws;
-use wat_modules::compile;
+use wat_modules::{compile, compile_with_names};
 use wat_tokens_args::options::Task;
 use wat_tokens_io::ends::{Failed, Sink};
 use wat_tokens_io::row::object_open;
@@ -243,16 +244,16 @@ fn print_types<W: Sink>(
     }
 }
 
-/// Writes the bytes of a module. If the text does not compile, writes nothing and returns the
-/// error.
-fn print_module<W: Sink>(
+/// Writes the bytes of a module without a name section. If the text does not compile, writes
+/// nothing and returns the error.
+fn print_unnamed<W: Sink>(
     alloc: Global,
     text: &str,
     output: &mut W,
 ) -> Result<Option<Error>, RunFailure>
     requires text { length text.now < 2 ^ 32 }
     requires output { W.failure output.old ≡ None }
-    ensures printed { Writes W.held W.failure (CompilesModule text.now)
+    ensures printed { Writes W.held W.failure (CompilesUnnamed text.now)
         output.old output.new result }
     ensures refused { IfErr result (λ e. IsFailedWrite e ⊎ (e ≡ RunFailure.Memory alloc_error)) }
 {
@@ -262,6 +263,49 @@ fn print_module<W: Sink>(
             Some(refused) => Err(RunFailure::from(refused)),
             None => print_text(b"", Some(refusal), output),
         },
+    }
+}
+
+/// Writes the bytes of a module with a name section. If the text does not compile, writes nothing
+/// and returns the error.
+fn print_named<W: Sink>(
+    alloc: Global,
+    text: &str,
+    output: &mut W,
+) -> Result<Option<Error>, RunFailure>
+    requires text { length text.now < 2 ^ 32 }
+    requires output { W.failure output.old ≡ None }
+    ensures printed { Writes W.held W.failure (CompilesNamed text.now)
+        output.old output.new result }
+    ensures refused { IfErr result (λ e. IsFailedWrite e ⊎ (e ≡ RunFailure.Memory alloc_error)) }
+{
+    match compile_with_names(alloc, text) {
+        Ok(bytes) => print_text(&bytes, None, output),
+        Err(failure) => match failure.alloc_error() {
+            Some(refused) => Err(RunFailure::from(refused)),
+            None => print_text(b"", Some(failure), output),
+        },
+    }
+}
+
+/// Writes the bytes of a module, with a name section if `names`. If the text does not compile,
+/// writes nothing and returns the error.
+fn print_module<W: Sink>(
+    alloc: Global,
+    text: &str,
+    names: bool,
+    output: &mut W,
+) -> Result<Option<Error>, RunFailure>
+    requires text { length text.now < 2 ^ 32 }
+    requires output { W.failure output.old ≡ None }
+    ensures printed { Writes W.held W.failure (CompilesModule names text.now)
+        output.old output.new result }
+    ensures refused { IfErr result (λ e. IsFailedWrite e ⊎ (e ≡ RunFailure.Memory alloc_error)) }
+{
+    if names {
+        print_named(alloc, text, output)
+    } else {
+        print_unnamed(alloc, text, output)
     }
 }
 
@@ -293,7 +337,7 @@ fn print_of<W: Sink>(
         }
         Task::Blank => print_blank(alloc, text, settings, output),
         Task::Types => print_types(alloc, text, output),
-        Task::Module(_) => print_module(alloc, text, output),
+        Task::Module(names) => print_module(alloc, text, *names, output),
     }
 }
 

@@ -85,7 +85,7 @@ pub type Result<T, E = Error> = core::result::Result<T, E>;
 ///
 /// The underlying compiler is verified. Unless an allocation fails or the module has more than `u32::MAX` bytes, it returns bytes if and only if the
 /// text is such a module, and these are the module's bytes. A text matches the grammar of at most one module. The module is not validated: the types
-/// of operands are not checked. The compiler writes no name section.
+/// of operands are not checked. The bytes end with a name section if the text has identifiers.
 ///
 /// # Errors
 ///
@@ -132,23 +132,37 @@ pub fn parse_file(path: impl AsRef<Path>) -> Result<Vec<u8>> {
     Parser::new().parse_file(path)
 }
 
-/// A compiler of modules, whose methods also take the path of the source file.
+/// A compiler of modules with options, whose methods also take the path of the source file.
 ///
 /// ```
 /// use wat_modules::Parser;
 ///
-/// let binary = Parser::new().compile("(module)")?;
+/// let binary = Parser::new().names(false).compile("(module $m)")?;
 /// assert_eq!(binary, *b"\0asm\x01\0\0\0");
 /// # Ok::<(), wat_modules::Error>(())
 /// ```
-#[derive(Clone, Debug, Default)]
-pub struct Parser(());
+#[derive(Clone, Debug)]
+pub struct Parser {
+    names: bool,
+}
+
+impl Default for Parser {
+    fn default() -> Parser {
+        Parser::new()
+    }
+}
 
 impl Parser {
     /// Creates a compiler with the default options.
     #[must_use]
     pub fn new() -> Parser {
-        Parser(())
+        Parser { names: true }
+    }
+
+    /// Sets whether the binary has a name section with the identifiers of the text, which is the default.
+    pub fn names(&mut self, names: bool) -> &mut Parser {
+        self.names = names;
+        self
     }
 
     /// Compiles a module from the text format, like [`parse_str`](parse_str()).
@@ -162,7 +176,7 @@ impl Parser {
             let message = format!("the text has more than {} bytes", u32::MAX);
             return Err(wat_lex::Error::new(Span::from_offset(0), message).into());
         }
-        compile(text)
+        compile(text, self.names)
     }
 
     /// Compiles a module from the text format, or returns a binary unchanged.
@@ -236,9 +250,14 @@ fn text_of(bytes: &[u8]) -> Result<&str> {
     })
 }
 
-/// Compiles a text of at most `u32::MAX` bytes.
-fn compile(text: &str) -> Result<Vec<u8>> {
-    let bytes = proved::compile(Global, text).map_err(wat_lex::Error::from)?;
+/// Compiles a text of at most `u32::MAX` bytes, with or without a name section.
+fn compile(text: &str, names: bool) -> Result<Vec<u8>> {
+    let compiled = if names {
+        proved::compile_with_names(Global, text)
+    } else {
+        proved::compile(Global, text)
+    };
+    let bytes = compiled.map_err(wat_lex::Error::from)?;
     Ok(bytes.into())
 }
 

@@ -114,7 +114,12 @@ fn indices_and_sizes_above_127_have_two_bytes() {
 
 #[test]
 fn errors_are_those_without_names() {
-    for text in ["(func $f) (func $f)", "(module $M", "(func $f ?)", "(func $f (;"] {
+    for text in [
+        "(func $f) (func $f)",
+        "(module $M",
+        "(func $f ?)",
+        "(func $f (;",
+    ] {
         let error = compile(Global, text).unwrap_err();
         let named = compile_with_names(Global, text).unwrap_err();
         assert_eq!(named.to_string(), error.to_string(), "{text}");

@@ -7,7 +7,7 @@ use crate::shim::alloc::{AllocError, Global};
 use wat_lex::proved::error::Error;
 use wat_lex::proved::lexer::{Lexer, Settings};
 use wat_parser::proved::laws;
-use wat_modules::proved::compile;
+use wat_modules::proved::{compile, compile_with_names};
 use crate::options::options::Task;
 use wat_format::lines::ends::{Failed, Sink};
 use wat_format::lines::row::object_open;
@@ -274,19 +274,19 @@ fn print_types<W: Sink>(
     }
 }
 
-/// Writes the bytes of a module. If the text does not compile, writes nothing and returns the
-/// error.
+/// Writes the bytes of a module without a name section. If the text does not compile, writes
+/// nothing and returns the error.
 ///
 /// # Proved
 ///
 /// ```text
 /// requires text { length text.now < 2 ^ 32 }
 /// requires output { W.failure output.old ≡ None }
-/// ensures printed { Writes W.held W.failure (CompilesModule text.now)
+/// ensures printed { Writes W.held W.failure (CompilesUnnamed text.now)
 ///     output.old output.new result }
 /// ensures refused { IfErr result (λ e. IsFailedWrite e ⊎ (e ≡ RunFailure.Memory alloc_error)) }
 /// ```
-fn print_module<W: Sink>(
+fn print_unnamed<W: Sink>(
     alloc: Global,
     text: &str,
     output: &mut W,
@@ -297,6 +297,57 @@ fn print_module<W: Sink>(
             Some(refused) => Err(RunFailure::from(refused)),
             None => print_text(b"", Some(refusal), output),
         },
+    }
+}
+
+/// Writes the bytes of a module with a name section. If the text does not compile, writes nothing
+/// and returns the error.
+///
+/// # Proved
+///
+/// ```text
+/// requires text { length text.now < 2 ^ 32 }
+/// requires output { W.failure output.old ≡ None }
+/// ensures printed { Writes W.held W.failure (CompilesNamed text.now)
+///     output.old output.new result }
+/// ensures refused { IfErr result (λ e. IsFailedWrite e ⊎ (e ≡ RunFailure.Memory alloc_error)) }
+/// ```
+fn print_named<W: Sink>(
+    alloc: Global,
+    text: &str,
+    output: &mut W,
+) -> Result<Option<Error>, RunFailure> {
+    match compile_with_names(alloc, text) {
+        Ok(bytes) => print_text(&bytes, None, output),
+        Err(failure) => match failure.alloc_error() {
+            Some(refused) => Err(RunFailure::from(refused)),
+            None => print_text(b"", Some(failure), output),
+        },
+    }
+}
+
+/// Writes the bytes of a module, with a name section if `names`. If the text does not compile,
+/// writes nothing and returns the error.
+///
+/// # Proved
+///
+/// ```text
+/// requires text { length text.now < 2 ^ 32 }
+/// requires output { W.failure output.old ≡ None }
+/// ensures printed { Writes W.held W.failure (CompilesModule names text.now)
+///     output.old output.new result }
+/// ensures refused { IfErr result (λ e. IsFailedWrite e ⊎ (e ≡ RunFailure.Memory alloc_error)) }
+/// ```
+fn print_module<W: Sink>(
+    alloc: Global,
+    text: &str,
+    names: bool,
+    output: &mut W,
+) -> Result<Option<Error>, RunFailure> {
+    if names {
+        print_named(alloc, text, output)
+    } else {
+        print_unnamed(alloc, text, output)
     }
 }
 
@@ -332,7 +383,7 @@ fn print_of<W: Sink>(
         }
         Task::Blank => print_blank(alloc, text, settings, output),
         Task::Types => print_types(alloc, text, output),
-        Task::Module(_) => print_module(alloc, text, output),
+        Task::Module(names) => print_module(alloc, text, *names, output),
     }
 }
 

@@ -1,15 +1,15 @@
 use Rattle.std.proofs.Common.{ℕ, [], None, Some}
 use Rattle.std.specs.Prelude.{Vec}
 use Rattle.std.specs.declared.alloc.Global.{Global}
-use Rattle.wat_tokens_run.specs.Compiles.{CompilesModule}
+use Rattle.wat_tokens_run.specs.Compiles.{CompilesUnnamed}
 use Rattle.wat_tokens_run.proofs.ModuleLaws.{refused_module}
 use Rattle.wat_tokens_run.proofs.PrintLaws.{writes_as}
-use Rattle.wat_tokens_run.proofs.print.print_module.Goals as goal
+use Rattle.wat_tokens_run.proofs.print.print_unnamed.Goals as goal
 
 pub returns-in-None-clause-printed : goal.returns-in-None-clause-printed
 returns-in-None-clause-printed g c =
     let shown = c.compile.ensures.some in
-    writes_as g.W.Sink.held g.W.Sink.failure (CompilesModule c.args.text.now) _ _ [] (Some c.in-Err.refusal) c.print_text-in-None.result (record {
+    writes_as g.W.Sink.held g.W.Sink.failure (CompilesUnnamed c.args.text.now) _ _ [] (Some c.in-Err.refusal) c.print_text-in-None.result (record {
       utf8 = c.utf8.text;
       short = c.requires.text;
       compiled = refused_module {T = Vec ℕ Global} c.args.text.now (λ bytes. bytes.items) c.in-Err.refusal c.alloc_error.result shown.0 shown.1 shown.2
@@ -17,7 +17,7 @@ returns-in-None-clause-printed g c =
     }) c.print_text-in-None.ensures.printed
 
 pub returns-in-Ok-clause-printed : goal.returns-in-Ok-clause-printed
-returns-in-Ok-clause-printed g c = writes_as g.W.Sink.held g.W.Sink.failure (CompilesModule c.args.text.now) _ _ c.deref.result.now None c.print_text.result (record {
+returns-in-Ok-clause-printed g c = writes_as g.W.Sink.held g.W.Sink.failure (CompilesUnnamed c.args.text.now) _ _ c.deref.result.now None c.print_text.result (record {
   utf8 = c.utf8.text;
   short = c.requires.text;
   compiled = rw c.deref.ensures.value (record {
