@@ -110,6 +110,26 @@ fn errors_become_errors_of_the_lexer() {
     assert_eq!((error.span().offset(), error.lex_error()), (0, None));
 }
 
+#[test]
+fn names_are_written_unless_the_option_is_off() {
+    let module: &[u8] = b"\0asm\x01\0\0\0\x01\x04\x01\x60\0\0\x03\x02\x01\0\x0a\x04\x01\x02\0\x0b";
+    let named = [module, b"\0\x0b\x04name\x01\x04\x01\0\x01f"].concat();
+    let text = "(func $f)";
+    assert_eq!(parse_str(text).unwrap(), named);
+    assert_eq!(*parse_bytes(text.as_bytes()).unwrap(), named);
+    let mut parser = Parser::new();
+    for (names, bytes) in [(false, module), (true, &named)] {
+        parser.names(names);
+        assert_eq!(parser.compile(text).unwrap(), bytes);
+        assert_eq!(parser.parse_str(None, text).unwrap(), bytes);
+        let result = parser.parse_bytes(None, text.as_bytes());
+        assert_eq!(*result.unwrap(), *bytes);
+    }
+    for parser in [Parser::new(), Parser::default()] {
+        assert_eq!(parser.compile(text).unwrap(), named);
+    }
+}
+
 /// Rejects a text of each kind that only `wat` accepts, by the README's list of differences.
 #[test]
 fn texts_that_only_wat_accepts() {

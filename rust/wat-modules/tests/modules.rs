@@ -4,7 +4,7 @@ use std::collections::BTreeSet;
 use std::thread;
 use wat_lex::shim::alloc::Global;
 use wat_modules::types::compile_types;
-use wat_modules::{Error, parse_str};
+use wat_modules::{Error, Parser};
 
 /// The magic number and the version, with which each module begins.
 const HEADER: &[u8] = b"\0asm\x01\0\0\0";
@@ -19,6 +19,11 @@ const OTHERS: [&str; 4] = [
     include_str!("../../../tests/runs.txt"),
     include_str!("../../../tests/types.txt"),
 ];
+
+/// Compiles a text without a name section.
+fn parse_str(text: impl AsRef<str>) -> Result<Vec<u8>, Error> {
+    Parser::new().names(false).compile(text.as_ref())
+}
 
 /// Returns the text that a line of a table represents.
 fn text_of(line: &str) -> String {
