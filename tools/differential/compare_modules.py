@@ -20,7 +20,7 @@ PROGRAM's. The three are compared section by section, except for name sections, 
 their sections differ only in
 - the flags of an element segment: wast keeps an explicit table 0, and elements as instructions; `wat2wasm` writes the short form;
 - the type of a block, by its index or short; and an index in more bytes than necessary.
-With --names, PROGRAM writes a name section (rust/wat-modules/examples/names.rs), which is compared with wast's: it must be the same, or differ in a way
+With --names, PROGRAM writes a name section, which is compared with wast's: it must be the same, or differ in a way
 that known_differences.py explains. Without --names, PROGRAM must write none.
 
 Wast does not accept an underscore in a memory argument, or a folded block in a segment without `offset` or `item`. It is given changed texts instead.

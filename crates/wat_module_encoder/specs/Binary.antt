@@ -4,7 +4,8 @@
 -- section, 5.5.13 code section, 5.5.14 data section, 5.5.15 data count section, 5.5.16 modules). Section
 -- numbers in this crate are those of WebAssembly 2.0.
 -- The standard allows several encodings of a module; these choices fix one. Integers have their shortest form.
--- Consecutive locals of one type share a count. Sections without content and custom sections are omitted.
+-- Consecutive locals of one type share a count. Sections without content are omitted, and so are custom
+-- sections; a name section may follow (`NameSection`).
 -- There is a data count only if it is required, and an `else` only if the text has one. The types that
 -- instructions add are in the order of `Uses`. A data segment of the memory 0 has the flags 0. A valid element
 -- segment has the bytes that `wat2wasm` writes (`elem_bytes`). Exports and segments are in the order of the

@@ -23,6 +23,7 @@ pub record DenotesModule (text : List ℕ) (fs : List Field) : Type 0 where
   pub shown : Shows text terminals
   pub spelled : Module terminals fs
 
+-- The identifier with which these tokens begin, if there are tokens and they begin with one.
 abbrev pub name_after : Option (List Terminal) → Label
 name_after (Some ts) = (grammar.label_of ts).0
 name_after None = None
@@ -32,8 +33,8 @@ name_after None = None
 abbrev pub module_name : List Terminal → Label
 module_name ts = name_after (grammar.after (codes "module") ts)
 
--- `DenotesNamed text l fs`: the text denotes a module with the fields `fs`, and the module has the identifier `l`, or
--- none.
+-- `DenotesNamed text l fs`: the text denotes a module with the fields `fs`, and `l` is the identifier of the module, or
+-- `None` if it has none. The identifier is determined by the tokens, as the fields are.
 pub record DenotesNamed (text : List ℕ) (l : Label) (fs : List Field) : Type 0 where
   pub terminals : List Terminal
   pub shown : Shows text terminals
