@@ -30,7 +30,7 @@ use wat_lexer_parser::Error;
 use wat_lexer_parser::lexer::Token;
 use wat_lexer_parser::token::Span;
 use wat_module_ast::error::{FaultKind, ParseFailure};
-use wat_module_ast::fields::Field;
+use wat_module_ast::fields;
 use wat_module_encoder::encode;
 use wat_module_instructions::reading;
 use wat_module_lexer::{PackedText, PackedTokens, pack_tokens, shown_tokens};
@@ -199,7 +199,7 @@ fn module_name<'a>(cursor: TokenCursor<'_, 'a>) -> Name<'a>
 fn encoded(
     alloc: Global,
     name: Name<'_>,
-    fields: &[Field<'_>],
+    fields: &[fields::Field<'_>],
     has_names: bool,
 ) -> Result<Vec<u8>, AllocError>
     ensures { IfOk result (λ bytes. bytes.items ≡
