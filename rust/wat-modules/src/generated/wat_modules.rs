@@ -10,7 +10,7 @@ use wat_parser::proved::Error;
 use wat_parser::proved::lexer::Token;
 use wat_parser::proved::token::Span;
 use crate::ast::error::{FaultKind, ParseFailure};
-use crate::ast::fields::Field;
+use crate::ast::fields;
 use crate::encoder::encode;
 use crate::instructions::reading;
 use crate::lexer::{PackedText, PackedTokens, pack_tokens, shown_tokens};
@@ -59,13 +59,14 @@ pub fn compile(alloc: Global, text: &str) -> Result<Vec<u8>, Error> {
 /// Compiles a module from text to binary, with a name section.
 ///
 /// Returns the binary encoding of the module from which the grammar derives the text, followed by
-/// the custom section `name`, which has the identifiers of the text by the indices of their items
-/// (`specs/NameSection` of `wat_module_encoder`). A module without identifiers has no such section.
-/// The text must be shorter than 2^32 bytes.
+/// the custom section `name` (`specs/NameSection` of `wat_module_encoder`). It has the identifiers
+/// of the module and of its functions, types, tables, memories, globals and segments, by their
+/// indices; not those of parameters, locals and labels. If there are none of these, there is no
+/// such section. The text must be shorter than 2^32 bytes.
 ///
 /// # Errors
 ///
-/// Returns the errors of [`compile`]. The name section counts for the size of the module.
+/// Returns the errors of [`compile`]. The limit on the size includes the name section.
 ///
 /// # Proved
 ///
@@ -209,7 +210,7 @@ fn module_name<'a>(cursor: TokenCursor<'_, 'a>) -> Name<'a> {
 fn encoded(
     alloc: Global,
     name: Name<'_>,
-    fields: &[Field<'_>],
+    fields: &[fields::Field<'_>],
     has_names: bool,
 ) -> Result<Vec<u8>, AllocError> {
     let mut bytes = encode::module_bytes(alloc, fields)?;
