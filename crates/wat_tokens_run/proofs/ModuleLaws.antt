@@ -1,5 +1,5 @@
 -- What an error of compiling a module says of the text.
-use Rattle.std.proofs.Common.{◌≡◌, ◌∙◌, ◌^◌, ℕ, Bool, true, false, List, [], length, refl, sym, ap}
+use Rattle.std.proofs.Common.{◌≡◌, ◌<◌, ◌∙◌, ◌^◌, ℕ, Bool, true, false, List, [], length, refl, sym, ap}
 use Rattle.std.specs.Prelude.{Option, Some, None, Ok, Err, IsNone, IsSome, if◌then◌else◌}
 use Rattle.std.proofs.lemmas.Bool.Decides.{Decides-ltb}
 use Rattle.wat_module_encoder.specs.Binary.{module_bytes}
