@@ -501,9 +501,10 @@ function counted() {
   assert.equal(STATE.list().length, 8);
 }
 
+// The binary form, with a name section for `$a`.
 function binaries() {
   const text = '(module (type $a (func (param $p i32) (param i64 f32) (result f64))) (@x y) (type (func)))';
-  const compiled = { bytes: '00000000  00 61 73 6d 01 00 00 00 01 0b 02 60 03 7f 7e 7d\n00000010  01 7c 60 00 00', moduleSaid: 'The text is a module, whose binary form has 21 bytes.', moduleGo: null, moduleMessage: null, rejected: [] };
+  const compiled = { bytes: '00000000  00 61 73 6d 01 00 00 00 01 0b 02 60 03 7f 7e 7d\n00000010  01 7c 60 00 00 00 0b 04 6e 61 6d 65 04 04 01 00\n00000020  01 61', moduleSaid: 'The text is a module, whose binary form has 34 bytes.', moduleGo: null, moduleMessage: null, rejected: [] };
   type(text);
   expect(compiled);
   check('allow', true);
