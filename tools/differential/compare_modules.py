@@ -25,9 +25,9 @@ that known_differences.py explains. Without --names, PROGRAM must write none.
 
 Wast does not accept an underscore in a memory argument, or a folded block in a segment without `offset` or `item`. It is given changed texts instead.
 
-usage: compare_modules.py [--modules N] [--mutants N] [--seed N] [--without FORM,..] [--second ENCODER [--names]] [--show] PROGRAM [ARGUMENT..]
+usage: compare_modules.py [--modules N] [--mutants N] [--seed N] [--without FORM,..] [--second ENCODER [--names]] [--show] [--] PROGRAM [ARGUMENT..]
        compare_modules.py [..] --second ENCODER                     compares only the two reference implementations
-       compare_modules.py --texts FOLDER [--second ENCODER [--names]] PROGRAM [ARGUMENT..]       each FOLDER/**/*.wat instead of generated texts
+       compare_modules.py --texts FOLDER [--second ENCODER [--names]] [--] PROGRAM [ARGUMENT..]       each FOLDER/**/*.wat instead of generated texts
        compare_modules.py --write FUNCTIONS [--named] [--seed N] [--without FORM,..] > TEXT
 """
 import argparse
