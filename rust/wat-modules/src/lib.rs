@@ -85,7 +85,8 @@ pub type Result<T, E = Error> = core::result::Result<T, E>;
 ///
 /// The underlying compiler is verified. Unless an allocation fails or the module has more than `u32::MAX` bytes, it returns bytes if and only if the
 /// text is such a module, and these are the module's bytes. A text matches the grammar of at most one module. The module is not validated: the types
-/// of operands are not checked. The bytes end with a name section if the text has identifiers.
+/// of operands are not checked. The bytes end with a name section if the module, or one of its functions, types, tables, memories, globals or
+/// segments, has an identifier. Identifiers of parameters, locals and labels are not written.
 ///
 /// # Errors
 ///
