@@ -13,6 +13,7 @@
 ## make install          both, wat.h, and the files for pkg-config and CMake (PREFIX, DESTDIR; BY=rattle: built by Rattle's own compilers)
 ## make program          the program and the language server, in rust/target/release
 ## make install-program  both, with a manual page and completions for bash, zsh and fish (PREFIX, DESTDIR)
+## make wheel            the package for Python, in python/dist (PYTHON: a Python with cffi, setuptools and wheel)
 ## make dist             a release, as a folder (OUT; PROOF_LOG=FILE; BY=rattle: also archives built by Rattle's compilers)
 ## make tests            the tests of the Rust packages
 ## make checks           the checks that take a minute or two: mutants apply, documents, names, version, generated Rust
@@ -23,6 +24,7 @@
 ## make readme           runs the commands of README.md and docs/cli.md
 
 PREFIX ?= /usr/local
+PYTHON ?= python3
 OUT ?= dist
 CARGO ?= cargo
 CARGO_TARGET_DIR ?= rust/target
@@ -36,7 +38,7 @@ libraries := $(DESTDIR)$(PREFIX)/lib
 programs := $(DESTDIR)$(BINDIR)
 share := $(DESTDIR)$(PREFIX)/share
 
-.PHONY: all install install-shared install-descriptions install-program help program dist tests checks parts part proof-check mutants readme
+.PHONY: all install install-shared install-descriptions install-program help program wheel dist tests checks parts part proof-check mutants readme
 ifeq ($(BY),rattle)
 
 folder := crates/wat_c/out
@@ -117,6 +119,15 @@ install-program: program
 	install -m 644 rust/wat-tokens/completions/wat_tokens.bash $(share)/bash-completion/completions/wat_tokens
 	install -m 644 rust/wat-tokens/completions/_wat_tokens $(share)/zsh/site-functions/
 	install -m 644 rust/wat-tokens/completions/wat_tokens.fish $(share)/fish/vendor_completions.d/
+
+wheel: all
+	@$(MAKE) --no-print-directory python/dist
+
+# Builds the wheel with the shared library that WAT_LIBRARY names, by default the one that cargo built.
+.PHONY: python/dist
+python/dist:
+	rm -rf python/build python/dist
+	cd python && WAT_LIBRARY=$${WAT_LIBRARY:-$(folder)/$(built)} $(PYTHON) -c 'from setuptools.build_meta import build_wheel; print(build_wheel("dist"))'
 
 dist:
 	tools/release/dist.sh $(OUT)

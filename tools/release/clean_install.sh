@@ -1,7 +1,7 @@
 #!/usr/bin/env bash
 # Clean-install test: uses a release without a clone, without `rt`, with an empty home and an empty cargo home. Runs the commands of its README in an
-# empty folder, the packages' own tests, C programs, the program with its manual page and completions, a Node project, and the page in a browser. A
-# part that can't be run here is skipped and reported.
+# empty folder, the packages' own tests, C programs, the program with its manual page and completions, a Python and a Node project, and the page in a
+# browser. A part that can't be run here is skipped and reported.
 #
 #   CRATES_FOLDER=FOLDER  the crates of rust/Cargo.lock, one folder each: the Rust commands also run with these as the registry
 #   CHROMIUM=PROGRAM      the browser; default: `chromium`
@@ -242,6 +242,24 @@ completed() {
     done
 }
 
+# python_project: installs the wheel in an empty virtual environment, with cffi and numpy of the system, and runs a program
+python_project() {
+    local said=$'[0 1 5 6] LParen\ninvalid string escape \'q\': line 1 column 9'
+    python3 -m venv --system-site-packages environment
+    timed 'Python: pip install' 60 environment/bin/pip install --quiet --no-index "$release"/python/wat_lex-*.whl
+    cat > main.py << 'PYTHON'
+import wat_lex
+
+rows = wat_lex.tokens("(func $f)")[:4]
+print(rows["offset"], wat_lex.KIND_NAMES[rows["kind"][0]])
+try:
+    wat_lex.tokens('(data "\\q")')
+except wat_lex.LexError as error:
+    print(error)
+PYTHON
+    expect 'Python: a program' "$said" environment/bin/python main.py
+}
+
 # node_project: runs a program that uses the npm package
 node_project() {
     mkdir node_project
@@ -300,6 +318,7 @@ with_registry
 part "the packages' own tests" "$release/rust/Cargo.toml" rust_packages cargo
 part 'C' "$release/c/*/lib" c_project cc pkg-config
 part 'the program' "$release/bin/*" the_program
+part 'Python' "$release/python/*.whl" python_project python3
 part 'Node' "$release/npm/*.tgz" node_project node npm
 part 'the page' "$release/page/wat.html" the_page "$chromium"
 say "all ran as wanted, in $SECONDS s"

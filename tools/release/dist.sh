@@ -1,6 +1,6 @@
 #!/usr/bin/env bash
-# Writes a release of HEAD to a folder, from committed files alone: the packages for Rust, the program and the C library for this machine, the npm
-# package, the page, the guides, and a report of the sources and the compiler of each file. A second run writes the same bytes. A part that can't be
+# Writes a release of HEAD to a folder, from committed files alone: the packages for Rust, the program, the C library and the Python package for this
+# machine, the npm package, the page, the guides, and a report of the sources and the compiler of each file. A second run writes the same bytes. A part that can't be
 # built here is skipped, and the report states the reason. docs/releasing.md describes the folder.
 #
 #   CRATES_FOLDER=FOLDER  the crates that cargo needs, one folder each, if no registry is available
@@ -13,6 +13,7 @@ set -euo pipefail
 shopt -s inherit_errexit
 export LC_ALL=C TZ=UTC
 top=$(cd "$(dirname "$0")/../.." && pwd)
+. "$top/tools/lib/python.sh"
 out=$(realpath -m "${1:?usage: tools/release/dist.sh OUT}")
 work=$(mktemp -d)
 trap 'rm -rf "$work"' EXIT
@@ -249,6 +250,17 @@ rattle_libraries() {
     fi
 }
 
+# python_package: builds the wheel of the package for Python, with the shared library for C, and tries its first call
+python_package() {
+    local python library=$made/c/$host/lib/libwat.so.${version%%.*}
+    [ -e "$library" ] || { skip 'the package for Python' 'no shared library for C' && return; }
+    python=$(python_with cffi numpy setuptools wheel) || { skip 'the package for Python' 'no Python with cffi, numpy, setuptools and wheel' && return; }
+    cp "$made/THIRD-PARTY.txt" python/
+    SOURCE_DATE_EPOCH=$(git log -1 --format=%ct) WAT_LIBRARY=$library make --silent python/dist PYTHON="$python" > "$work/wheel" 2>&1 || die "$(cat "$work/wheel")"
+    install -D -m 644 -t "$made/python" python/dist/*.whl
+    record "$made"/python/*.whl -- "python, with $(basename "$library")"
+}
+
 # makes_module: succeeds if page/build.sh can build the module without proving the libraries first
 makes_module() {
     [ -n "${WASM_CARGO:-}" ] || [ -d "$(rustc --print target-libdir --target wasm32-unknown-unknown)" ] \
@@ -328,6 +340,7 @@ main() {
     crates
     program
     c_library
+    python_package
     rattle_libraries
     npm_and_page
     proof

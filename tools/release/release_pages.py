@@ -69,7 +69,7 @@ def weight(path):
 
 def sizes(dist):
     """Returns a table of the sizes of the files and folders that a user downloads."""
-    patterns = ["crates/*.crate", "rust/vendor", "bin/*/*", "c/*/lib/libwat.a", "c/*/lib/libwat.so.*", "npm/*", "page/*"]
+    patterns = ["crates/*.crate", "rust/vendor", "bin/*/*", "c/*/lib/libwat.a", "c/*/lib/libwat.so.*", "python/*", "npm/*", "page/*"]
     files = [file for pattern in patterns for file in sorted(dist.glob(pattern))]
     rows = "".join(f"| `{file.relative_to(dist)}` | {weight(file):,} |\n" for file in files)
     return f"\n## Sizes\n\n| file or folder | bytes |\n|---|---|\n{rows}"

@@ -1,0 +1,162 @@
+#!/usr/bin/env python3
+"""Lexes many WebAssembly texts with Dask's distributed scheduler, and writes a table with a row for each text.
+
+usage: scale.py [--out FILE] [--workers N | --scheduler ADDRESS] [--batch N] [--most-bytes N] [--memory N] SOURCE
+
+SOURCE is a folder, whose files `*.wat` and `*.wast` are read, or a file with a URL (file:, http: or https:) on each line. Without --scheduler the job
+runs on workers of this machine. Workers on other machines need the package wat_lex, and must be able to read the URLs.
+
+  --out FILE           the table, as CSV; default: table.csv
+  --workers N          the number of workers; default: one for each processor
+  --scheduler ADDRESS  the address of a running scheduler, such as tcp://10.0.0.1:8786
+  --batch N            the number of texts of a task; default: 200
+  --most-bytes N       a text of more bytes is not read; default: 67,108,864
+  --memory N           a worker allocates at most this many bytes more than at its start; default: 1,073,741,824
+
+A row has the URL, the number of bytes, and the outcome: `ok`, `lexical error`, `not UTF-8`, `too long`, `memory` (an allocation failed), `unreadable`, or
+`worker died` (each of several workers that read it). Then come the kind of the error, its message, offset, line and column, the number of tokens and of
+significant tokens, and the frequency of each keyword before the error. The rows have the order of the URLs, and do not depend on the workers. A task
+whose worker dies is run by another one.
+"""
+import argparse
+import collections
+import contextlib
+import csv
+import pathlib
+import resource
+import sys
+import urllib.request
+
+import wat_lex
+from distributed import Client, KilledWorker, LocalCluster, WorkerPlugin
+
+COLUMNS = ["url", "bytes", "outcome", "error", "message", "offset", "line", "column", "tokens", "significant", "keywords"]
+SECONDS = 60
+
+
+class Limit(WorkerPlugin):
+    """Limits the memory of each worker, so that an allocation for a large text fails, instead of the system ending the process."""
+
+    name = "limit"
+
+    def __init__(self, memory):
+        self.memory = memory
+
+    def setup(self, worker):
+        pages = int(pathlib.Path("/proc/self/statm").read_text(encoding="ascii").split()[0])
+        hard = resource.getrlimit(resource.RLIMIT_AS)[1]
+        resource.setrlimit(resource.RLIMIT_AS, (pages * resource.getpagesize() + self.memory, hard))
+
+
+def urls_of(source):
+    """Returns the URLs of the texts of a folder, or those that a file lists."""
+    if source.is_dir():
+        return [path.resolve().as_uri() for path in sorted(source.rglob("*.wa*t")) if path.suffix in (".wat", ".wast") and path.is_file()]
+    return [line.strip() for line in source.read_text(encoding="utf-8").split("\n") if line.strip()]
+
+
+def keywords_of(text, rows):
+    """Returns the frequencies of the keywords of a text, the most frequent first."""
+    rows = rows[rows["kind"] == wat_lex.Kind.KEYWORD]
+    offsets, ends = rows["offset"].tolist(), (rows["offset"] + rows["length"]).tolist()
+    counts = collections.Counter(text[offset:end].decode() for offset, end in zip(offsets, ends))
+    return " ".join(f"{word}:{count}" for word, count in sorted(counts.items(), key=lambda item: (-item[1], item[0])))
+
+
+def lexed(text):
+    """Returns the columns of a text from `outcome` on."""
+    try:
+        rows, row = wat_lex.tokens(text), {"outcome": "ok"}
+    except wat_lex.LexError as error:
+        rows, row = wat_lex.tokens(text, partial=True), error_row("lexical error", error.fault.name, error)
+    significant = rows[rows["kind"] > wat_lex.Kind.WHITESPACE]
+    return row | {"tokens": len(rows), "significant": len(significant), "keywords": keywords_of(text, significant)}
+
+
+def error_row(outcome, kind, error):
+    """Returns the columns of an error."""
+    return {"outcome": outcome, "error": kind, "message": error.message, "offset": error.offset, "line": error.line, "column": error.column}
+
+
+def row_of(url, most_bytes):
+    """Returns the row of a text. Whatever happens when the text is read is its outcome."""
+    row = {"url": url}
+    try:
+        with urllib.request.urlopen(url, timeout=SECONDS) as source:
+            text = source.read(most_bytes + 1)
+        row["bytes"] = min(len(text), most_bytes)
+        return row | (lexed(text) if len(text) <= most_bytes else {"outcome": "too long"})
+    except UnicodeDecodeError as error:
+        return row | {"outcome": "not UTF-8", "error": error.reason, "offset": error.start}
+    except MemoryError:
+        return row | {"outcome": "memory"}
+    except (OSError, ValueError) as error:
+        return row | {"outcome": "unreadable", "error": type(error).__name__, "message": str(error)}
+
+
+def rows_of(urls, most_bytes):
+    """Returns the rows of a batch of texts."""
+    return [row_of(url, most_bytes) for url in urls]
+
+
+def result_of(client, future, urls, most_bytes):
+    """Returns the rows of a batch. If several workers died that read it, its texts are read one after another, so that only the cause is blamed."""
+    try:
+        return future.result()
+    except KilledWorker:
+        if len(urls) == 1:
+            return [{"url": urls[0], "outcome": "worker died"}]
+        return [row for url in urls for row in result_of(client, client.submit(rows_of, [url], most_bytes), [url], most_bytes)]
+
+
+def table(client, urls, batch, most_bytes):
+    """Yields the rows of the texts, in the order of the URLs."""
+    batches = [urls[start : start + batch] for start in range(0, len(urls), batch)]
+    futures = client.map(rows_of, batches, most_bytes=most_bytes)
+    futures.reverse()
+    for urls in batches:
+        yield from result_of(client, futures.pop(), urls, most_bytes)
+
+
+def written(rows, path):
+    """Writes the rows as CSV, and returns the number of texts for each outcome and error, and the frequencies of all keywords."""
+    outcomes, keywords = collections.Counter(), collections.Counter()
+    with open(path, "w", encoding="utf-8", newline="") as file:
+        writer = csv.DictWriter(file, COLUMNS, lineterminator="\n")
+        writer.writeheader()
+        for row in rows:
+            writer.writerow(row)
+            outcomes[row["outcome"], row.get("error", "")] += 1
+            for word, _, count in (part.rpartition(":") for part in row.get("keywords", "").split()):
+                keywords[word] += int(count)
+    return outcomes, keywords
+
+
+def cluster_of(given):
+    """Returns a cluster on this machine, or the address of the scheduler that was given."""
+    if given.scheduler:
+        return contextlib.nullcontext(given.scheduler)
+    return LocalCluster(n_workers=given.workers, threads_per_worker=1, processes=True, dashboard_address=":0")
+
+
+def main():
+    arguments = argparse.ArgumentParser()
+    arguments.add_argument("--out", default="table.csv")
+    arguments.add_argument("--workers", type=int)
+    arguments.add_argument("--scheduler")
+    arguments.add_argument("--batch", type=int, default=200)
+    arguments.add_argument("--most-bytes", type=int, default=1 << 26)
+    arguments.add_argument("--memory", type=int, default=1 << 30)
+    arguments.add_argument("source", type=pathlib.Path)
+    given = arguments.parse_args()
+    with cluster_of(given) as cluster, Client(cluster) as client:
+        client.register_worker_plugin(Limit(given.memory))
+        outcomes, keywords = written(table(client, urls_of(given.source), given.batch, given.most_bytes), given.out)
+    for (outcome, error), count in sorted(outcomes.items(), key=lambda item: (-item[1], item[0])):
+        print(f"{count:>9}  {outcome} {error}".rstrip())
+    for word, count in keywords.most_common(10):
+        print(f"{count:>9}  keyword {word}")
+
+
+if __name__ == "__main__":
+    sys.exit(main())
