@@ -47,8 +47,6 @@ LONG = {"line_long", "line_4000", "line_64000", "line_one"}
 BY_32 = "`wast` searches a line by 32 bytes with AVX2, which it detects at run time; ours by 16"
 UNDERSCORES = "an underscore sends a number to the general classifier, which runs about half of its instructions"
 BELOW = {
-    "parser::parse, rejected": "an error with its line is built, printed and freed: 2,800 instructions, of which 3 allocations and their frees are 800 and the output 1,100",
-    ("strings_typographic", "parser::parse, rejected"): "a message copies a long line in the parts between characters that it may have to escape",
     "Lexer::iter, collected": "a token that is collected takes about 50 instructions more, in `wast` 36, which shows in tokens of few bytes",
     "Token::string and so on": "a token whose value is read takes about 28 instructions more, in `wast` 14, which shows in tokens of few bytes",
     ("annotations_shown", "Parser::peek, peek2, peek3"): "three peeks skip the same group in turn; half of the instructions find it again",
@@ -65,6 +63,8 @@ BELOW = {
 
 # The reasons of ratios that are below the bound by time alone, of a kind or of one of its calls.
 BY_TIME = {
+    ("blanks_indent", "parser::parse, rejected"): "the time is of a build with 2,839 instructions for a rejection, now 2,666",
+    ("strings_typographic", "parser::parse, rejected"): "the time is of a build that copied a long line in the parts between characters that it may have to escape",
     "parser::parse, rejected": "the first call of a pass finds its code in no cache and takes 12 µs, in `wast` 10",
     "Lexer::iter, collected": "both write the same pages of a vector, which the system clears: 4,248 page faults for 1 MB of parentheses",
     "floats_special": "`nan` and `inf` are found by the general classifier, at the end of a number's and a word's: a quarter of the instructions",

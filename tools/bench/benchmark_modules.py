@@ -2,10 +2,17 @@
 """Benchmarks compilers of modules: MODULE, which is rust/wat-modules/examples/module.rs, against `wat2wasm --no-check` of Debian's wabt and, if
 ENCODER is given, against wast's own encoder, the program that tools/differential/wast_encoder.sh builds. Each text is of one kind that is frequent in
 programs: functions, calls, constants, data, names. Processes run in turn, with output to /dev/null. A time is the median of the user and system
-times; a memory is the largest resident size, in 10^6 bytes. All programs must write the same module, which is checked first. Prints
-docs/speed/modules.tsv.
+times; a memory is the largest resident size, in 10^6 bytes; instructions are counted by callgrind, in 10^6, less those for an empty module, on
+texts of 10% of the size, except the real ones. All programs must write the same module, which is checked first. Writes docs/speed/modules.tsv.
+
+A row of times or instructions with a ratio below 1.5 has its reason in its last column, from BELOW. The status is 1 if a row lacks one, or if a
+reason has no row.
 
 usage: benchmark_modules.py MODULE FOLDER [ENCODER] [--rounds N]     FOLDER gets the texts
+       benchmark_modules.py --counts MODULE FOLDER ENCODER           measures only memory and instructions, which no load changes
+       benchmark_modules.py --times MODULE FOLDER ENCODER            measures only times
+       benchmark_modules.py --reasons                                writes the reasons to docs/speed/modules.tsv
+       benchmark_modules.py --check                                  checks the reasons in docs/speed/modules.tsv
 """
 import argparse
 import datetime
@@ -23,6 +30,26 @@ sys.path.append(str(pathlib.Path(__file__).resolve().parents[1] / "differential"
 from benchmark_programs import linked, output
 from generate_modules import FORMS, big_module, choices
 from module_sections import agreement
+
+DATA = pathlib.Path(__file__).resolve().parents[2] / "docs/speed/modules.tsv"
+BOUND = 1.5
+# The number of parts of a text of which one is read to count instructions.
+PART = 10
+TIMES, MEMORY, INSTRUCTIONS = "modules", "memory, modules", "instructions, modules"
+WABT, ENCODER = "module, wat2wasm --no-check", "module, wast's encoder"
+
+# The reasons of ratios below the bound, of a kind in a suite or, with the call, of one of its ratios.
+AS_PACKED = "lexing and packing tokens take 56% of the instructions"
+ESCAPES = "a string is read twice: the scan for its end takes 29% to 55% of the instructions, the decoding 34% to 48%"
+BELOW = {
+    (TIMES, "locals"): f"{AS_PACKED}; the time is of a build before tokens were packed as the parser moves",
+    (TIMES, "named_locals"): "names are inserted in a sorted map: 16% of the instructions",
+    (INSTRUCTIONS, "named_locals"): "names are inserted in a sorted map: 16% of the instructions",
+    (TIMES, "vectors"): f"lanes are tokens of few bytes: {AS_PACKED}",
+    (INSTRUCTIONS, "vectors"): f"lanes are tokens of few bytes: {AS_PACKED}",
+    (INSTRUCTIONS, "data"): ESCAPES,
+    (INSTRUCTIONS, "data_letters"): ESCAPES,
+}
 
 VALUES = ["i32", "i64", "f32", "f64"]
 # Forms that one of the other programs rejects or reads differently.
@@ -45,14 +72,18 @@ def escaped(rng, count):
     return "".join(rng.choice([f"\\{rng.randrange(256):02x}", rng.choice("abcdefgh")]) for _ in range(count))
 
 
+def lettered(rng, count):
+    return "".join(rng.choice([f"\\{rng.choice('nrt')}", '\\"', *"abcdef"]) for _ in range(count))
+
+
 def types(i):
     """Returns 8 value types, which are different for each `i` below 65,536."""
     return " ".join(VALUES[i >> 2 * k & 3] for k in range(8))
 
 
-def elements(rng):
-    """Returns a module with a table whose inline element segment has 400,000 function names."""
-    names = " ".join(f"$f{rng.randrange(2_000)}" for _ in range(400_000))
+def elements(rng, count):
+    """Returns a module with a table whose inline element segment has that many function names."""
+    names = " ".join(f"$f{rng.randrange(2_000)}" for _ in range(count))
     return module(each(2_000, lambda i: f"(func $f{i})") + f"(table funcref (elem {names}))")
 
 
@@ -62,38 +93,41 @@ def functions(count):
     return re.sub(r"(?:offset|align)=\S+", lambda found: found[0].replace("_", ""), text)
 
 
-def kinds(rng):
-    """Returns the texts by name."""
+def kinds(rng, part):
+    """Returns the texts by name, with one of `part` parts of their fields or instructions."""
     return {
-        "blocks": function(100_000, lambda i: "block i32.const 1 if nop else nop end end"),
-        "branches": function(4_000, lambda i: f"block block br_table {'0 1 ' * 50}end end"),
-        "calls": module(each(80_000, lambda i: f"(func $f{i} call $f{i * 7919 % 80_000})")),
-        "comments": function(200_000, lambda i: "nop (; a comment that says what it is ;)"),
-        "data": module("(memory 1000)\n" + each(4_000, lambda i: f'(data (i32.const {i * 2_000}) "{escaped(rng, 2_000)}")')),
-        "elements": elements(rng),
-        "exports": module("(func)\n" + each(100_000, lambda i: f'(export "name{i}" (func 0))')),
-        "floats": function(200_000, lambda i: f"f64.const {rng.random()!r} drop"),
-        "folded": function(100_000, lambda i: "(drop (i32.add (i32.const 1) (i32.mul (local.get 0) (i32.const 2))))"),
-        "functions": functions(15_000),
-        "globals": module(each(100_000, lambda i: f"(global $g{i} (mut i32) (i32.const {i}))")),
-        "imports": module(each(100_000, lambda i: f'(import "env" "f{i}" (func $f{i} (param i32)))')),
-        "indirect": function(100_000, lambda i: "i32.const 1 i32.const 0 call_indirect (param i32) (result i64) drop"),
-        "integers": function(300_000, lambda i: f"i32.const {rng.randrange(1 << 31)} drop"),
-        "loads": module("(memory 1)\n(func\n" + each(150_000, lambda i: f"i32.const 1 i32.load offset={i * 4} align=4 drop") + ")\n"),
-        "locals": module(each(200, lambda i: f"(func (local {'i32 ' * 1_000}))")),
-        "named_locals": module(each(200, lambda i: "(func " + "".join(f"(local $x{k} i32) " for k in range(1_000)) + "(local.set $x999 (local.get $x500)))")),
-        "types": module(each(40_000, lambda i: f"(func (param {types(i)}))")),
-        "vectors": function(40_000, lambda i: "v128.const i32x4 1 2 3 4 v128.const i8x16 1 2 3 4 5 6 7 8 9 10 11 12 13 14 15 16 i8x16.add drop"),
+        "blocks": function(100_000 // part, lambda i: "block i32.const 1 if nop else nop end end"),
+        "branches": function(4_000 // part, lambda i: f"block block br_table {'0 1 ' * 50}end end"),
+        "calls": module(each(80_000 // part, lambda i: f"(func $f{i} call $f{i * 7919 % (80_000 // part)})")),
+        "comments": function(200_000 // part, lambda i: "nop (; a comment that says what it is ;)"),
+        "data": module("(memory 1000)\n" + each(4_000 // part, lambda i: f'(data (i32.const {i * 2_000}) "{escaped(rng, 2_000)}")')),
+        "data_letters": module("(memory 1000)\n" + each(4_000 // part, lambda i: f'(data (i32.const {i * 2_000}) "{lettered(random.Random(i), 2_000)}")')),
+        "elements": elements(rng, 400_000 // part),
+        "exports": module("(func)\n" + each(100_000 // part, lambda i: f'(export "name{i}" (func 0))')),
+        "floats": function(200_000 // part, lambda i: f"f64.const {rng.random()!r} drop"),
+        "folded": function(100_000 // part, lambda i: "(drop (i32.add (i32.const 1) (i32.mul (local.get 0) (i32.const 2))))"),
+        "functions": functions(15_000 // part),
+        "globals": module(each(100_000 // part, lambda i: f"(global $g{i} (mut i32) (i32.const {i}))")),
+        "imports": module(each(100_000 // part, lambda i: f'(import "env" "f{i}" (func $f{i} (param i32)))')),
+        "indirect": function(100_000 // part, lambda i: "i32.const 1 i32.const 0 call_indirect (param i32) (result i64) drop"),
+        "integers": function(300_000 // part, lambda i: f"i32.const {rng.randrange(1 << 31)} drop"),
+        "loads": module("(memory 1)\n(func\n" + each(150_000 // part, lambda i: f"i32.const 1 i32.load offset={i * 4} align=4 drop") + ")\n"),
+        "locals": module(each(200 // part, lambda i: f"(func (local {'i32 ' * 1_000}))")),
+        "named_locals": module(each(200 // part, lambda i: "(func " + "".join(f"(local $x{k} i32) " for k in range(1_000)) + "(local.set $x999 (local.get $x500)))")),
+        "types": module(each(40_000 // part, lambda i: f"(func (param {types(i)}))")),
+        "vectors": function(40_000 // part, lambda i: "v128.const i32x4 1 2 3 4 v128.const i8x16 1 2 3 4 5 6 7 8 9 10 11 12 13 14 15 16 i8x16.add drop"),
     }
 
 
 def texts(folder):
-    """Writes all texts to the folder, and returns their files."""
-    folder.mkdir(parents=True, exist_ok=True)
-    for name, text in kinds(random.Random(7)).items():
-        (folder / f"{name}.wat").write_text(text, encoding="utf-8")
+    """Writes all texts to the folder, and smaller ones to a folder in it, and returns the files of both: the second is the first for real texts."""
+    small = folder / "small"
+    small.mkdir(parents=True, exist_ok=True)
+    for place, part in ((folder, 1), (small, PART)):
+        for name, text in kinds(random.Random(7), part).items():
+            (place / f"{name}.wat").write_text(text, encoding="utf-8")
     linked(folder)
-    return sorted(folder.glob("*.wat"))
+    return [(text, small / text.name if (small / text.name).exists() else text) for text in sorted(folder.glob("*.wat"))]
 
 
 def run(words, text, out=subprocess.DEVNULL):
@@ -129,46 +163,111 @@ def is_same(text, jobs, folder):
     return all(agreement(ours, other)[0] in ("the same bytes", "the same, spelled otherwise") for other in others)
 
 
-def rows(text, jobs, rounds):
-    """Prints the rows of a text: MODULE against each of the other programs."""
+def instructions(words, text):
+    """Returns the instructions of a process, which callgrind counts."""
+    with open(text, "rb") as source:
+        words = ["valgrind", "--tool=callgrind", "--callgrind-out-file=/dev/null", *words]
+        said = subprocess.run(words, check=True, stdin=source, stdout=subprocess.DEVNULL, stderr=subprocess.PIPE, text=True)
+    return int(re.search(r"Collected : (\d+)", said.stderr)[1])
+
+
+def rows_of(suite, text, numbers, digits):
+    """Returns the rows of a suite: MODULE, which is the first of the programs, against each of the others."""
+    (ours, number), *others = numbers.items()
+    return [f"{suite}\t{text.stem}\t{ours}, {other}\t{number:.{digits}f}\t{theirs:.{digits}f}\t{theirs / number:.2f}" for other, theirs in others]
+
+
+def times_of(text, jobs, rounds):
+    """Returns the rows of the times for a text."""
     runs = {name: [] for name in jobs}
     for number in range(rounds):
         for turn in range(len(jobs)):
             name = list(jobs)[(number + turn) % len(jobs)]
             runs[name].append(run(jobs[name], text))
-    time = {name: statistics.median(times) * 1e3 for name, times in runs.items()}
-    most = {name: peak(words, text) for name, words in jobs.items()}
-    ours, *others = jobs
-    for other in others:
-        print(f"modules\t{text.stem}\t{ours}, {other}\t{time[ours]:.0f}\t{time[other]:.0f}\t{time[other] / time[ours]:.2f}")
-        print(f"memory, modules\t{text.stem}\t{ours}, {other}\t{most[ours]:.1f}\t{most[other]:.1f}\t{most[other] / most[ours]:.2f}", flush=True)
+    return rows_of(TIMES, text, {name: statistics.median(times) * 1e3 for name, times in runs.items()}, 0)
 
 
-def print_head(rounds):
-    """Prints the date, the commit, the machine and the versions of the programs."""
+def counts_of(text, small, jobs, empty):
+    """Returns the rows of the memory for a text, and of the instructions for a smaller one."""
+    counts = {}
+    for name, words in jobs.items():
+        more, less = (instructions([counted if word == text else word for word in words], counted) for counted in (small, empty))
+        counts[name] = (more - less) / 1e6
+    return [*rows_of(MEMORY, text, {name: peak(words, text) for name, words in jobs.items()}, 1), *rows_of(INSTRUCTIONS, text, counts, 1)]
+
+
+def head(rounds):
+    """Yields the lines with the date, the commit, the machine and the versions of the programs."""
     known = pathlib.Path("/proc/cpuinfo").read_text(encoding="utf-8").splitlines()
     model = next(line.split(": ")[1].strip() for line in known if line.startswith("model name"))
     commit = output("git", "rev-parse", "--short", "HEAD").strip()
-    print(f"# {datetime.date.today()}, commit {commit}, {model}, {os.cpu_count()} processors, load {os.getloadavg()[0]:.1f},")
-    print(f"# wabt {output('wat2wasm', '--version').strip()}, wast 222.0.0; {rounds} rounds in turn; medians; milliseconds, 10^6 bytes")
-    print("# suite\ttext\tcall\tours\tother\tratio")
+    yield f"# {datetime.date.today()}, commit {commit}, {model}, {os.cpu_count()} processors, load {os.getloadavg()[0]:.1f},"
+    yield f"# wabt {output('wat2wasm', '--version').strip()}, wast 222.0.0; {rounds} rounds in turn; medians; milliseconds, 10^6 bytes, 10^6 instructions"
+    yield "# suite\ttext\tcall\tours\tother\tratio\treason if a ratio of times or instructions is below 1.5"
 
 
-def main():
-    reads = argparse.ArgumentParser(description=__doc__, formatter_class=argparse.RawDescriptionHelpFormatter)
-    reads.add_argument("module", type=os.path.realpath)
-    reads.add_argument("folder", type=pathlib.Path)
-    reads.add_argument("encoder", nargs="?", type=os.path.realpath)
-    reads.add_argument("--rounds", type=int, default=5)
-    given = reads.parse_args()
-    print_head(given.rounds)
-    for text in texts(given.folder):
+def measured(given):
+    """Yields the lines of the table. What is not measured is as in the table that DATA has; with `--counts`, so is the head."""
+    before = lines_of(DATA)
+    yield from (line for line in before if line[0] == "#") if given.counts else head(given.rounds)
+    empty = given.folder / "empty"
+    files = texts(given.folder)
+    empty.write_text("(module)\n", encoding="utf-8")
+    for text, small in files:
+        of_text = [line for line in before if line.split("\t")[1:2] == [text.stem]]
+        of_times = [line for line in of_text if line.split("\t")[0] == TIMES]
         jobs = {"module": [given.module], "wat2wasm --no-check": ["wat2wasm", "--no-check", text, "-o", "/dev/null"]}
         if given.encoder:
             jobs["wast's encoder"] = [given.encoder, "once"]
         if not is_same(text, jobs, given.folder):
             sys.exit(f"{text}: the modules differ")
-        rows(text, jobs, given.rounds)
+        yield from of_times if given.counts else times_of(text, jobs, given.rounds)
+        yield from (line for line in of_text if line not in of_times) if given.times else counts_of(text, small, jobs, empty)
+
+
+def with_reasons(table):
+    """Returns the table with the reasons in its last column, and the faults: rows without a reason, and reasons without a row."""
+    lines, faults, used = [], [], set()
+    for line in table:
+        cells = line.split("\t")
+        if line[0] != "#":
+            is_low = cells[0] != MEMORY and float(cells[5]) < BOUND
+            key = next((key for key in (tuple(cells[:3]), tuple(cells[:2])) if key in BELOW), None) if is_low else None
+            used.add(key)
+            faults += [f"{cells[0]}, {cells[1]}, {cells[2]}: no reason"] if is_low and key is None else []
+            line = "\t".join([*cells[:6], BELOW.get(key, "")]).rstrip("\t")
+        lines.append(line)
+    return lines, faults + [f"{key}: a reason without a row" for key in BELOW if key not in used]
+
+
+def lines_of(data):
+    return data.read_text(encoding="utf-8").strip().split("\n")
+
+
+def report(table):
+    """Checks the reasons of the table, and exits with status 1 if there is a fault."""
+    wanted, faults = with_reasons(table)
+    faults += [f"{line}: the reason differs" for line, new in zip(table, wanted) if line != new]
+    print("".join(f"{fault}\n" for fault in faults) + f"benchmark_modules.py: {sum(line[0] != '#' for line in table)} ratios, {len(faults)} faults")
+    sys.exit(bool(faults))
+
+
+def main():
+    reads = argparse.ArgumentParser(description=__doc__, formatter_class=argparse.RawDescriptionHelpFormatter)
+    reads.add_argument("module", nargs="?", type=os.path.realpath)
+    reads.add_argument("folder", nargs="?", type=pathlib.Path)
+    reads.add_argument("encoder", nargs="?", type=os.path.realpath)
+    reads.add_argument("--rounds", type=int, default=5)
+    for option in ("--counts", "--times", "--reasons", "--check"):
+        reads.add_argument(option, action="store_true")
+    given = reads.parse_args()
+    if not given.check:
+        table = lines_of(DATA) if given.reasons else []
+        for line in () if given.reasons else measured(given):
+            print(line, flush=True)
+            table.append(line)
+        DATA.write_text("\n".join(with_reasons(table)[0]) + "\n", encoding="utf-8")
+    report(lines_of(DATA))
 
 
 if __name__ == "__main__":

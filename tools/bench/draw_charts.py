@@ -55,8 +55,8 @@ class Chart:
 
 
 def rows_of(chart, read):
-    """Returns the rows of a chart's data that it uses, as they are in the file."""
-    rows = [line.split("\t") for line in read(chart.data).split("\n") if line and not line.startswith("#")]
+    """Returns the rows of a chart's data that it uses, as they are in the file, without their reasons."""
+    rows = [line.split("\t")[:6] for line in read(chart.data).split("\n") if line and not line.startswith("#")]
     used = [row for row in rows if row[0] == chart.suite and row[1] in chart.texts and row[2] in chart.calls]
     if len(used) != len(chart.texts) * len(chart.calls):
         raise ValueError(f"{chart.data}: {len(used)} rows for the chart {chart.name}, not {len(chart.texts) * len(chart.calls)}")

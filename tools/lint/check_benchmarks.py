@@ -1,8 +1,9 @@
 #!/usr/bin/env python3
 """Checks docs/speed/calls.txt. It must have a row for each public call of Rattle (tools/lint/public_names.txt, and the libraries' sources), of the
 Rust crates and of C, and each row must have a figure from the data of docs/speed, or the reason why there is none. The ratios in the first table
-of docs/benchmarks.md must occur in the data, those at worst be the least of kinds.tsv, and the page must name each kind of text that is lexed with more instructions than by `wast`. In
-kinds.tsv each row with a ratio below the bound of tools/bench/benchmark_kinds.py must have its reason.
+of docs/benchmarks.md must occur in the data, those at worst be the least of kinds.tsv, and the page must name each kind of text that is lexed with more
+instructions than by `wast`. In kinds.tsv and modules.tsv each row with a ratio below the bound of tools/bench/benchmark_kinds.py and of
+tools/bench/benchmark_modules.py must have its reason.
 
 usage: tools/lint/check_benchmarks.py [--write | --self-test]
 
@@ -19,6 +20,7 @@ sys.dont_write_bytecode = True
 sys.path += [str(pathlib.Path(__file__).resolve().parents[1] / folder) for folder in ("lib", "bench")]
 
 import benchmark_kinds
+import benchmark_modules
 import check_public_names
 from rattle_source import ROOT, items_of, tokens_of, written
 
@@ -160,12 +162,12 @@ def wrong_worsts(page, found):
     return faults
 
 
-def unexplained(table):
-    """Returns a fault for each row of kinds.tsv whose reason is not that of tools/bench/benchmark_kinds.py, and for each reason without a row."""
+def unexplained(table, tool=benchmark_kinds):
+    """Returns a fault for each row of a table whose reason is not that of its tool, and for each reason without a row."""
     lines = table.strip().split("\n")
-    wanted, faults = benchmark_kinds.with_reasons(lines)
+    wanted, faults = tool.with_reasons(lines)
     differ = [" ".join(line.split("\t")[1:3]) for line, new in zip(lines, wanted) if line != new]
-    return [f"docs/speed/kinds.tsv: {fault}" for fault in [*faults, *(f"{row}: the reason differs" for row in differ)]]
+    return [f"docs/speed/{tool.DATA.name}: {fault}" for fault in [*faults, *(f"{row}: the reason differs" for row in differ)]]
 
 
 def wanted_calls():
@@ -190,7 +192,10 @@ def self_test():
     rows = {row: True, f"{row}\twhy": True, row.replace("1.40", "1.50"): False, row.replace("1.40", "1.50").replace("1.60", "1.40"): True}
     missed += [text for text, is_fault in rows.items() if any("a, Lexer::parse: no" in fault for fault in unexplained(text)) != is_fault]
     missed += [text for text in (row, f"{row}\twhy") if ("a Lexer::parse: the reason differs" in str(unexplained(text))) != text.endswith("why")]
-    print("".join(f"not as wanted: {name}\n" for name in missed) + f"check_benchmarks.py --self-test: {len(planted) + 13} tables, {len(missed)} not as wanted")
+    row = "modules\ta\tmodule, b\t3\t4\t1.40"
+    rows = {row: True, f"{row}\twhy": True, row.replace("1.40", "1.50"): False, f"memory, {row}": False, f"instructions, {row}": True}
+    missed += [text for text, is_fault in rows.items() if any("a, module, b: no" in fault for fault in unexplained(text, benchmark_modules)) != is_fault]
+    print("".join(f"not as wanted: {name}\n" for name in missed) + f"check_benchmarks.py --self-test: {len(planted) + 18} tables, {len(missed)} not as wanted")
     return missed
 
 
@@ -204,7 +209,9 @@ def main():
         faults = checked(table, wanted, figures(DATA))[1]
     page = SPEED.read_text(encoding="utf-8")
     faults += unknown_ratios(page, figures(DATA)) + missing_kinds(page, figures(DATA))
-    faults += wrong_worsts(page, figures(DATA)) + unexplained((DATA / "kinds.tsv").read_text(encoding="utf-8"))
+    faults += wrong_worsts(page, figures(DATA))
+    for tool in (benchmark_kinds, benchmark_modules):
+        faults += unexplained(tool.DATA.read_text(encoding="utf-8"), tool)
     measured = sum(" | not measured" not in line and " | " in line for line in table.split("\n"))
     print("".join(f"{fault}\n" for fault in faults) + f"check_benchmarks.py: {len(wanted)} calls, {measured} with a figure, {len(faults)} faults")
     sys.exit(bool(faults))

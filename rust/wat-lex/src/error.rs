@@ -1,6 +1,7 @@
 use crate::proved;
 use crate::proved::error::Message;
-use crate::proved::error::pieces::{Piece, write_chunks};
+use crate::proved::error::pieces::{Piece, print, write_chunks};
+use crate::proved::lexer::first_confusing;
 use crate::shim::alloc::{Global, granted};
 use crate::shim::boxed::Box;
 use crate::{LexError, Span};
@@ -8,6 +9,7 @@ use alloc::format;
 use alloc::string::{String, ToString};
 use core::fmt::{self, Write as _};
 use core::str;
+use memchr::{memchr, memchr2};
 #[cfg(feature = "std")]
 use std::path::{Path, PathBuf};
 
@@ -169,7 +171,12 @@ struct Printed {
 const MAX_PRINTED: usize = 256;
 
 /// The digits, each padded to the width of a line number. As a text, a digit is written faster than as a number.
-const DIGITS: &str = "   0   1   2   3   4   5   6   7   8   9";
+const DIGITS: [&str; 10] = [
+    "   0", "   1", "   2", "   3", "   4", "   5", "   6", "   7", "   8", "   9",
+];
+
+/// A marker in the last column of 64. As a text, it is written faster than space by space.
+const MARKER: &str = "                                                               ^";
 
 impl fmt::Write for Printed {
     fn write_str(&mut self, text: &str) -> fmt::Result {
@@ -183,28 +190,14 @@ impl Printed {
         self.len = write_chunks(pieces, &mut self.bytes, self.len);
     }
 
-    /// Returns the output of an error, or `None` if it is long or has no line.
-    fn of(&mut self, located: &Located) -> Option<&str> {
-        let error = &located.error;
-        let mut pieces = error.excerpt()?.pieces();
-        for piece in &mut pieces {
-            match *piece {
-                Piece::Line(line) if line.0.len() > MAX_PRINTED / 2 => return None,
-                Piece::Decimal(digit @ 0..10) => {
-                    *piece = Piece::Text(&DIGITS[4 * digit + 3..][..1]);
-                }
-                Piece::LineNumber(digit @ 0..10) => {
-                    *piece = Piece::Text(&DIGITS[4 * digit..][..4]);
-                }
-                _ => {}
-            }
-        }
-        match (error.lex_error(), located.message) {
+    /// Returns the output of an error with these chunks after its message, or `None` if it is long.
+    fn of(&mut self, located: &Located, pieces: &[Piece<'_>]) -> Option<&str> {
+        match (located.error.lex_error(), located.message) {
             (Some(error), _) => self.write_pieces(&error.pieces()),
-            (None, "") => write!(self, "{}", Message(error)).ok()?,
+            (None, "") => write!(self, "{}", Message(&located.error)).ok()?,
             (None, message) => self.write_str(message).ok()?,
         }
-        self.write_pieces(&pieces);
+        self.write_pieces(pieces);
         // Whole blocks of 16 bytes are validated faster than the bytes of a part of one. The bytes after the output are 0.
         let text = str::from_utf8(&self.bytes[..self.len.next_multiple_of(16)]).ok()?;
         // If the buffer is full, the output may be longer.
@@ -212,18 +205,61 @@ impl Printed {
     }
 }
 
-impl fmt::Display for Located {
-    fn fmt(&self, f: &mut fmt::Formatter<'_>) -> fmt::Result {
-        let Some(file) = self.file() else {
+/// Replaces a chunk by one with the same output that is written faster, except a short line.
+fn quicken(piece: &mut Piece<'_>) {
+    let text = match *piece {
+        Piece::Decimal(digit @ 0..10) => &DIGITS[digit][3..],
+        Piece::LineNumber(digit @ 0..10) => DIGITS[digit],
+        Piece::Marker(column @ 1..=64) => &MARKER[64 - column..],
+        Piece::Line(line) if is_long(line.0) && is_displayed_unchanged(line.0) => line.0,
+        _ => return,
+    };
+    *piece = Piece::Text(text);
+}
+
+fn is_long(line: &str) -> bool {
+    line.len() > MAX_PRINTED / 2
+}
+
+/// Returns `true` if a line has neither a TAB nor a confusing character, each of which begins with the byte 0xE2.
+fn is_displayed_unchanged(line: &str) -> bool {
+    let bytes = line.as_bytes();
+    match memchr2(b'\t', 0xe2, bytes) {
+        None => true,
+        Some(at) => memchr(b'\t', &bytes[at..]).is_none() && first_confusing(line).is_none(),
+    }
+}
+
+impl Located {
+    fn print(&self, f: &mut fmt::Formatter<'_>) -> fmt::Result {
+        let Some(excerpt) = self.error.excerpt() else {
+            return write!(f, "{}{}", self.message, self.error);
+        };
+        let mut pieces = excerpt.pieces();
+        let is_short = !matches!(pieces[7], Piece::Line(line) if is_long(line.0));
+        // The others are texts.
+        for index in [1, 3, 5, 7, 9] {
+            quicken(&mut pieces[index]);
+        }
+        if is_short {
             let mut printed = Printed {
                 bytes: [0; MAX_PRINTED],
                 len: 0,
             };
             // One write takes less time than a write of each part.
-            return match printed.of(self) {
-                Some(text) => f.write_str(text),
-                None => write!(f, "{}{}", self.message, self.error),
-            };
+            if let Some(text) = printed.of(self, &pieces) {
+                return f.write_str(text);
+            }
+        }
+        write!(f, "{}{}", self.message, Message(&self.error))?;
+        print(&pieces, f)
+    }
+}
+
+impl fmt::Display for Located {
+    fn fmt(&self, f: &mut fmt::Formatter<'_>) -> fmt::Result {
+        let Some(file) = self.file() else {
+            return self.print(f);
         };
         let message = self.message();
         let printed = format!("{}{}", self.message, self.error);

@@ -66,8 +66,8 @@ fn errors_of_any_length_are_printed_whole() {
 
 #[test]
 fn an_error_with_a_static_message_is_another_error() {
-    for (line, column) in (1..=11).flat_map(|line| [(line, 1), (line, 9), (line, 10), (line, 400)])
-    {
+    let few = (1..=11).flat_map(|line| [(line, 1), (line, 9), (line, 10), (line, 400)]);
+    for (line, column) in few.chain((1..=130).map(|column| (1, column))) {
         let text = "\n".repeat(line - 1) + &"x".repeat(column);
         let span = Span::from_offset(text.len() - 1);
         let mut error = Error::in_text(span, &text, "no");
@@ -86,6 +86,19 @@ fn an_error_with_a_static_message_is_another_error() {
         let wanted = format!("no\n     --> a.wat:{line}:{column}\n{excerpt}");
         assert_eq!((error.to_string(), error.span()), (wanted, span));
         assert_eq!(error.lex_error(), None);
+    }
+}
+
+#[test]
+fn long_lines_are_printed_as_displayed() {
+    for (own, shown) in [("\t", "    "), ("’", "’"), ("\u{202e}", ""), ("é", "é")] {
+        for (before, after) in (0..300).flat_map(|len| [(len, 0), (1, len), (len, len)]) {
+            let line = |own: &str| "x".repeat(before) + own + &"x".repeat(after);
+            let error = Error::in_text(Span::from_offset(0), &line(own), "no");
+            let shown = line(shown);
+            let wanted = format!("no\n     --> <anon>:1:1\n      |\n    1 | {shown}\n      | ^");
+            assert_eq!(error.to_string(), wanted);
+        }
     }
 }
 
