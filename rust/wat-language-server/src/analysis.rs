@@ -2,10 +2,11 @@
 
 use crate::fields::{Definition, Field, FieldKind, Item, Module, items, modules};
 use crate::index_spaces::Space;
-use crate::scopes::ModuleScope;
+use crate::scopes::{Index, ModuleScope};
 use crate::syntax::Syntax;
 use crate::walker::{Found, Occurrence, Walker};
-use std::collections::HashMap;
+use std::borrow::Cow;
+use std::collections::{HashMap, HashSet};
 use wat_lex::Document;
 
 /// The modules of a text with their definitions, and the tokens that name them.
@@ -29,7 +30,10 @@ impl<'a> Analysis<'a> {
             .iter()
             .map(|module| analyze(&syntax, module, &mut found))
             .collect();
-        found.occurrences.sort_by_key(|it| it.token);
+        let occurrences = &mut found.occurrences;
+        occurrences.sort_by_key(|it| (it.token, it.definition));
+        // A type that is imported, which is an error, is a type use too.
+        occurrences.dedup_by_key(|it| (it.token, it.definition));
         Analysis {
             syntax,
             modules,
@@ -73,6 +77,30 @@ impl<'a> Analysis<'a> {
         occurrences.filter(move |it| it.definition == definition)
     }
 
+    /// Returns each token that names a definition, with its number.
+    pub(crate) fn named(&self) -> HashSet<(usize, usize)> {
+        let occurrences = self.found.occurrences.iter();
+        occurrences.map(|it| (it.token, it.definition)).collect()
+    }
+
+    /// Returns `true` if another definition of the same index space has the name, in the module, or in the function of a local. Blocks can have the
+    /// label of another.
+    pub(crate) fn is_taken(&self, definition: usize, name: &str) -> bool {
+        let Definition { space, field, .. } = self.found.definitions[definition];
+        match (space, self.field_around(field)) {
+            (Space::Label, _) | (_, None) => false,
+            (Space::Local, _) => self.found.definitions.iter().zip(0..).any(|(it, number)| {
+                let is_other = number != definition && it.field == field && it.space == space;
+                is_other && self.syntax.name(it.selection).as_deref() == Some(name)
+            }),
+            (_, Some((_, module))) => {
+                let name = Index::Name(Cow::Owned(name.to_owned()));
+                let found = self.scopes[module].find(space, name);
+                found.is_some_and(|it| it != definition)
+            }
+        }
+    }
+
     /// Returns the field around a group, or the group itself if it is one, and the number of its module.
     fn field_around(&self, group: usize) -> Option<(Field, usize)> {
         let numbered = self.modules.iter().zip(0..);
@@ -95,7 +123,7 @@ impl<'a> Analysis<'a> {
         let scope = &self.scopes[module];
         let mut walker = Walker::new(&self.syntax, scope, field, &mut self.found);
         walker.walk(at);
-        let state = walker.state(at);
+        let state = walker.state();
         let of_space = |space: &Space| match space {
             Space::Local => state.locals.as_slice(),
             Space::Label => &state.labels,

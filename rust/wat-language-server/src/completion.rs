@@ -6,6 +6,7 @@ use crate::fields::{FIELDS, FieldKind};
 use crate::index_spaces::{INSTRUCTIONS, Space};
 use crate::syntax::Syntax;
 use serde_json::{Value, json};
+use std::collections::HashSet;
 use std::ops::Range;
 use wat_lex::Document;
 
@@ -58,7 +59,7 @@ fn item(label: &str, kind: u8, range: &Value) -> Value {
     json!({ "label": label, "kind": kind, "textEdit": edit })
 }
 
-/// Returns `true` if a byte offset is inside a comment or a string, or at the end of a line comment.
+/// Returns `true` if a byte offset is inside a comment or a string, or at the end of a line comment or of a string with an error.
 fn is_in_text(document: &Document, offset: usize) -> bool {
     let before = offset.checked_sub(1).map(|last| document.piece_at(last));
     let Some(piece) = before.and_then(|at| document.piece(at)) else {
@@ -66,7 +67,8 @@ fn is_in_text(document: &Document, offset: usize) -> bool {
     };
     let source = &document.text()[piece.range()];
     let is_inside = piece.end() > offset && source.starts_with(['"', ';', '(']);
-    is_inside || source.starts_with(";;")
+    let is_unclosed = piece.token().is_none() && source.starts_with('"');
+    is_inside || is_unclosed || source.starts_with(";;")
 }
 
 /// Returns the range of the characters before a byte offset that can be part of a keyword or an identifier.
@@ -86,9 +88,14 @@ fn candidates(mut analysis: Analysis, at: usize) -> Vec<(String, u8)> {
     };
     let syntax = &analysis.syntax;
     let definitions = items.iter().map(|it| &analysis.definitions()[*it]);
-    let named = definitions.filter(|it| syntax.name(it.selection).is_some());
+    // A label hides those around it of the same name.
+    let mut seen = HashSet::new();
+    let visible = definitions.filter(|it| {
+        let name = syntax.name(it.selection);
+        name.is_some_and(|name| seen.insert(name))
+    });
     let identifier = |space, selection| (syntax.source(selection).to_owned(), kind_of(space));
-    let mut found: Vec<_> = named.map(|it| identifier(it.space, it.selection)).collect();
+    let mut found: Vec<_> = visible.map(|it| identifier(it.space, it.selection)).collect();
     if is_required {
         return found;
     }

@@ -1,10 +1,12 @@
 //! Definitions, references and highlights of the identifier or index at a position, and its renaming.
 
 use crate::analysis::Analysis;
+use crate::diagnostics::LONGEST_ANALYZED;
 use crate::document::OpenDocument;
+use crate::syntax::Syntax;
 use crate::walker::Occurrence;
 use serde_json::{Value, json};
-use wat_lex::{Lexer, TokenKind};
+use wat_lex::{Document, Lexer, TokenKind};
 
 /// Returns the location of the definition of the identifier or index at a position, or `null` if there is none.
 pub fn definition(open: &OpenDocument, params: &Value) -> Value {
@@ -37,8 +39,8 @@ pub fn highlights(open: &OpenDocument, params: &Value) -> Value {
     })
 }
 
-/// Returns the edits that rename the identifier at a position, or `null` if the definition has none, or if the new name, with or without its `$`, is
-/// not an identifier. Indices stay as they are.
+/// Returns the edits that rename the identifier at a position, or `null` if the definition has none, if the new name, with or without its `$`, is not
+/// an identifier, or if it has another definition where it would be used. Indices stay as they are.
 pub fn rename(open: &OpenDocument, params: &Value) -> Value {
     let name = params["newName"].as_str().and_then(identifier);
     let (Some(name), Some(uri)) = (name, params["textDocument"]["uri"].as_str()) else {
@@ -52,9 +54,42 @@ pub fn rename(open: &OpenDocument, params: &Value) -> Value {
         }
         let tokens = analysis.occurrences_of(at.definition).map(|it| it.token);
         let named = tokens.filter(|token| syntax.name(*token).is_some());
+        let named: Vec<_> = named.collect();
+        if !is_free(analysis, at.definition, &named, &name) {
+            return Value::Null;
+        }
         let edit = |token| json!({ "range": range(open, analysis, token), "newText": name });
-        json!({ "changes": { uri: named.map(edit).collect::<Value>() } })
+        json!({ "changes": { uri: named.into_iter().map(edit).collect::<Value>() } })
     })
+}
+
+/// Returns `true` if `tokens`, which name a definition, can become an identifier: no other definition has it there, and each token of the text still
+/// names the same definition then.
+fn is_free(analysis: &Analysis, definition: usize, tokens: &[usize], identifier: &str) -> bool {
+    let Some(document) = replaced(&analysis.syntax, tokens, identifier) else {
+        return false;
+    };
+    let renamed = Analysis::new(&document);
+    let name = tokens.first().and_then(|at| renamed.syntax.name(*at));
+    name.is_some_and(|name| !analysis.is_taken(definition, &name))
+        && analysis.named().is_subset(&renamed.named())
+}
+
+/// Returns the document with an identifier in the place of some tokens, whose indices are in order, or `None` if it could have more than
+/// [`LONGEST_ANALYZED`] bytes.
+fn replaced(syntax: &Syntax, tokens: &[usize], identifier: &str) -> Option<Document> {
+    if syntax.text().len() + tokens.len() * identifier.len() > LONGEST_ANALYZED {
+        return None;
+    }
+    let (mut text, mut end) = (String::new(), 0);
+    for token in tokens {
+        let bytes = syntax.bytes(*token..token + 1);
+        text += &syntax.text()[end..bytes.start];
+        text += identifier;
+        end = bytes.end;
+    }
+    text += &syntax.text()[end..];
+    Document::new(&text).ok()
 }
 
 /// Returns a name with a `$` in front, if that is an identifier.

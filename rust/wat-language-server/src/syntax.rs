@@ -79,7 +79,7 @@ impl<'a> Syntax<'a> {
     fn group(&mut self) {
         let mut open = OpenGroups::default();
         for at in 0..self.tokens.len() {
-            if self.is_open(at) && self.closes_function(at, &open) {
+            if self.is_open(at) && self.closes_field(at, &open) {
                 self.close(open.drop_field(), at);
             }
             self.parents.push(open.groups.last().copied());
@@ -92,10 +92,18 @@ impl<'a> Syntax<'a> {
         self.close(open.groups, self.tokens.len());
     }
 
-    /// Returns `true` if the group at `at` must be a field, but the field before it is a function with a missing `)`.
-    fn closes_function(&self, at: usize, open: &OpenGroups) -> bool {
-        let is_function = |open: usize| self.word(open + 1) == Some("func");
-        open.field().is_some_and(is_function) && self.must_be_field(at)
+    /// Returns `true` if the group at `at` must be a field, because the field before it, with a missing `)`, cannot contain it.
+    fn closes_field(&self, at: usize, open: &OpenGroups) -> bool {
+        let field = open.field().and_then(|open| self.word(open + 1));
+        let inner = match field {
+            Some("func" | "global" | "start") => None,
+            Some("table") => Some("elem"),
+            Some("memory") => Some("data"),
+            Some("elem") => Some("table"),
+            Some("data") => Some("memory"),
+            _ => return false,
+        };
+        self.must_be_field(at) && self.word(at + 1) != inner
     }
 
     /// Returns `true` if the group at `at` can be a field, but not a part of a function.

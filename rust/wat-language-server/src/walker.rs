@@ -124,9 +124,8 @@ impl<'a, 's> Walker<'a, 's> {
         self.locals.definitions()
     }
 
-    /// Returns the state before the token at `at`, the next one.
-    pub fn state(&mut self, at: usize) -> State {
-        self.labels.close_before(at);
+    /// Returns the state before the next token. After a keyword, groups that end before it lack their `)`, and their labels are open.
+    pub fn state(&self) -> State {
         let Pending {
             immediates,
             position,
@@ -159,13 +158,12 @@ impl<'a, 's> Walker<'a, 's> {
 
     /// Returns the definition of the type that a function uses, unless the function has parameters of its own.
     fn used_type(&self) -> Option<usize> {
-        let header = ["import", "export", "type", "param", "result"];
         let mut type_use = None;
         for group in self.syntax.groups(self.field.open) {
             match self.syntax.word(group + 1) {
                 Some("param") => return None,
                 Some("type") => type_use = Some(group + 2),
-                Some(word) if header.contains(&word) => {}
+                Some("import" | "export") => {}
                 _ => break,
             }
         }

@@ -244,8 +244,20 @@ const BAD_HEADERS: &[&[u8]] = &[
     b"Content-Length: 20\r\n\r\n{\"method\":\"\xff\"      }",
 ];
 
+/// Asserts that an error, or an entry of the log, says something.
+fn assert_has_text(message: &Value) {
+    let is_entry = message["method"] == "window/logMessage";
+    let entry = &message[if is_entry { "params" } else { "error" }];
+    if entry.is_object() {
+        let text = entry["message"].as_str().unwrap();
+        assert!(!text.is_empty() && !text.ends_with(": "), "{message}");
+        assert!(!is_entry || entry["type"] == 1, "{message}");
+    }
+}
+
 /// Returns the kind of a message of the server: the code of an error, the name of a notification, or `result`.
 fn kind_of(message: &Value) -> String {
+    assert_has_text(message);
     let method = message["method"]
         .as_str()
         .and_then(|it| it.rsplit('/').next());

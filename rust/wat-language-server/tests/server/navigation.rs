@@ -2,6 +2,7 @@
 
 use super::marked::{Marked, ranges_of};
 use serde_json::{Value, json};
+use wat_language_server::LONGEST_ANALYZED;
 
 /// Texts with the position of a request, and the definition.
 const DEFINITIONS: &[&str] = &[
@@ -51,6 +52,7 @@ const DEFINITIONS: &[&str] = &[
     "(type $t (func (param i32 «i64»))) (func (type $t) (local i32) (local.get ‸1))",
     "(func (type $t) (local «i32») (local.get ‸2)) (type $t (func (param i32 i64)))",
     "(func (type 0) (param «$a» i32) (local.get ‸0)) (type (func (param i32)))",
+    "(type (func (param «i64»))) (func (export \"f\") (type 0) (local.get ‸0))",
     // Labels.
     "(func block «$l» loop $m br ‸$l end end)",
     "(func block $l «loop» br ‸0 end end)",
@@ -185,6 +187,17 @@ fn identifiers_are_renamed() {
         "(import \"a\" \"b\" (func «$f»)) (elem func «‸$f»)",
         "(func (block «$a» (block $b (br «$‸a») (br 1))))",
         "(func (block $a (block «$a» (br «‸$a»))))",
+        "(import \"a\" \"b\" (type «‸$t»))",
+        // The new name is another definition's, elsewhere.
+        "(module (func «‸$f»)) (module (func $new))",
+        "(func «‸$f») (table $new 1 funcref)",
+        "(func (param «‸$x» i32)) (func (param $new i32)) (func $new)",
+        "(func (block $new) (block «‸$a» (br «$a»)))",
+        "(func (block $new (block «‸$a» (br «$a»))))",
+        "(func (block «‸$a» (block $new (br $new))))",
+        // The new name has no definition yet, or is the old one.
+        "(func «‸$f») (start $new)",
+        "(func «‸$new») (start «$new»)",
     ];
     for case in cases {
         let marked = Marked::new(case);
@@ -205,7 +218,7 @@ fn identifiers_are_renamed() {
 }
 
 #[test]
-fn nothing_is_renamed_without_identifiers() {
+fn other_tokens_and_to_other_names_nothing_is_renamed() {
     let marked = Marked::new("(func ‸$f)");
     for name in ["", "$", "a b", "a(", "é", "a;;", "\"a", "a\n", "(;"] {
         let renamed = marked.result("rename", &json!({ "newName": name }));
@@ -224,6 +237,16 @@ fn nothing_is_renamed_without_identifiers() {
         "(func (call ‸$f))",
         "(‸func $f)",
         "‸",
+        // The new name is another definition's.
+        "(func ‸$f) (func $new)",
+        "(func $new) (func ‸$f)",
+        "(func ‸$f) (func $\"new\")",
+        "(import \"a\" \"b\" (func $new)) (func ‸$f)",
+        "(func (param ‸$x i32) (local $new i32))",
+        "(func (param $new i32) (local ‸$x i32))",
+        "(func (block ‸$a (block $new (br $a))))",
+        "(func (block $new (block ‸$a (br $new))))",
+        "(func block $new loop ‸$a br $new end end)",
     ] {
         assert_eq!(
             Marked::new(case).result("rename", &new),
@@ -231,6 +254,10 @@ fn nothing_is_renamed_without_identifiers() {
             "{case}"
         );
     }
+    // The text would be too long.
+    let long = Marked::new(&format!("(func ‸$f {})", "(call $f)".repeat(3_000)));
+    let new = json!({ "newName": "x".repeat(LONGEST_ANALYZED / 3_000) });
+    assert_eq!(long.result("rename", &new), Value::Null);
     let quoted = marked.result("rename", &json!({ "newName": "\"a b\"" }));
     assert_eq!(quoted["changes"]["u"][0]["newText"], "$\"a b\"");
 }

@@ -55,6 +55,14 @@ const SYMBOLS: &[(&str, &str)] = &[
         "2 module{12 $f, 12 $g, 19 memory 0}",
     ),
     (
+        "(«module» (global «$g» i32 (i32.const 0) (table «$t» 1 funcref (memory «$m» 1 (elem «$e» (table $t) (data «$d» (memory 0) («start» 0 (func «$f»",
+        "2 module{13 $g, 18 $t, 19 $m, 18 $e, 15 $d, 24 start (0), 12 $f}",
+    ),
+    (
+        "(table «$t» funcref (elem 0) (memory «$m» (data \"\")",
+        "18 $t, 19 $m",
+    ),
+    (
         "(«module» (func «$f» é frob))) (func «$g»)",
         "2 module{12 $f, 12 $g}",
     ),
