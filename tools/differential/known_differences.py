@@ -4,25 +4,25 @@ import functools
 import module_tokens as tokens_of
 from generate_modules import FORMS, laid
 from module_sections import DATA_COUNT, contents, differences, meaning, type_count
-from name_sections import LABELS, LOCALS, are_shifted, subsections
+from name_sections import LOCALS, are_shifted, subsections
 
-# Texts that `wat2wasm` accepts and the program rejects: the program's message, and a test of the tokens.
+# Texts that `wat2wasm` accepts and the program rejects: the beginning of the program's message, and a test of the tokens.
 REFUSED = {
-    "of an `if` without `then` or `else`, which wat2wasm takes": ("unexpected token", tokens_of.has_bare_part),
-    "of a table or elements of numbers, which wat2wasm takes": ("unknown keyword", tokens_of.has_number_table),
-    "of an unknown name in an element, for which wat2wasm does not look": ("unknown identifier", tokens_of.has_name_in_element),
-    "of a table that is said, without `func` or an offset, which wat2wasm takes": ("unexpected token", tokens_of.has_said_table),
-    "of an element segment with nothing in it, which wat2wasm takes": ("unexpected token", tokens_of.has_no_list),
-    "of two data segments of one name, which wat2wasm takes": ("duplicate identifier", tokens_of.has_two_segments_of_a_name),
-    "of a `table.copy` of one table, which wat2wasm takes": ("unexpected token", tokens_of.has_one_table),
-    "of a type's number with the lists of another type, which wat2wasm takes": ("mismatching type", tokens_of.type_numbers),
+    "of an `if` without `then` or `else`, which wat2wasm takes": ("expected ", tokens_of.has_bare_part),
+    "of a table or elements of numbers, which wat2wasm takes": (("unknown reference type ", "expected a reference type or `func`, "), tokens_of.has_number_table),
+    "of an unknown name in an element, for which wat2wasm does not look": ("unknown function ", tokens_of.has_name_in_element),
+    "of a table that is said, without `func` or an offset, which wat2wasm takes": ("expected ", tokens_of.has_said_table),
+    "of an element segment with nothing in it, which wat2wasm takes": ("expected ", tokens_of.has_no_list),
+    "of two data segments of one name, which wat2wasm takes": ("duplicate data segment ", tokens_of.has_two_segments_of_a_name),
+    "of a `table.copy` of one table, which wat2wasm takes": ("expected ", tokens_of.has_one_table),
+    "of a type's number with the lists of another type, which wat2wasm takes": ("parameters or results differ ", tokens_of.type_numbers),
 }
-# Texts of older syntax or later proposals that only the program rejects: its message, and a test of the tokens.
+# Texts of older syntax or later proposals that only the program rejects: the beginning of its message, and a test of the tokens.
 REFUSED_ALONE = {
-    "of limits with a type, which both oracles take": ("unexpected token", tokens_of.has_index_type),
-    "of a segment's memory or table without parentheses, which both oracles take": ("unexpected token", tokens_of.has_bare_use),
-    "of a memory's index in an instruction, which both oracles take": ("unexpected token", tokens_of.has_memory_index),
-    "of a memory's index before a memory argument, which both oracles take": ("unknown keyword", tokens_of.has_memory_index),
+    "of limits with a type, which both oracles take": ("expected ", tokens_of.has_index_type),
+    "of a segment's memory or table without parentheses, which both oracles take": ("expected ", tokens_of.has_bare_use),
+    "of a memory's index in an instruction, which both oracles take": ("expected ", tokens_of.has_memory_index),
+    "of a memory's index before a memory argument, which both oracles take": ("unknown instruction ", tokens_of.has_memory_index),
 }
 OF_A_FORM = "of a form left out: "
 NO_TYPE = "of the number of no type, for which the oracles do not look"
@@ -33,12 +33,12 @@ def is_taken_by_both(name):
     return name is not None and (name == NO_TYPE or name in REFUSED_ALONE or name.startswith(OF_A_FORM))
 
 
-# Texts that a program rejects if it does not implement a form: its message, and a test of the tokens.
+# Texts that a program rejects if it does not implement a form: the beginning of its message, and a test of the tokens.
 LEFT_OUT = {
-    **{form: [("unknown keyword", functools.partial(tokens_of.has_word, {word for word, _ in rows}))] for form, rows in FORMS.items()},
-    "reference-types": [("unknown keyword", tokens_of.has_reference), ("unknown identifier", tokens_of.has_reference)],
-    "typed-select": [("unknown keyword", tokens_of.has_typed_select)],
-    "bare": [("unexpected token", tokens_of.has_no_module), ("unknown keyword", tokens_of.has_no_module)],
+    **{form: [("unknown ", functools.partial(tokens_of.has_word, {word for word, _ in rows}))] for form, rows in FORMS.items()},
+    "reference-types": [(("unknown ", "expected "), tokens_of.has_reference)],
+    "typed-select": [("unknown ", tokens_of.has_typed_select)],
+    "bare": [(("expected ", "unknown "), tokens_of.has_no_module)],
 }
 
 # Texts that the program accepts and `wat2wasm` rejects.
@@ -59,14 +59,14 @@ OF_MODULES = {SHORT, STOPPED, COUNT, LONG}
 
 def refusal(without, tokens, message):
     """Returns the name of the known difference that explains why only the program rejects a text, or `None`."""
-    found = (name for name, (said, has) in {**REFUSED_ALONE, **REFUSED}.items() if message.startswith(said + "\n") and has(tokens))
-    left_out = (f"{OF_A_FORM}{form}" for form in without for said, has in LEFT_OUT[form] if message.startswith(said + "\n") and has(tokens))
+    found = (name for name, (said, has) in {**REFUSED_ALONE, **REFUSED}.items() if message.startswith(said) and has(tokens))
+    left_out = (f"{OF_A_FORM}{form}" for form in without for said, has in LEFT_OUT[form] if message.startswith(said) and has(tokens))
     return next(left_out, None) or next(found, None)
 
 
 def is_no_type(tokens, message, theirs):
     """Returns `True` if a type use has an integer that is not the index of a type in the module of these bytes."""
-    return message.startswith("unknown identifier\n") and any(number >= type_count(theirs) for number in tokens_of.type_numbers(tokens))
+    return message.startswith("unknown type ") and any(number >= type_count(theirs) for number in tokens_of.type_numbers(tokens))
 
 
 def is_other_count(tokens, ours, theirs):
@@ -120,24 +120,21 @@ def departures(makers, without, rng, tokens, ours, theirs):
     return [name] if name else []
 
 
-# The outcomes for name sections: equal ones, and the known differences from those of wast.
+# The outcomes for name sections: equal ones, and the known difference from those of wast.
 SAME_NAMES, NO_NAMES = "the same names", "no names"
-NOT_WRITTEN = {LOCALS: "without locals, which the program does not write", LABELS: "without labels, which the program does not write"}
 SHIFTED = "of a local after `(type x)` alone, whose index wast counts without the parameters of the type (6.6.5)"
 
 
 def names_agreement(ours, theirs):
-    """Returns how the name section of the program agrees with that of wast: the same, or the known differences. Returns `None` if it does not."""
+    """Returns how the name section of the program agrees with that of wast: the same, or the known difference. Returns `None` if it does not."""
     if ours == theirs:
         return SAME_NAMES if ours else NO_NAMES
-    ours, theirs, names = subsections(ours), subsections(theirs), []
-    for subsection, name in NOT_WRITTEN.items():
-        if subsection in dict(theirs) and subsection not in dict(ours):
-            theirs, names = [part for part in theirs if part[0] != subsection], [*names, name]
+    ours, theirs = subsections(ours), subsections(theirs)
     one, other = dict(ours).get(LOCALS), dict(theirs).get(LOCALS)
-    if None not in (one, other) and one != other and are_shifted(one, other):
-        theirs, names = [(number, one if number == LOCALS else content) for number, content in theirs], [*names, SHIFTED]
-    return " and ".join(names) if ours == theirs else None
+    if None in (one, other) or one == other or not are_shifted(one, other):
+        return None
+    theirs = [(number, one if number == LOCALS else content) for number, content in theirs]
+    return SHIFTED if ours == theirs else None
 
 
 # Changes to a text that a reference implementation does not accept as it is, by the construct that is changed.

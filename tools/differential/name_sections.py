@@ -1,7 +1,7 @@
 """The name sections of binary modules, for compare_modules.py, and their subsections."""
 from module_sections import Reader
 
-LOCALS, LABELS = 2, 3
+LOCALS = 2
 
 
 def split(data):

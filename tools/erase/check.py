@@ -102,6 +102,7 @@ WIDE = {
     ("crates/wat_floats/src/precision.rt", "sign_bit"): "it returns a u64",
     ("crates/wat_module_instructions/src/memory.rt", "number_of"): "`magnitude` returns a u64",
     ("crates/wat_module_instructions/src/reading.rt", "index_among"): "the field of `Piece::Integer` is a u64",
+    ("crates/wat_module_instructions/src/reading.rt", "number_64"): "the parameter of `integer_range` is a u64",
     ("crates/wat_module_instructions/src/vector_arguments.rt", "add_lane"): "the parameter of `integer` is a u64",
     ("crates/wat_lexer_parser/src/token/integers.rt", "parse"): "the parameter of `parse_signed` is a u64",
     ("crates/wat_c/src/numbers.rt", "half_range"): "it returns a u64",

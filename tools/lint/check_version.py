@@ -20,6 +20,7 @@ TEXTS = [
     ("rust/wat-parser/Cargo.toml", r'^wat-lex = \{ version = "=([^"]*)"'),
     ("rust/wat-tokens/Cargo.toml", r'^wat-(?:format|lex|modules|parser) = \{ version = "=([^"]*)"'),
     ("page/wat-lex/package.json", r'^  "version": "(.*)",$'),
+    ("python/pyproject.toml", r'^version = "(.*)"$'),
     ("include/wat.h", r'^#define WAT_VERSION_TEXT "(.*)"$'),
     ("docs/releasing.md", r"\bwat-(\d+\.\d+\.\d+)"),
     ("rust/wat-lex/README.md", IN_RELEASE),

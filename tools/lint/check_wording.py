@@ -79,6 +79,7 @@ KINDS = {
     "definition": ["crates/*/specs/*.antt"],
     "rust": ["*.rs"],
     "tool": ["tools/*.py", "tools/*.sh", "tools/*.c", "tools/*.js", "tools/*.mjs", ".ci/*", "Makefile", "run"],
+    "python": ["python/*.py", "python/*.toml", "examples/*.py"],
     "page": ["page/*.js", "page/*.mjs", "page/*.ts", "page/*.html", "page/*.css", "page/*.sh", "page/*.py"],
 }
 # Words that end like a verb in the third person, but are none at the head of a comment.
@@ -250,7 +251,7 @@ def repository():
 
 # A comment for each kind of file, by its suffix; for all others `//`.
 SEEDS = {suffix: comment.replace("..", "The stranger answers.") for suffix, comment in {
-    ".md": "\n..\n", ".py": "\n# ..\n", ".sh": "\n# ..\n", "": "\n# ..\n", ".antt": "\n-- ..\n", ".html": "<p>..</p>",
+    ".md": "\n..\n", ".py": "\n# ..\n", ".sh": "\n# ..\n", ".toml": "\n# ..\n", "": "\n# ..\n", ".antt": "\n-- ..\n", ".html": "<p>..</p>",
     ".h": "\n/* .. */\n", ".c": "\n/* .. */\n", ".css": "\n/* .. */\n", "//": "\n// ..\n"}.items()}
 # Lines of a source that must not be reported.
 LONG = "x" * 120

@@ -276,7 +276,7 @@ def self_test():
         Answer("unheard-of x", "nothing"),
         seeded(modules["(module (memory 1))"], "05030100", "05030101"),
         seeded(modules["(module (func nop)"], " at 18", " at 17"),
-        seeded(modules["(modul)"], "unknown keyword", "unexpected token"),
+        seeded(modules["(modul)"], "unknown module field", "unknown instruction"),
         seeded(requests["read-string"], "[195, 179]", "[195, 178]"),
         seeded(requests["register"], "register|2|", "register|3|"),
         seeded(requests["parse-end"], "parse-end|2|", "parse-end|1|"),

@@ -151,7 +151,7 @@ printf '(module)' > module.wat
 expect_module 'module, into a file' 0 '' '' module module.wat -o made
 module='\0asm\01\0\0\0\01\04\01`\0\0'
 expect_module 'types, into a file that is there' 0 '' '(module (type (func)))' types --output made
-expect_module 'module, into a file, refused' 1 "$(fault_in 'unknown keyword' '<stdin>' 10 '(module (frob))' '         ')" '(module (frob))' -o made module
+expect_module 'module, into a file, refused' 1 "$(fault_in 'unknown module field `frob`' '<stdin>' 10 '(module (frob))' '         ')" '(module (frob))' -o made module
 expect_module 'module, into a file, no such file' 2 'wat_tokens: none: open failed: no such file or directory\n' '' module none -o made
 expect_module 'module, into a file, no UTF-8' 2 'wat_tokens: bytes: input is not UTF-8 at byte 2\n' '' module -o made bytes
 expect 'module, into a file, no room' 2 '' 'wat_tokens: /dev/full: write failed: no space left on device\n' "$program" module module.wat -o /dev/full < /dev/null

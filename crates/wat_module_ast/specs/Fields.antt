@@ -1,9 +1,10 @@
 -- WebAssembly 2.0, 6.6 (text format, modules): 6.6.1 indices, 6.6.2 types, 6.6.3 type uses, 6.6.4 imports, 6.6.5
 -- functions, 6.6.6 tables, 6.6.7 memories, 6.6.8 globals, 6.6.9 exports, 6.6.10 start function, 6.6.11 element
 -- segments, 6.6.12 data segments; two conditions of 6.6.13 (modules): imports precede definitions, identifiers of an
--- index space are distinct; 6.4 (types). Each rule consumes terminals from the front of a list and leaves the rest. In
--- `Rule ts x r`, the terminals `ts`, up to the rest `r`, match the grammar of the rule and denote the value `x`. Section
--- numbers in this crate are those of WebAssembly 2.0.
+-- index space are distinct; 6.4 (types); 7.4.1 (name section): the local names of a function; extended-name-section
+-- proposal: its label names. Each rule consumes terminals from the front of a list and leaves the rest. In `Rule ts x r`,
+-- the terminals `ts`, up to the rest `r`, match the grammar of the rule and denote the value `x`. Section numbers in this
+-- crate are those of WebAssembly 2.0.
 use Rattle.std.specs.Prelude.{◌≡◌, ◌&&◌, ◌^◌, ◌+◌, ◌/◌, ℕ, Bool, true, false, List, [], ◌∷◌, ◌++◌, length, map, codes, bytes_eq, nat_lt, slice_get, Option, Some, None, if◌then◌else◌}
 use Rattle.std.specs.List.{flat_map}
 use Rattle.std.specs.Str.{is_utf8}
@@ -15,7 +16,7 @@ use Rattle.wat_module_ast.specs.declared.instruction.ReferenceType.{ReferenceTyp
 use Rattle.wat_module_ast.specs.declared.instruction.ReferenceType.TheVariants as reference
 use Rattle.wat_module_ast.specs.declared.instruction.ValueType.{ValueType}
 use Rattle.wat_module_ast.specs.Grammar.{Body, Context, Folded, label_of, position, reference_type, value_type}
-use Rattle.wat_module_ast.specs.Names.{are_distinct}
+use Rattle.wat_module_ast.specs.Names.{NameAssociation, are_distinct, associations, block_labels, inside}
 use Rattle.wat_module_tokens.specs.Terminals.{Terminal, Open, Close, Word, Id, Integer, Text, Label}
 use Rattle.wat_module_ast.specs.Types.{FunctionType, Types, TypeUse, from_to, type_use}
 use Rattle.wat_module_ast.specs.declared.fields.GlobalType.{GlobalType}
@@ -63,13 +64,27 @@ abbrev pub without_names : NamedUse → TypeUse
 without_names u = type_use u.index (function_type u.params u.results)
 
 -- 6.6.5, function: its identifier, the names of its inline exports, its type use, the
--- types of its locals, and its instructions.
+-- types of its locals, and its instructions. 7.4.1: the name map of its locals; extended-name-section proposal: that of
+-- its labels.
 pub record Function : Type 0 where
   pub name : Label
   pub exports : List (List ℕ)
   pub uses : TypeUse
   pub locals : List ValueType
   pub body : List Instruction
+  pub local_names : List NameAssociation
+  pub label_names : List NameAssociation
+
+-- 7.4.1, local names: the name map of a function's parameters and locals. Parameters come first (6.6.5). Those of a type
+-- use that has only an index are counted and have no identifier, even if the type definition gives them identifiers
+-- (6.6.3). The crate `wast` 222 does not count them.
+abbrev pub local_associations : List Variable → List Variable → List NameAssociation
+local_associations params locals = associations 0 (map name_of (params ++ locals))
+
+-- Extended-name-section proposal, label names: the name map of the labels of a function, by the tokens that begin with its
+-- instructions, which end with the `)` of the function.
+abbrev pub label_associations : List Terminal → List NameAssociation
+label_associations ts = associations 0 (block_labels [] (inside 0 ts))
 
 -- 6.6.4, import description.
 pub data ExternType : Type 0 where
@@ -414,7 +429,7 @@ pub data FieldIs (types : Types) (context : Context) : List Terminal → List Fi
   by_func : {w : List ℕ} {ts hs bs ds r : List Terminal} {names : List (List ℕ)} {u : NamedUse} {locals : List Variable} {is : List Instruction}
       → w ≡ codes "func" → Many InlineExport (label_of ts).1 names hs → TypeUseIs types hs u bs → Many (Group (codes "local") true) bs locals ds
       → are_distinct (map name_of (u.params ++ locals)) ≡ true → Body (with_locals context (u.params ++ locals)) ds is r
-      → FieldIs types context (Open ∷ Word w ∷ ts) (Func (record { name = (label_of ts).0; exports = names; uses = without_names u; locals = map type_of locals; body = is }) ∷ []) r
+      → FieldIs types context (Open ∷ Word w ∷ ts) (Func (record { name = (label_of ts).0; exports = names; uses = without_names u; locals = map type_of locals; body = is; local_names = local_associations u.params locals; label_names = label_associations ds }) ∷ []) r
   -- 6.6.6, 6.4.8: `(table id? export* limits reftype)`.
   by_table : {w v : List ℕ} {ts hs r : List Terminal} {names : List (List ℕ)} {limits : Limits} {t : ReferenceType}
       → w ≡ codes "table" → Many InlineExport (label_of ts).1 names hs → LimitsAre hs limits (Word v ∷ Close ∷ r) → reference_type v ≡ Some t

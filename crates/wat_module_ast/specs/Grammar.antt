@@ -15,6 +15,11 @@ use Rattle.wat_module_ast.specs.declared.instruction.Opcode.{Opcode}
 use Rattle.wat_module_ast.specs.declared.instruction.Opcode.TheVariants.{Byte}
 use Rattle.wat_module_ast.specs.declared.error.FaultKind.{FaultKind}
 use Rattle.wat_module_ast.specs.declared.error.FaultKind.TheVariants.{Unexpected, UnknownWord, UnknownName, WrongLabel, OutOfRange, OtherType}
+use Rattle.wat_module_ast.specs.declared.error.Expected.TheVariants as expected
+use Rattle.wat_module_ast.specs.declared.error.Range.{Range}
+use Rattle.wat_module_ast.specs.declared.error.Range.TheVariants as range
+use Rattle.wat_module_ast.specs.declared.error.Space.{Space}
+use Rattle.wat_module_ast.specs.declared.error.Space.TheVariants as space
 use Rattle.wat_module_tokens.specs.declared.token.Sign.{Sign}
 use Rattle.wat_module_tokens.specs.declared.token.Sign.TheVariants as sign
 use Rattle.wat_module_ast.specs.declared.instruction.ReferenceType.{ReferenceType}
@@ -53,22 +58,22 @@ abbrev pub position : ℕ → List ℕ → List Label → Option ℕ
 position k x [] = None
 position k x (l ∷ ls) = if is_name x l then Some k else position (suc k) x ls
 
--- The result of looking up an identifier: its index with the tokens `ts` after it, or an
+-- The result of looking up an identifier in the index space `k`: its index with the tokens `ts` after it, or an
 -- error at the tokens `all`, which begin with it.
-abbrev pub named : Option ℕ → List Terminal → List Terminal → Result (ℕ × List Terminal) Fault
-named None all ts = Err (UnknownName, all)
-named (Some n) all ts = Ok (n, ts)
+abbrev pub named : Space → Option ℕ → List Terminal → List Terminal → Result (ℕ × List Terminal) Fault
+named k None all ts = Err (UnknownName k, all)
+named k (Some n) all ts = Ok (n, ts)
 
 -- 6.3.1, `u32`: an integer below 2^32 without a sign. An error is at the tokens `all`, which begin with the integer.
 abbrev pub small : Sign → ℕ → List Terminal → List Terminal → Result (ℕ × List Terminal) Fault
-small sign.Absent n all ts = if nat_lt n (2 ^ 32) then Ok (n, ts) else Err (OutOfRange, all)
-small s n all ts = Err (Unexpected, all)
+small sign.Absent n all ts = if nat_lt n (2 ^ 32) then Ok (n, ts) else Err (OutOfRange (range.Unsigned (2 ^ 31)), all)
+small s n all ts = Err (Unexpected expected.Unsigned, all)
 
--- 6.6.1, index: a `u32`, or an identifier of one of the items `ls`.
-abbrev pub index : List Label → List Terminal → Result (ℕ × List Terminal) Fault
-index ls (Integer s n ∷ ts) = small s n (Integer s n ∷ ts) ts
-index ls (Id x ∷ ts) = named (position 0 x ls) (Id x ∷ ts) ts
-index ls ts = Err (Unexpected, ts)
+-- 6.6.1, index: a `u32`, or an identifier of one of the items `ls` of the index space `k`.
+abbrev pub index : Space → List Label → List Terminal → Result (ℕ × List Terminal) Fault
+index k ls (Integer s n ∷ ts) = small s n (Integer s n ∷ ts) ts
+index k ls (Id x ∷ ts) = named k (position 0 x ls) (Id x ∷ ts) ts
+index k ls ts = Err (Unexpected (expected.Index k), ts)
 
 abbrev pub with_index : Result (ℕ × List Terminal) Fault → Result (Argument × List Terminal) Fault
 with_index (Ok (n, ts)) = Ok (argument.Index n, ts)
@@ -94,45 +99,52 @@ signed_by half n = if nat_lt n half then pos n else pos n -ℤ pos (half * 2)
 abbrev pub signed : ℕ → Sign → ℕ → Option ℤ
 signed half s n = option_map (signed_by half) (integer_bits half s n)
 
-abbrev pub i32_by : Option ℤ → List Terminal → List Terminal → Result (Argument × List Terminal) Fault
-i32_by (Some n) all ts = Ok (argument.I32 n, ts)
-i32_by None all ts = Err (OutOfRange, all)
+-- 6.3.1, `iN`: the range of an integer with this sign, where `half` is 2^(N-1): that of `sN` if it has a sign,
+-- otherwise that of `uN`.
+abbrev pub integer_range : ℕ → Sign → Range
+integer_range half sign.Absent = range.Unsigned half
+integer_range half sign.Plus = range.Signed half
+integer_range half sign.Minus = range.Signed half
 
-abbrev pub i64_by : Option ℤ → List Terminal → List Terminal → Result (Argument × List Terminal) Fault
-i64_by (Some n) all ts = Ok (argument.I64 n, ts)
-i64_by None all ts = Err (OutOfRange, all)
+abbrev pub i32_by : Sign → Option ℤ → List Terminal → List Terminal → Result (Argument × List Terminal) Fault
+i32_by s (Some n) all ts = Ok (argument.I32 n, ts)
+i32_by s None all ts = Err (OutOfRange (integer_range (2 ^ 31) s), all)
+
+abbrev pub i64_by : Sign → Option ℤ → List Terminal → List Terminal → Result (Argument × List Terminal) Fault
+i64_by s (Some n) all ts = Ok (argument.I64 n, ts)
+i64_by s None all ts = Err (OutOfRange (integer_range (2 ^ 63) s), all)
 
 -- 6.3.1, `i32`, as an immediate.
 abbrev pub i32 : List Terminal → Result (Argument × List Terminal) Fault
-i32 (Integer s n ∷ ts) = i32_by (signed (2 ^ 31) s n) (Integer s n ∷ ts) ts
-i32 ts = Err (Unexpected, ts)
+i32 (Integer s n ∷ ts) = i32_by s (signed (2 ^ 31) s n) (Integer s n ∷ ts) ts
+i32 ts = Err (Unexpected expected.Integer, ts)
 
 -- 6.3.1, `i64`, as an immediate.
 abbrev pub i64 : List Terminal → Result (Argument × List Terminal) Fault
-i64 (Integer s n ∷ ts) = i64_by (signed (2 ^ 63) s n) (Integer s n ∷ ts) ts
-i64 ts = Err (Unexpected, ts)
+i64 (Integer s n ∷ ts) = i64_by s (signed (2 ^ 63) s n) (Integer s n ∷ ts) ts
+i64 ts = Err (Unexpected expected.Integer, ts)
 
 -- Returns `true` if the sign is `-`.
 abbrev pub is_minus : Sign → Bool
 is_minus sign.Minus = true
 is_minus s = false
 
--- The bits with the tokens `ts` after them, or an error at the tokens `all` if the value is out of range.
-abbrev pub bits_by : Option ℕ → List Terminal → List Terminal → Result (ℕ × List Terminal) Fault
-bits_by (Some bits) all ts = Ok (bits, ts)
-bits_by None all ts = Err (OutOfRange, all)
+-- The bits with the tokens `ts` after them, or an error at the tokens `all` if the value is not in the range `of`.
+abbrev pub bits_by : Range → Option ℕ → List Terminal → List Terminal → Result (ℕ × List Terminal) Fault
+bits_by of (Some bits) all ts = Ok (bits, ts)
+bits_by of None all ts = Err (OutOfRange of, all)
 
 -- 6.3.2, `f32`: a float, or an integer read as a float, by its bits.
 abbrev pub f32 : List Terminal → Result (ℕ × List Terminal) Fault
-f32 (Integer s n ∷ ts) = bits_by (of_integer binary32 (is_minus s) n) (Integer s n ∷ ts) ts
-f32 (Float narrow wide ∷ ts) = bits_by narrow (Float narrow wide ∷ ts) ts
-f32 ts = Err (Unexpected, ts)
+f32 (Integer s n ∷ ts) = bits_by range.Float32 (of_integer binary32 (is_minus s) n) (Integer s n ∷ ts) ts
+f32 (Float narrow wide ∷ ts) = bits_by range.Float32 narrow (Float narrow wide ∷ ts) ts
+f32 ts = Err (Unexpected expected.Number, ts)
 
 -- 6.3.2, `f64`: a float, or an integer read as a float, by its bits.
 abbrev pub f64 : List Terminal → Result (ℕ × List Terminal) Fault
-f64 (Integer s n ∷ ts) = bits_by (of_integer binary64 (is_minus s) n) (Integer s n ∷ ts) ts
-f64 (Float narrow wide ∷ ts) = bits_by wide (Float narrow wide ∷ ts) ts
-f64 ts = Err (Unexpected, ts)
+f64 (Integer s n ∷ ts) = bits_by range.Float64 (of_integer binary64 (is_minus s) n) (Integer s n ∷ ts) ts
+f64 (Float narrow wide ∷ ts) = bits_by range.Float64 wide (Float narrow wide ∷ ts) ts
+f64 ts = Err (Unexpected expected.Number, ts)
 
 abbrev pub with_f32 : Result (ℕ × List Terminal) Fault → Result (Argument × List Terminal) Fault
 with_f32 (Ok (bits, ts)) = Ok (argument.F32 bits, ts)
@@ -163,8 +175,8 @@ memory_of natural ts = (argument.Memory (align_of natural (offset_of ts).1).0 (o
 
 -- 6.5.9, `laneidx`: a `u8`, which is an unsigned integer of 8 bits.
 abbrev pub lane_index : List Terminal → Result (ℕ × List Terminal) Fault
-lane_index (Integer sign.Absent n ∷ ts) = if nat_lt n (2 ^ 8) then Ok (n, ts) else Err (OutOfRange, Integer sign.Absent n ∷ ts)
-lane_index ts = Err (Unexpected, ts)
+lane_index (Integer sign.Absent n ∷ ts) = if nat_lt n (2 ^ 8) then Ok (n, ts) else Err (OutOfRange (range.Unsigned (2 ^ 7)), Integer sign.Absent n ∷ ts)
+lane_index ts = Err (Unexpected expected.LaneIndex, ts)
 
 abbrev pub with_lane : Result (ℕ × List Terminal) Fault → Result (Argument × List Terminal) Fault
 with_lane (Ok (n, ts)) = Ok (argument.Lane n, ts)
@@ -203,8 +215,8 @@ shuffle ts = with_bytes (lane_indices 16 ts)
 
 -- 6.3.1, `iN`: its bits as an unsigned integer, where `half` is 2^(N-1).
 abbrev pub integer : ℕ → List Terminal → Result (ℕ × List Terminal) Fault
-integer half (Integer s n ∷ ts) = bits_by (integer_bits half s n) (Integer s n ∷ ts) ts
-integer half ts = Err (Unexpected, ts)
+integer half (Integer s n ∷ ts) = bits_by (integer_range half s) (integer_bits half s n) (Integer s n ∷ ts) ts
+integer half ts = Err (Unexpected expected.Integer, ts)
 
 -- 6.5.9: the kind of a vector's lanes: integers (6.3.1) or floats (6.3.2), by their bits.
 abbrev pub Lane : Type 0
@@ -260,13 +272,13 @@ shape w =
     if bytes_eq w (codes "i8x16") then Some lane.I8 else if bytes_eq w (codes "i16x8") then Some lane.I16 else if bytes_eq w (codes "i32x4") then Some lane.I32 else if bytes_eq w (codes "i64x2") then Some lane.I64 else if bytes_eq w (codes "f32x4") then Some lane.F32 else if bytes_eq w (codes "f64x2") then Some lane.F64 else None
 
 abbrev pub constant_by : Option Lane → List Terminal → List Terminal → Result (Argument × List Terminal) Fault
-constant_by None all ts = Err (UnknownWord, all)
+constant_by None all ts = Err (UnknownWord expected.Shape, all)
 constant_by (Some k) all ts = vector_of k ts
 
 -- 6.5.9, `v128.const`: a shape, and its lanes.
 abbrev pub constant : List Terminal → Result (Argument × List Terminal) Fault
 constant (Word w ∷ ts) = constant_by (shape w) (Word w ∷ ts) ts
-constant ts = Err (Unexpected, ts)
+constant ts = Err (Unexpected expected.Shape, ts)
 
 -- 6.5.2, `br_table`: one or more labels, of which the last is the default.
 
@@ -283,7 +295,7 @@ and_labels n (Err f) others = Err f
 -- The labels that begin with `n`, which was already parsed; `n` is the default if no label follows.
 unfoldable pub labels_from : List Label → ℕ → List Terminal → Result (Branches × List Terminal) Fault
 labels_from ls n (Integer s m ∷ ts) = and_labels n (small s m (Integer s m ∷ ts) ts) (λ k. labels_from ls k ts)
-labels_from ls n (Id x ∷ ts) = and_labels n (named (position 0 x ls) (Id x ∷ ts) ts) (λ k. labels_from ls k ts)
+labels_from ls n (Id x ∷ ts) = and_labels n (named space.Label (position 0 x ls) (Id x ∷ ts) ts) (λ k. labels_from ls k ts)
 labels_from ls n ts = Ok (branches [] n, ts)
 
 abbrev pub with_labels : Result (Branches × List Terminal) Fault → Result (Argument × List Terminal) Fault
@@ -311,7 +323,7 @@ before_type t (Ok (us, ts)) = Ok (t ∷ us, ts)
 before_type t (Err f) = Err f
 
 abbrev pub before_types : Option ValueType → List Terminal → Result (List ValueType × List Terminal) Fault → Result (List ValueType × List Terminal) Fault
-before_types None all q = Err (UnknownWord, all)
+before_types None all q = Err (UnknownWord expected.ValueType, all)
 before_types (Some t) all q = before_type t q
 
 -- `listed word inside ts`: the types in all groups `(word valtype*)` at the front of `ts`. If `inside` is true, `ts`
@@ -321,7 +333,7 @@ listed word false (Open ∷ Word w ∷ ts) = if bytes_eq w word then listed word
 listed word false ts = Ok ([], ts)
 listed word true (Word w ∷ ts) = before_types (value_type w) (Word w ∷ ts) (listed word true ts)
 listed word true (Close ∷ ts) = listed word false ts
-listed word true ts = Err (Unexpected, ts)
+listed word true ts = Err (Unexpected expected.ValueTypeOrClose, ts)
 
 abbrev pub with_results : List ValueType → Result (List ValueType × List Terminal) Fault → Result (FunctionType × List Terminal) Fault
 with_results ps (Ok (rs, ts)) = Ok (from_to ps rs, ts)
@@ -355,7 +367,7 @@ agreed i t all (Ok (u, ts)) = if list_nothing u.params u.results || same_type u 
 agreed i t all (Err f) = Err f
 
 abbrev pub indexed_by : ℕ → Option FunctionType → List Terminal → List Terminal → Result (TypeUse × List Terminal) Fault
-indexed_by i None all ts = Err (UnknownName, all)
+indexed_by i None all ts = Err (UnknownName space.Type, all)
 indexed_by i (Some t) all ts = agreed i t all (lists_of ts)
 
 -- A type use with an index, read before the types are known: its index is 0, regardless of
@@ -366,7 +378,7 @@ assumed (Err f) = Err f
 
 abbrev pub closed_index : Types → ℕ → List Terminal → List Terminal → Result (TypeUse × List Terminal) Fault
 closed_index types i all (Close ∷ ts) = if types.are_known then indexed_by i (slice_get types.types i) all ts else assumed (lists_of ts)
-closed_index types i all ts = Err (Unexpected, ts)
+closed_index types i all ts = Err (Unexpected expected.Close, ts)
 
 -- A type use after `(type`, by the result of its index; the tokens `all` begin with the index.
 abbrev pub indexed_use : Types → List Terminal → Result (ℕ × List Terminal) Fault → Result (TypeUse × List Terminal) Fault
@@ -385,7 +397,7 @@ after word ts = None
 
 abbrev pub use_by : Types → Option (List Terminal) → List Terminal → Result (TypeUse × List Terminal) Fault
 use_by types None all = listed_use (lists_of all)
-use_by types (Some ts) all = indexed_use types ts (index types.names ts)
+use_by types (Some ts) all = indexed_use types ts (index space.Type types.names ts)
 
 -- 6.6.3, `typeuse`, without identifiers of parameters.
 unfoldable pub use_of : Types → List Terminal → Result (TypeUse × List Terminal) Fault
@@ -394,7 +406,7 @@ use_of types ts = use_by types (after (codes "type") ts) ts
 -- 6.5.2, 6.5.6: the table of `call_indirect` or of a table instruction: an index, or nothing, which is 0.
 abbrev pub table_of : List Label → List Terminal → Result (ℕ × List Terminal) Fault
 table_of ls (Integer s n ∷ ts) = small s n (Integer s n ∷ ts) ts
-table_of ls (Id x ∷ ts) = named (position 0 x ls) (Id x ∷ ts) ts
+table_of ls (Id x ∷ ts) = named space.Table (position 0 x ls) (Id x ∷ ts) ts
 table_of ls ts = Ok (0, ts)
 
 abbrev pub with_use : ℕ → Result (TypeUse × List Terminal) Fault → Result (Argument × List Terminal) Fault
@@ -411,13 +423,13 @@ abbrev pub heap_type : List ℕ → Option ReferenceType
 heap_type w = if bytes_eq w (codes "func") then Some reference.Func else if bytes_eq w (codes "extern") then Some reference.Extern else None
 
 abbrev pub heap_by : Option ReferenceType → List Terminal → List Terminal → Result (Argument × List Terminal) Fault
-heap_by None all ts = Err (UnknownWord, all)
+heap_by None all ts = Err (UnknownWord expected.HeapType, all)
 heap_by (Some t) all ts = Ok (argument.HeapType t, ts)
 
 -- 6.5.3, `ref.null`: its heap type.
 abbrev pub heap_of : List Terminal → Result (Argument × List Terminal) Fault
 heap_of (Word w ∷ ts) = heap_by (heap_type w) (Word w ∷ ts) ts
-heap_of ts = Err (Unexpected, ts)
+heap_of ts = Err (Unexpected expected.HeapType, ts)
 
 abbrev pub with_types : Result (List ValueType × List Terminal) Fault → Result (Argument × List Terminal) Fault
 with_types (Ok (us, ts)) = Ok (argument.Select us, ts)
@@ -452,16 +464,16 @@ with_source n (Ok (m, ts)) = Ok (argument.Pair (n, m), ts)
 with_source n (Err f) = Err f
 
 abbrev pub copy_by : List Label → Result (ℕ × List Terminal) Fault → Result (Argument × List Terminal) Fault
-copy_by ls (Ok (n, ts)) = with_source n (index ls ts)
+copy_by ls (Ok (n, ts)) = with_source n (index space.Table ls ts)
 copy_by ls (Err f) = Err f
 
 -- 6.5.6, `table.copy`: the indices of two tables, the destination first; or nothing, which is 0 for both.
 abbrev pub copy_of : List Label → List Terminal → Result (Argument × List Terminal) Fault
-copy_of ls ts = if is_index ts then copy_by ls (index ls ts) else Ok (argument.Pair (0, 0), ts)
+copy_of ls ts = if is_index ts then copy_by ls (index space.Table ls ts) else Ok (argument.Pair (0, 0), ts)
 
 -- 6.5.6, `table.init`: the index of the table, which is 0 if there is only one index.
 abbrev pub init_table : List Label → List Terminal → Result (ℕ × List Terminal) Fault
-init_table ls ts = if are_indices ts then index ls ts else Ok (0, ts)
+init_table ls ts = if are_indices ts then index space.Table ls ts else Ok (0, ts)
 
 -- 5.4.5, `table.init`: the index of the element segment, which precedes that of the table, `n`, in the binary format.
 abbrev pub with_elements : ℕ → Result (ℕ × List Terminal) Fault → Result (Argument × List Terminal) Fault
@@ -469,18 +481,18 @@ with_elements n (Ok (m, ts)) = Ok (argument.Pair (m, n), ts)
 with_elements n (Err f) = Err f
 
 abbrev pub init_by : List Label → Result (ℕ × List Terminal) Fault → Result (Argument × List Terminal) Fault
-init_by elems (Ok (n, ts)) = with_elements n (index elems ts)
+init_by elems (Ok (n, ts)) = with_elements n (index space.Elem elems ts)
 init_by elems (Err f) = Err f
 
 -- The immediate of a kind, in a context, with the labels `ls` bound, the innermost first.
 abbrev pub immediate_of : Context → List Label → Immediate → List Terminal → Result (Argument × List Terminal) Fault
 immediate_of context ls immediate.No ts = Ok (argument.Nothing, ts)
-immediate_of context ls immediate.Local ts = with_index (index context.locals ts)
-immediate_of context ls immediate.Label ts = with_index (index ls ts)
-immediate_of context ls immediate.Labels ts = labels_by ls (index ls ts)
+immediate_of context ls immediate.Local ts = with_index (index space.Local context.locals ts)
+immediate_of context ls immediate.Label ts = with_index (index space.Label ls ts)
+immediate_of context ls immediate.Labels ts = labels_by ls (index space.Label ls ts)
 immediate_of context ls immediate.Indirect ts = indirect_by context.types (table_of context.tables ts)
-immediate_of context ls immediate.Func ts = with_index (index context.funcs ts)
-immediate_of context ls immediate.Global ts = with_index (index context.globals ts)
+immediate_of context ls immediate.Func ts = with_index (index space.Func context.funcs ts)
+immediate_of context ls immediate.Global ts = with_index (index space.Global context.globals ts)
 immediate_of context ls immediate.I32 ts = i32 ts
 immediate_of context ls immediate.I64 ts = i64 ts
 immediate_of context ls immediate.F32 ts = with_f32 (f32 ts)
@@ -490,9 +502,9 @@ immediate_of context ls immediate.Zero ts = Ok (argument.Zero, ts)
 immediate_of context ls immediate.HeapType ts = heap_of ts
 immediate_of context ls immediate.Select ts = select_by (after (codes "result") ts) ts
 immediate_of context ls immediate.Zeros ts = Ok (argument.Zeros, ts)
-immediate_of context ls immediate.Data ts = with_index (index context.datas ts)
-immediate_of context ls immediate.MemoryInit ts = with_zero (index context.datas ts)
-immediate_of context ls immediate.Elem ts = with_index (index context.elems ts)
+immediate_of context ls immediate.Data ts = with_index (index space.Data context.datas ts)
+immediate_of context ls immediate.MemoryInit ts = with_zero (index space.Data context.datas ts)
+immediate_of context ls immediate.Elem ts = with_index (index space.Elem context.elems ts)
 immediate_of context ls immediate.Table ts = with_index (table_of context.tables ts)
 immediate_of context ls immediate.TableCopy ts = copy_of context.tables ts
 immediate_of context ls immediate.TableInit ts = init_by context.elems (init_table context.tables ts)
@@ -515,13 +527,13 @@ with_opcode o (Ok (a, ts)) = Ok (record { opcode = opcode_of o a; argument = a }
 with_opcode o (Err f) = Err f
 
 abbrev pub plain_by : Context → List Label → Option Mnemonic → List Terminal → List Terminal → Result (Instruction × List Terminal) Fault
-plain_by context ls None all ts = Err (UnknownWord, all)
+plain_by context ls None all ts = Err (UnknownWord expected.Instruction, all)
 plain_by context ls (Some m) all ts = with_opcode m.opcode (immediate_of context ls m.immediate ts)
 
 -- 6.5, `plaininstr`: the instruction whose keyword is the first token, with its immediate, and the tokens after it.
 unfoldable pub plain : Context → List Label → List Terminal → Result (Instruction × List Terminal) Fault
 plain context ls (Word w ∷ ts) = plain_by context ls (found w mnemonics) (Word w ∷ ts) ts
-plain context ls ts = Err (Unexpected, ts)
+plain context ls ts = Err (Unexpected expected.Instruction, ts)
 
 -- 6.5.1, label: an identifier, or nothing.
 abbrev pub label_of : List Terminal → Label × List Terminal

@@ -8,6 +8,7 @@ use Rattle.wat_module_ast.specs.declared.fields.ExternType as declared_extern
 use Rattle.wat_module_ast.specs.declared.fields.ExternType.TheVariants as externs
 use Rattle.wat_module_ast.specs.declared.fields.Function as declared_function
 use Rattle.wat_module_ast.specs.declared.fields.Locals as declared_locals
+use Rattle.wat_module_ast.specs.declared.fields.NameAssociation as declared_association
 use Rattle.wat_module_ast.specs.declared.fields.Field as declared_field
 use Rattle.wat_module_ast.specs.declared.fields.Field.TheVariants as fields
 use Rattle.wat_module_ast.specs.declared.fields.Target as declared_target
@@ -20,6 +21,7 @@ use Rattle.wat_module_ast.specs.declared.instruction.ValueType.{ValueType}
 use Rattle.std.specs.List.{flat_map}
 use Rattle.wat_module_ast.specs.Fields.{ExternType, FuncType, OfTable, OfMemory, OfGlobal, Field, TypeField, Import, Func, Table, Memory, Global, Start, Definition, Function, definition, Data, Elem, ElemMode, Passive, Active, Declarative, Elements, Target, ref_func, target}
 use Rattle.wat_module_ast.specs.Fields as field
+use Rattle.wat_module_ast.specs.Names.{NameAssociation, association}
 
 -- The bytes of a string.
 abbrev pub text_of : Bor (List ℕ) → List ℕ
@@ -33,6 +35,10 @@ together strings = flat_map text_of strings
 abbrev pub local_types : declared_locals.Locals → List ValueType
 local_types l = replicate l.count l.of
 
+-- 7.4.1, `nameassoc`: an entry of a name map of the code.
+abbrev pub association_of : declared_association.NameAssociation → NameAssociation
+association_of a = association a.index a.name.now
+
 -- A function of the code.
 abbrev pub function_of : declared_function.Function → Function
 function_of f = record {
@@ -41,6 +47,8 @@ function_of f = record {
   uses = use_of f.uses;
   locals = flat_map local_types f.locals.items;
   body = f.body.items;
+  local_names = map association_of f.local_names.items;
+  label_names = map association_of f.label_names.items;
 }
 
 -- A type definition of the code.

@@ -13,6 +13,8 @@ use Rattle.wat_module_encoder.specs.declared.data.DataTarget.TheVariants as plac
 use Rattle.wat_module_encoder.specs.declared.elements.ElementSegment as declared_elements
 use Rattle.wat_module_encoder.specs.declared.elements.ElementTarget.{ElementTarget}
 use Rattle.wat_module_encoder.specs.declared.elements.ElementTarget.TheVariants as elem_places
+use Rattle.wat_module_encoder.specs.declared.names.FunctionNames.{FunctionNames}
+use Rattle.wat_module_encoder.specs.declared.names.FunctionNames.TheVariants as within
 use Rattle.wat_module_encoder.specs.declared.names.NameSpace.{NameSpace}
 use Rattle.wat_module_encoder.specs.declared.names.NameSpace.TheVariants as names
 use Rattle.wat_lex.specs.binary.Leb128.{unsigned_leb128}
@@ -21,6 +23,8 @@ use Rattle.wat_module_tokens.specs.Terminals.{Label}
 use Rattle.wat_module_encoder.specs.Binary.{mode_bytes, Export, ImportEntry, Run, export, next_index, run, section, ElementSegment, element_segment, DataSegment, at_zero, data_segment}
 use Rattle.wat_module_ast.specs.Fields.{Field, TypeField, Import, Func, Table, Memory, Global, Start, extern_space, Data, Elem, ElemMode, Passive, Active, Declarative, Target, target, binding_of, bindings_of, definition_name, definition_of, definitions_of, elem_of, elems_of, data_of, datas_of, names_in}
 use Rattle.wat_module_ast.specs.Fields as field
+use Rattle.wat_module_ast.specs.Names.{NameAssociation}
+use Rattle.wat_module_encoder.specs.NameSection.{label_map, local_map, maps_of}
 use Rattle.wat_module_ast.specs.Views.{extern_of, expressions_of, together}
 
 -- An import of the code.
@@ -183,3 +187,8 @@ labels_of (names.Items s) fs = names_in s (bindings_of fs)
 labels_of names.Types fs = map definition_name (definitions_of fs)
 labels_of names.Elements fs = elems_of fs
 labels_of names.Data fs = datas_of fs
+
+-- The name map of the locals or of the labels of the function that a field defines or imports, if it is one.
+abbrev pub maps_in : FunctionNames → Field → List (List NameAssociation)
+maps_in within.Locals f = maps_of local_map f
+maps_in within.Labels f = maps_of label_map f

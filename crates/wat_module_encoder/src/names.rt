@@ -1,15 +1,18 @@
-//! Encodes the name section: the identifiers of the items of a module, by their indices.
-ghost use Rattle.std.specs.Prelude.{◌≡◌, ◌∷◌, ◌++◌, [], map, MatchOption, OnOk};
+//! Encodes the name section: the identifiers of the items of a module, and of the parameters,
+//! locals and labels of its functions, by their indices.
+ghost use Rattle.std.specs.Prelude.{◌≡◌, ◌≤◌, ◌∷◌, ◌++◌, [], length, map, IfOk, MatchOption, OnOk};
 ghost use Rattle.wat_module_ast.specs.Fields as grammar;
-ghost use Rattle.wat_module_ast.specs.Views.{field_of, fields_of};
+ghost use Rattle.std.specs.List.{flat_map};
+ghost use Rattle.wat_lex.specs.binary.Encoding.{list_encoding};
+ghost use Rattle.wat_module_ast.specs.Views.{association_of, field_of, fields_of};
 ghost use Rattle.wat_module_tokens.specs.Terminals.{label};
 ghost use Rattle.wat_module_encoder.specs.NameSection as section;
-ghost use Rattle.wat_module_encoder.specs.Views.{labels_in, labels_of};
+ghost use Rattle.wat_module_encoder.specs.Views.{labels_in, labels_of, maps_in};
 
 use crate::bytes::{put, put_section, put_sized};
 use crate::indices::extern_space;
 use std::alloc::{AllocError, Global};
-use wat_module_ast::fields::{Field, IndexSpace};
+use wat_module_ast::fields::{ExternType, Field, IndexSpace, NameAssociation};
 use wat_module_tokens::token::Name;
 
 /// An index space whose items the name section names.
@@ -159,6 +162,115 @@ fn put_map(
     put_section(alloc, out, number, count, &items)
 }
 
+/// The names inside functions that the name section has.
+#[derive(Clone, Copy)]
+pub(crate) enum FunctionNames {
+    /// Those of parameters and locals.
+    Locals,
+    /// Those of labels.
+    Labels,
+}
+
+/// Returns an empty name map.
+fn no_names<'s, 'p>() -> &'s [NameAssociation<'p>]
+    ensures { result.now ≡ [] }
+{
+    &[]
+}
+
+/// Returns the name map of the function that a field defines, empty if the field imports one, or
+/// `None` if the field does neither.
+fn names_within<'s, 'p>(
+    which: FunctionNames,
+    field: &'s Field<'p>,
+) -> Option<&'s [NameAssociation<'p>]>
+    ensures { MatchOption result
+        (maps_in which (field_of field.now) ≡ [])
+        (λ m. maps_in which (field_of field.now) ≡ map association_of m.now ∷ []) }
+{
+    match field {
+        Field::Func(function) => match which {
+            FunctionNames::Locals => Some(&function.local_names),
+            FunctionNames::Labels => Some(&function.label_names),
+        },
+        Field::Import(import) => match &import.what {
+            ExternType::Func(_) => Some(no_names()),
+            ExternType::Table(_) | ExternType::Memory(_) | ExternType::Global(_) => None,
+        },
+        Field::Type(_)
+        | Field::Table(_)
+        | Field::Memory(_)
+        | Field::Global(_)
+        | Field::Export(_)
+        | Field::Start(_)
+        | Field::Data(_)
+        | Field::Elem(_) => None,
+    }
+}
+
+/// Appends a name map: the number of its entries, and the index and name of each.
+fn put_associations(out: &mut Vec<u8>, names: &[NameAssociation<'_>]) -> Result<(), AllocError>
+    ensures { OnOk result (out.new.items ≡
+        out.old.items ++ list_encoding section.association_bytes (map association_of names.now)) }
+{
+    put(out, names.len())?;
+    for association in names {
+        put(out, association.index)?;
+        put_sized(out, association.name.as_bytes())?;
+    }
+    Ok(())
+}
+
+/// Appends the index of a function and its name map, if the name map is not empty. Returns the
+/// number of name maps appended.
+#[tactic(auto, using(crate::proofs::NameLaws::empty_map, crate::proofs::NameLaws::full_map))]
+fn put_function_names(
+    items: &mut Vec<u8>,
+    function: usize,
+    names: &[NameAssociation<'_>],
+) -> Result<usize, AllocError>
+    ensures items { IfOk result (λ _. items.new.items ≡
+        items.old.items ++
+        flat_map section.indirect_bytes
+        (section.indirect_associations function (map association_of names.now ∷ []))) }
+    ensures count { IfOk result (λ count. count ≡
+        length (section.indirect_associations function (map association_of names.now ∷ []))) }
+    ensures small { IfOk result (λ count. count ≤ 1) }
+{
+    if names.is_empty() {
+        return Ok(0);
+    }
+    put(items, function)?;
+    put_associations(items, names)?;
+    Ok(1)
+}
+
+/// Appends a subsection with names inside functions: its id `number`, its size, and the index and
+/// the name map of each function whose name map is not empty. Appends nothing if all are empty.
+#[tactic(auto, using(crate::proofs::NameLaws::map_step, crate::proofs::NameLaws::count_step))]
+fn put_indirect_map(
+    alloc: Global,
+    out: &mut Vec<u8>,
+    number: u8,
+    which: FunctionNames,
+    fields: &[Field<'_>],
+) -> Result<(), AllocError>
+    ensures { OnOk result (out.new.items ≡
+        out.old.items ++
+        section.indirect_subsection number (flat_map (maps_in which) (fields_of fields.now))) }
+{
+    let mut items = Vec::new(alloc);
+    let mut count = 0;
+    let mut function = 0;
+    for field in fields {
+        if let Some(names) = names_within(which, field) {
+            count += put_function_names(&mut items, function, names)?;
+            function += 1;
+        }
+    }
+    put_section(alloc, out, number, count, &items)
+}
+
 /// Appends the subsection with the identifier of the module, if it has one.
 fn put_module_name(alloc: Global, out: &mut Vec<u8>, name: Name<'_>) -> Result<(), AllocError>
     ensures { OnOk result (out.new.items ≡
@@ -200,6 +312,8 @@ fn put_data(
 {
     put_module_name(alloc, out, name)?;
     put_map(alloc, out, 1, NameSpace::Items(IndexSpace::Func), fields)?;
+    put_indirect_map(alloc, out, 2, FunctionNames::Locals, fields)?;
+    put_indirect_map(alloc, out, 3, FunctionNames::Labels, fields)?;
     put_extended(alloc, out, fields)
 }
 

@@ -6,6 +6,7 @@ use Rattle.wat_module_ast.specs.declared.instruction.Argument.{Argument}
 use Rattle.wat_module_ast.specs.declared.instruction.Argument.TheVariants as argument
 use Rattle.wat_module_ast.specs.declared.instruction.Instruction.{Instruction}
 use Rattle.wat_module_ast.specs.declared.instruction.Opcode.{Opcode}
+use Rattle.wat_module_ast.specs.declared.error.Space.TheVariants as space
 use Rattle.wat_module_ast.specs.declared.error.FaultKind.TheVariants.{OtherType}
 use Rattle.wat_module_ast.specs.declared.table.Immediate.{Immediate}
 use Rattle.wat_module_ast.specs.declared.table.Immediate.TheVariants as immediate
@@ -89,7 +90,7 @@ indexed_use_more types more all (Err f) = tt
 
 use_by_more : (types : Types) (more : List FunctionType) (o : Option (List Terminal)) (all : List Terminal) → Follows (LikeUse true) (grammar.use_by types o all) (grammar.use_by (with_more_types more types) o all)
 use_by_more types more None all = follows (LikeUse true) (same_use true) (grammar.listed_use (grammar.lists_of all))
-use_by_more types more (Some ts) all = indexed_use_more types more ts (grammar.index types.names ts)
+use_by_more types more (Some ts) all = indexed_use_more types more ts (grammar.index space.Type types.names ts)
 
 uses_more : (types : Types) (more : List FunctionType) → LikeTypes true types (with_more_types more types)
 unfolding grammar.use_of
@@ -130,7 +131,7 @@ indexed_use_unknown types all (Err f) = tt
 
 use_by_unknown : (types : Types) (o : Option (List Terminal)) (all : List Terminal) → Follows (LikeUse false) (grammar.use_by types o all) (grammar.use_by (unknown types) o all)
 use_by_unknown types None all = follows (LikeUse false) (same_use false) (grammar.listed_use (grammar.lists_of all))
-use_by_unknown types (Some ts) all = indexed_use_unknown types ts (grammar.index types.names ts)
+use_by_unknown types (Some ts) all = indexed_use_unknown types ts (grammar.index space.Type types.names ts)
 
 uses_unknown : (types : Types) → LikeTypes false types (unknown types)
 unfolding grammar.use_of
@@ -156,11 +157,11 @@ indirect_alike : (same : Bool) (types others : Types) → LikeTypes same types o
 indirect_alike same types others h (Ok (n, ts)) = with_use_alike same n (grammar.use_of types ts) (grammar.use_of others ts) (h ts)
 indirect_alike same types others h (Err f) = tt
 
-named_alike : (same : Bool) (ls ms : List Label) → LikeNames same ls ms → (x : List ℕ) (all ts : List Terminal) (o : Option ℕ) → position 0 x ls ≡ o → Follows (LikeArgument same) (grammar.with_index (grammar.named o all ts)) (grammar.with_index (grammar.named (position 0 x ms) all ts))
-named_alike same ls ms h x all ts (Some n) e = let m = h x n e in (argument.Index m.0, ap (λ p. grammar.with_index (grammar.named p all ts)) m.1, (λ k. ap argument.Index (m.2 k), refl))
+named_alike : (same : Bool) (ls ms : List Label) → LikeNames same ls ms → (x : List ℕ) (all ts : List Terminal) (o : Option ℕ) → position 0 x ls ≡ o → Follows (LikeArgument same) (grammar.with_index (grammar.named space.Local o all ts)) (grammar.with_index (grammar.named space.Local (position 0 x ms) all ts))
+named_alike same ls ms h x all ts (Some n) e = let m = h x n e in (argument.Index m.0, ap (λ p. grammar.with_index (grammar.named space.Local p all ts)) m.1, (λ k. ap argument.Index (m.2 k), refl))
 named_alike same ls ms h x all ts None e = tt
 
-local_alike : (same : Bool) (ls ms : List Label) → LikeNames same ls ms → (ts : List Terminal) → Follows (LikeArgument same) (grammar.with_index (grammar.index ls ts)) (grammar.with_index (grammar.index ms ts))
+local_alike : (same : Bool) (ls ms : List Label) → LikeNames same ls ms → (ts : List Terminal) → Follows (LikeArgument same) (grammar.with_index (grammar.index space.Local ls ts)) (grammar.with_index (grammar.index space.Local ms ts))
 local_alike same ls ms h (Id x ∷ ts) = named_alike same ls ms h x (Id x ∷ ts) ts (position 0 x ls) refl
 local_alike same ls ms h (Integer s n ∷ ts) = follows (LikeArgument same) (same_argument same) (grammar.with_index (grammar.small s n (Integer s n ∷ ts) ts))
 local_alike same ls ms h [] = tt

@@ -65,7 +65,7 @@ repeated y (None ∷ ls) rest h = repeated y ls rest h
 repeated y (Some x ∷ ls) rest h = repeated_after (bytes_eq x y) (has_name y ls) (has_name x (ls ++ Some y ∷ rest)) (are_distinct (ls ++ Some y ∷ rest)) (there x y ls rest) (repeated y ls rest) h
 
 -- an item without a name
-unnamed_more : (ls : List Label) → are_distinct (ls ++ None ∷ []) ≡ are_distinct ls
+pub unnamed_more : (ls : List Label) → are_distinct (ls ++ None ∷ []) ≡ are_distinct ls
 unnamed_more [] = refl
 unnamed_more (None ∷ ls) = unnamed_more ls
 unnamed_more (Some x ∷ ls) = ap (λ (b : Bool). if b then false else are_distinct (ls ++ None ∷ [])) (has_either x ls (None ∷ []) ∙ or_false (has_name x ls)) ∙ ap (λ (d : Bool). if has_name x ls then false else d) (unnamed_more ls)
@@ -78,7 +78,7 @@ named_after x y ls false false e f g d h =
     ∙ g h d
 
 -- a name that is not there
-named_more : (y : List ℕ) (ls : List Label) → has_name y ls ≡ false → are_distinct ls ≡ true → are_distinct (ls ++ Some y ∷ []) ≡ true
+pub named_more : (y : List ℕ) (ls : List Label) → has_name y ls ≡ false → are_distinct ls ≡ true → are_distinct (ls ++ Some y ∷ []) ≡ true
 named_more y [] h d = refl
 named_more y (None ∷ ls) h d = named_more y ls h d
 named_more y (Some x ∷ ls) h d = named_after x y ls (bytes_eq x y) (has_name x ls) refl refl (named_more y ls) d h
@@ -102,7 +102,7 @@ position_more k x (m ∷ ls) l = more_here (is_name x m) (is_name x l) k (suc k 
 position_unnamed : (x : List ℕ) (ls : List Label) → position 0 x (ls ++ None ∷ []) ≡ position 0 x ls
 position_unnamed x ls = position_more 0 x ls None ∙ or_none (position 0 x ls)
 
-absent : (o : Option ℕ) → is_some o ≡ false → o ≡ None
+pub absent : (o : Option ℕ) → is_some o ≡ false → o ≡ None
 absent (Some n) e = cc
 absent None e = refl
 
@@ -114,7 +114,7 @@ last_found x y ls false e h = or_none (position 0 x ls)
 position_named : (x y : List ℕ) (ls : List Label) → has_name y ls ≡ false → position 0 x (ls ++ Some y ∷ []) ≡ (if bytes_eq y x then Some (length ls) else position 0 x ls)
 position_named x y ls h = position_more 0 x ls (Some y) ∙ last_found x y ls (bytes_eq y x) refl h
 
-taken : (names : List Name) (i : ℕ) (d n : Name) → i < length names → get_or names i d ≡ n → map label (take (i + 1) names) ≡ map label (take i names) ++ label n ∷ []
+pub taken : (names : List Name) (i : ℕ) (d n : Name) → i < length names → get_or names i d ≡ n → map label (take (i + 1) names) ≡ map label (take i names) ++ label n ∷ []
 taken names i d n h e = ap (map label) (take_more names i d h) ∙ map-append label (take i names) (get_or names i d ∷ []) ∙ ap (λ m. map label (take i names) ++ label m ∷ []) e
 
 -- a name that is found among those before it

@@ -6,6 +6,8 @@ use Rattle.wat_module_ast.specs.declared.instruction.Argument.{Argument}
 use Rattle.wat_module_tokens.specs.declared.stream.TokenCursor.{TokenCursor}
 use Rattle.wat_module_ast.specs.declared.error.ParseFailure.{ParseFailure}
 use Rattle.wat_module_ast.specs.declared.error.ParseFailure.TheVariants as refusal
+use Rattle.wat_module_ast.specs.declared.error.Space.TheVariants as space
+use Rattle.wat_module_ast.specs.declared.error.Range.TheVariants as range
 use Rattle.wat_module_ast.specs.declared.error.FaultKind.TheVariants.{OutOfRange}
 use Rattle.wat_module_tokens.specs.declared.token.Sign.{Sign}
 use Rattle.wat_module_tokens.specs.declared.token.Sign.TheVariants as sign
@@ -39,13 +41,13 @@ left_or us (Err f) = us
 small_left : (s : Sign) (n : ℕ) (all ts : List Terminal) → left_or ts (small s n all ts) ≡ ts
 small_left sign.Absent n all ts = by (nat_lt n (2 ^ 32))
   where
-    by : (b : Bool) → left_or ts (if b then Ok (n, ts) else Err (OutOfRange, all)) ≡ ts
+    by : (b : Bool) → left_or ts (if b then Ok (n, ts) else Err (OutOfRange (range.Unsigned (2 ^ 31)), all)) ≡ ts
     by true = refl
     by false = refl
 small_left sign.Plus n all ts = refl
 small_left sign.Minus n all ts = refl
 
-named_left : (o : Option ℕ) (all ts : List Terminal) → left_or ts (named o all ts) ≡ ts
+named_left : (o : Option ℕ) (all ts : List Terminal) → left_or ts (named space.Label o all ts) ≡ ts
 named_left (Some n) all ts = refl
 named_left None all ts = refl
 
@@ -53,10 +55,10 @@ one_more : (ls : List Label) (n m : ℕ) (ts us : List Terminal) (q : Result (�
 one_more ls n m ts us q l e = ap (λ x. and_labels n x (λ k. labels_from ls k ts)) e ∙ ap (λ x. before_labels n (labels_from ls m x)) (sym l ∙ ap (left_or ts) e)
 
 -- an index after a label is a label more
-pub label_more : (ls : List Label) (n m : ℕ) (ts us : List Terminal) → index ls ts ≡ Ok (m, us) → labels_from ls n ts ≡ before_labels n (labels_from ls m us)
+pub label_more : (ls : List Label) (n m : ℕ) (ts us : List Terminal) → index space.Label ls ts ≡ Ok (m, us) → labels_from ls n ts ≡ before_labels n (labels_from ls m us)
 unfolding labels_from
 label_more ls n m (Integer s k ∷ ts) us e = one_more ls n m ts us (small s k (Integer s k ∷ ts) ts) (small_left s k (Integer s k ∷ ts) ts) e
-label_more ls n m (Id x ∷ ts) us e = one_more ls n m ts us (named (position 0 x ls) (Id x ∷ ts) ts) (named_left (position 0 x ls) (Id x ∷ ts) ts) e
+label_more ls n m (Id x ∷ ts) us e = one_more ls n m ts us (named space.Label (position 0 x ls) (Id x ∷ ts) ts) (named_left (position 0 x ls) (Id x ∷ ts) ts) e
 label_more ls n m [] us e = cc
 label_more ls n m (Open ∷ ts) us e = cc
 label_more ls n m (Close ∷ ts) us e = cc
@@ -65,11 +67,11 @@ label_more ls n m (Text v ∷ ts) us e = cc
 label_more ls n m (Float narrow wide ∷ ts) us e = cc
 label_more ls n m (Other ∷ ts) us e = cc
 
-pub integer_fault : (ls : List Label) (n k : ℕ) (s : Sign) (ts : List Terminal) (f : Fault) → index ls (Integer s k ∷ ts) ≡ Err f → labels_from ls n (Integer s k ∷ ts) ≡ Err f
+pub integer_fault : (ls : List Label) (n k : ℕ) (s : Sign) (ts : List Terminal) (f : Fault) → index space.Label ls (Integer s k ∷ ts) ≡ Err f → labels_from ls n (Integer s k ∷ ts) ≡ Err f
 unfolding labels_from
 integer_fault ls n k s ts f e = ap (λ x. and_labels n x (λ k. labels_from ls k ts)) e
 
-pub name_fault : (ls : List Label) (n : ℕ) (x : List ℕ) (ts : List Terminal) (f : Fault) → index ls (Id x ∷ ts) ≡ Err f → labels_from ls n (Id x ∷ ts) ≡ Err f
+pub name_fault : (ls : List Label) (n : ℕ) (x : List ℕ) (ts : List Terminal) (f : Fault) → index space.Label ls (Id x ∷ ts) ≡ Err f → labels_from ls n (Id x ∷ ts) ≡ Err f
 unfolding labels_from
 name_fault ls n x ts f e = ap (λ x. and_labels n x (λ k. labels_from ls k ts)) e
 
@@ -81,7 +83,7 @@ labels_on all left next found after n h k f = h ∙ ap (put_before found) k ∙ 
 pub labels_end : (all left : Result (Branches × List Terminal) Fault) (found after : List ℕ) (n : ℕ) (ts : List Terminal) → all ≡ put_before found left → left ≡ Ok (branches [] n, ts) → after ≡ found → all ≡ Ok (branches after n, ts)
 labels_end all left found after n ts h k f = h ∙ ap (put_before found) k ∙ put_all found n ts ∙ ap (λ x. Ok (branches x n, ts)) (sym f)
 
-pub labels_fault : (ls : List Label) (all us : List Terminal) (n : ℕ) (found : List ℕ) (left : Result (Branches × List Terminal) Fault) (e : ParseFailure) → index ls all ≡ Ok (n, us) → labels_from ls n us ≡ put_before found left → Faults left e → Faults (labels_by ls (index ls all)) e
+pub labels_fault : (ls : List Label) (all us : List Terminal) (n : ℕ) (found : List ℕ) (left : Result (Branches × List Terminal) Fault) (e : ParseFailure) → index space.Label ls all ≡ Ok (n, us) → labels_from ls n us ≡ put_before found left → Faults left e → Faults (labels_by ls (index space.Label ls all)) e
 labels_fault ls all us n found left (refusal.Text f) i h k = ap (labels_by ls) i ∙ ap with_labels (h ∙ ap (put_before found) k ∙ put_fault found (fault_of f))
 labels_fault ls all us n found left (refusal.Memory a) i h k = tt
 

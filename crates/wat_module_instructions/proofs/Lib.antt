@@ -14,3 +14,4 @@ pub mod Lanes
 pub mod Alike
 pub mod Heights
 pub mod Named
+pub mod Repetitions

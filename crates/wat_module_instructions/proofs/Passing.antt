@@ -7,6 +7,10 @@ use Rattle.wat_module_ast.specs.declared.instruction.Argument.{Argument}
 use Rattle.wat_module_ast.specs.declared.instruction.Argument.TheVariants as argument
 use Rattle.wat_module_ast.specs.declared.instruction.Instruction.{Instruction}
 use Rattle.wat_module_ast.specs.declared.instruction.Opcode.{Opcode}
+use Rattle.wat_module_ast.specs.declared.error.Space.{Space}
+use Rattle.wat_module_ast.specs.declared.error.Space.TheVariants as space
+use Rattle.wat_module_ast.specs.declared.error.Range.{Range}
+use Rattle.wat_module_ast.specs.declared.error.Range.TheVariants as range
 use Rattle.wat_module_ast.specs.declared.error.FaultKind.TheVariants.{WrongLabel, OutOfRange, OtherType}
 use Rattle.wat_module_tokens.specs.declared.token.Sign.{Sign}
 use Rattle.wat_module_tokens.specs.declared.token.Sign.TheVariants as sign
@@ -50,45 +54,45 @@ abbrev pub Closing : {A : Type 0} → Result (A × List Terminal) Fault → List
 Closing (Ok (a, us)) ts = Ends ts us
 Closing (Err f) ts = Unit {0}
 
-named_keeps : (o : Option ℕ) (all ts : List Terminal) → Passes all ts → Keeps (grammar.named o all ts) all
-named_keeps None all ts h = tt
-named_keeps (Some n) all ts h = h
+named_keeps : (k : Space) (o : Option ℕ) (all ts : List Terminal) → Passes all ts → Keeps (grammar.named k o all ts) all
+named_keeps k None all ts h = tt
+named_keeps k (Some n) all ts h = h
 
-small_by : (b : Bool) (n : ℕ) (all ts : List Terminal) → Passes all ts → Keeps (if b then Ok (n, ts) else Err (OutOfRange, all)) all
-small_by true n all ts h = h
-small_by false n all ts h = tt
+small_by : (b : Bool) (r : Range) (n : ℕ) (all ts : List Terminal) → Passes all ts → Keeps (if b then Ok (n, ts) else Err (OutOfRange r, all)) all
+small_by true r n all ts h = h
+small_by false r n all ts h = tt
 
 small_keeps : (s : Sign) (n : ℕ) (all ts : List Terminal) → Passes all ts → Keeps (grammar.small s n all ts) all
-small_keeps sign.Absent n all ts h = small_by (nat_lt n (2 ^ 32)) n all ts h
+small_keeps sign.Absent n all ts h = small_by (nat_lt n (2 ^ 32)) (range.Unsigned (2 ^ 31)) n all ts h
 small_keeps sign.Plus n all ts h = tt
 small_keeps sign.Minus n all ts h = tt
 
-pub index_keeps : (ls : List Label) (ts : List Terminal) → Keeps (grammar.index ls ts) ts
-index_keeps ls [] = tt
-index_keeps ls (Integer s n ∷ ts) = small_keeps s n (Integer s n ∷ ts) ts (after_integer s n ts)
-index_keeps ls (Id x ∷ ts) = named_keeps (grammar.position 0 x ls) (Id x ∷ ts) ts (after_id x ts)
-index_keeps ls (Open ∷ ts) = tt
-index_keeps ls (Close ∷ ts) = tt
-index_keeps ls (Word w ∷ ts) = tt
-index_keeps ls (Text v ∷ ts) = tt
-index_keeps ls (Float narrow wide ∷ ts) = tt
-index_keeps ls (Other ∷ ts) = tt
+pub index_keeps : (k : Space) (ls : List Label) (ts : List Terminal) → Keeps (grammar.index k ls ts) ts
+index_keeps k ls [] = tt
+index_keeps k ls (Integer s n ∷ ts) = small_keeps s n (Integer s n ∷ ts) ts (after_integer s n ts)
+index_keeps k ls (Id x ∷ ts) = named_keeps k (grammar.position 0 x ls) (Id x ∷ ts) ts (after_id x ts)
+index_keeps k ls (Open ∷ ts) = tt
+index_keeps k ls (Close ∷ ts) = tt
+index_keeps k ls (Word w ∷ ts) = tt
+index_keeps k ls (Text v ∷ ts) = tt
+index_keeps k ls (Float narrow wide ∷ ts) = tt
+index_keeps k ls (Other ∷ ts) = tt
 
 with_index_keeps : (q : Result (ℕ × List Terminal) Fault) (ts : List Terminal) → Keeps q ts → Keeps (grammar.with_index q) ts
 with_index_keeps (Ok (n, us)) ts h = h
 with_index_keeps (Err f) ts h = tt
 
-i32_by_keeps : (o : Option ℤ) (all ts : List Terminal) → Passes all ts → Keeps (grammar.i32_by o all ts) all
-i32_by_keeps (Some n) all ts h = h
-i32_by_keeps None all ts h = tt
+i32_by_keeps : (s : Sign) (o : Option ℤ) (all ts : List Terminal) → Passes all ts → Keeps (grammar.i32_by s o all ts) all
+i32_by_keeps s (Some n) all ts h = h
+i32_by_keeps s None all ts h = tt
 
-i64_by_keeps : (o : Option ℤ) (all ts : List Terminal) → Passes all ts → Keeps (grammar.i64_by o all ts) all
-i64_by_keeps (Some n) all ts h = h
-i64_by_keeps None all ts h = tt
+i64_by_keeps : (s : Sign) (o : Option ℤ) (all ts : List Terminal) → Passes all ts → Keeps (grammar.i64_by s o all ts) all
+i64_by_keeps s (Some n) all ts h = h
+i64_by_keeps s None all ts h = tt
 
 i32_keeps : (ts : List Terminal) → Keeps (grammar.i32 ts) ts
 i32_keeps [] = tt
-i32_keeps (Integer s n ∷ ts) = i32_by_keeps (grammar.signed (2 ^ 31) s n) (Integer s n ∷ ts) ts (after_integer s n ts)
+i32_keeps (Integer s n ∷ ts) = i32_by_keeps s (grammar.signed (2 ^ 31) s n) (Integer s n ∷ ts) ts (after_integer s n ts)
 i32_keeps (Id x ∷ ts) = tt
 i32_keeps (Open ∷ ts) = tt
 i32_keeps (Close ∷ ts) = tt
@@ -99,7 +103,7 @@ i32_keeps (Other ∷ ts) = tt
 
 i64_keeps : (ts : List Terminal) → Keeps (grammar.i64 ts) ts
 i64_keeps [] = tt
-i64_keeps (Integer s n ∷ ts) = i64_by_keeps (grammar.signed (2 ^ 63) s n) (Integer s n ∷ ts) ts (after_integer s n ts)
+i64_keeps (Integer s n ∷ ts) = i64_by_keeps s (grammar.signed (2 ^ 63) s n) (Integer s n ∷ ts) ts (after_integer s n ts)
 i64_keeps (Id x ∷ ts) = tt
 i64_keeps (Open ∷ ts) = tt
 i64_keeps (Close ∷ ts) = tt
@@ -108,17 +112,17 @@ i64_keeps (Text v ∷ ts) = tt
 i64_keeps (Float narrow wide ∷ ts) = tt
 i64_keeps (Other ∷ ts) = tt
 
-bits_by_keeps : (o : Option ℕ) (all ts : List Terminal) → Passes all ts → Keeps (grammar.bits_by o all ts) all
-bits_by_keeps (Some n) all ts h = h
-bits_by_keeps None all ts h = tt
+bits_by_keeps : (of : Range) (o : Option ℕ) (all ts : List Terminal) → Passes all ts → Keeps (grammar.bits_by of o all ts) all
+bits_by_keeps of (Some n) all ts h = h
+bits_by_keeps of None all ts h = tt
 
 after_float : (narrow wide : Option ℕ) (ts : List Terminal) → Passes (Float narrow wide ∷ ts) ts
 after_float narrow wide ts = record { short = omega arith; same = λ d. refl }
 
 f32_keeps : (ts : List Terminal) → Keeps (grammar.f32 ts) ts
 f32_keeps [] = tt
-f32_keeps (Integer s n ∷ ts) = bits_by_keeps (of_integer binary32 (grammar.is_minus s) n) (Integer s n ∷ ts) ts (after_integer s n ts)
-f32_keeps (Float narrow wide ∷ ts) = bits_by_keeps narrow (Float narrow wide ∷ ts) ts (after_float narrow wide ts)
+f32_keeps (Integer s n ∷ ts) = bits_by_keeps range.Float32 (of_integer binary32 (grammar.is_minus s) n) (Integer s n ∷ ts) ts (after_integer s n ts)
+f32_keeps (Float narrow wide ∷ ts) = bits_by_keeps range.Float32 narrow (Float narrow wide ∷ ts) ts (after_float narrow wide ts)
 f32_keeps (Id x ∷ ts) = tt
 f32_keeps (Open ∷ ts) = tt
 f32_keeps (Close ∷ ts) = tt
@@ -128,8 +132,8 @@ f32_keeps (Other ∷ ts) = tt
 
 f64_keeps : (ts : List Terminal) → Keeps (grammar.f64 ts) ts
 f64_keeps [] = tt
-f64_keeps (Integer s n ∷ ts) = bits_by_keeps (of_integer binary64 (grammar.is_minus s) n) (Integer s n ∷ ts) ts (after_integer s n ts)
-f64_keeps (Float narrow wide ∷ ts) = bits_by_keeps wide (Float narrow wide ∷ ts) ts (after_float narrow wide ts)
+f64_keeps (Integer s n ∷ ts) = bits_by_keeps range.Float64 (of_integer binary64 (grammar.is_minus s) n) (Integer s n ∷ ts) ts (after_integer s n ts)
+f64_keeps (Float narrow wide ∷ ts) = bits_by_keeps range.Float64 wide (Float narrow wide ∷ ts) ts (after_float narrow wide ts)
 f64_keeps (Id x ∷ ts) = tt
 f64_keeps (Open ∷ ts) = tt
 f64_keeps (Close ∷ ts) = tt
@@ -195,7 +199,7 @@ and_labels_keeps n (Err f) others all ts h k = tt
 labels_keeps : (ls : List Label) (n : ℕ) (ts : List Terminal) → Keeps (grammar.labels_from ls n ts) ts
 unfolding grammar.labels_from
 labels_keeps ls n (Integer s m ∷ ts) = and_labels_keeps n (grammar.small s m (Integer s m ∷ ts) ts) (λ k. grammar.labels_from ls k ts) (Integer s m ∷ ts) ts (after_integer s m ts) (λ k. labels_keeps ls k ts)
-labels_keeps ls n (Id x ∷ ts) = and_labels_keeps n (grammar.named (grammar.position 0 x ls) (Id x ∷ ts) ts) (λ k. grammar.labels_from ls k ts) (Id x ∷ ts) ts (after_id x ts) (λ k. labels_keeps ls k ts)
+labels_keeps ls n (Id x ∷ ts) = and_labels_keeps n (grammar.named space.Label (grammar.position 0 x ls) (Id x ∷ ts) ts) (λ k. grammar.labels_from ls k ts) (Id x ∷ ts) ts (after_id x ts) (λ k. labels_keeps ls k ts)
 labels_keeps ls n [] = stay []
 labels_keeps ls n (Open ∷ ts) = stay (Open ∷ ts)
 labels_keeps ls n (Close ∷ ts) = stay (Close ∷ ts)
@@ -323,7 +327,7 @@ listed_alone : (types : Types) (ts : List Terminal) → Keeps (grammar.use_by ty
 listed_alone types ts = listed_use_keeps (grammar.lists_of ts) ts (lists_keeps ts)
 
 use_word : (types : Types) (b : Bool) (w : List ℕ) (ts : List Terminal) → Keeps (grammar.use_by types (if b then Some ts else None) (Open ∷ Word w ∷ ts)) (Open ∷ Word w ∷ ts)
-use_word types true w ts = opened w (grammar.indexed_use types ts (grammar.index types.names ts)) ts (indexed_ends types ts (grammar.index types.names ts) ts (index_keeps types.names ts))
+use_word types true w ts = opened w (grammar.indexed_use types ts (grammar.index space.Type types.names ts)) ts (indexed_ends types ts (grammar.index space.Type types.names ts) ts (index_keeps space.Type types.names ts))
 use_word types false w ts = listed_alone types (Open ∷ Word w ∷ ts)
 
 use_keeps : (types : Types) (ts : List Terminal) → Keeps (grammar.use_of types ts) ts
@@ -355,7 +359,7 @@ block_type_keeps types ts = block_by_keeps (grammar.use_of types ts) ts (use_kee
 
 table_keeps : (ls : List Label) (ts : List Terminal) → Keeps (grammar.table_of ls ts) ts
 table_keeps ls (Integer s n ∷ ts) = small_keeps s n (Integer s n ∷ ts) ts (after_integer s n ts)
-table_keeps ls (Id x ∷ ts) = named_keeps (grammar.position 0 x ls) (Id x ∷ ts) ts (after_id x ts)
+table_keeps ls (Id x ∷ ts) = named_keeps space.Table (grammar.position 0 x ls) (Id x ∷ ts) ts (after_id x ts)
 table_keeps ls [] = stay []
 table_keeps ls (Open ∷ ts) = stay (Open ∷ ts)
 table_keeps ls (Close ∷ ts) = stay (Close ∷ ts)
@@ -406,15 +410,15 @@ with_source_keeps n (Ok (m, vs)) ts us h k = on ts us vs h k
 with_source_keeps n (Err f) ts us h k = tt
 
 copy_by_keeps : (ls : List Label) (q : Result (ℕ × List Terminal) Fault) (ts : List Terminal) → Keeps q ts → Keeps (grammar.copy_by ls q) ts
-copy_by_keeps ls (Ok (n, us)) ts h = with_source_keeps n (grammar.index ls us) ts us h (index_keeps ls us)
+copy_by_keeps ls (Ok (n, us)) ts h = with_source_keeps n (grammar.index space.Table ls us) ts us h (index_keeps space.Table ls us)
 copy_by_keeps ls (Err f) ts h = tt
 
-copy_keeps : (b : Bool) (ls : List Label) (ts : List Terminal) → Keeps (if b then grammar.copy_by ls (grammar.index ls ts) else Ok (argument.Pair (0, 0), ts)) ts
-copy_keeps true ls ts = copy_by_keeps ls (grammar.index ls ts) ts (index_keeps ls ts)
+copy_keeps : (b : Bool) (ls : List Label) (ts : List Terminal) → Keeps (if b then grammar.copy_by ls (grammar.index space.Table ls ts) else Ok (argument.Pair (0, 0), ts)) ts
+copy_keeps true ls ts = copy_by_keeps ls (grammar.index space.Table ls ts) ts (index_keeps space.Table ls ts)
 copy_keeps false ls ts = stay ts
 
-init_table_keeps : (b : Bool) (ls : List Label) (ts : List Terminal) → Keeps (if b then grammar.index ls ts else Ok (0, ts)) ts
-init_table_keeps true ls ts = index_keeps ls ts
+init_table_keeps : (b : Bool) (ls : List Label) (ts : List Terminal) → Keeps (if b then grammar.index space.Table ls ts else Ok (0, ts)) ts
+init_table_keeps true ls ts = index_keeps space.Table ls ts
 init_table_keeps false ls ts = stay ts
 
 with_elements_keeps : (n : ℕ) (q : Result (ℕ × List Terminal) Fault) (ts us : List Terminal) → Passes ts us → Keeps q us → Keeps (grammar.with_elements n q) ts
@@ -422,14 +426,14 @@ with_elements_keeps n (Ok (m, vs)) ts us h k = on ts us vs h k
 with_elements_keeps n (Err f) ts us h k = tt
 
 init_keeps : (ls : List Label) (q : Result (ℕ × List Terminal) Fault) (ts : List Terminal) → Keeps q ts → Keeps (grammar.init_by ls q) ts
-init_keeps ls (Ok (n, us)) ts h = with_elements_keeps n (grammar.index ls us) ts us h (index_keeps ls us)
+init_keeps ls (Ok (n, us)) ts h = with_elements_keeps n (grammar.index space.Elem ls us) ts us h (index_keeps space.Elem ls us)
 init_keeps ls (Err f) ts h = tt
 
 -- Vectors.
 
 lane_index_keeps : (ts : List Terminal) → Keeps (grammar.lane_index ts) ts
 lane_index_keeps [] = tt
-lane_index_keeps (Integer sign.Absent n ∷ ts) = small_by (nat_lt n (2 ^ 8)) n (Integer sign.Absent n ∷ ts) ts (after_integer sign.Absent n ts)
+lane_index_keeps (Integer sign.Absent n ∷ ts) = small_by (nat_lt n (2 ^ 8)) (range.Unsigned (2 ^ 7)) n (Integer sign.Absent n ∷ ts) ts (after_integer sign.Absent n ts)
 lane_index_keeps (Integer sign.Plus n ∷ ts) = tt
 lane_index_keeps (Integer sign.Minus n ∷ ts) = tt
 lane_index_keeps (Id x ∷ ts) = tt
@@ -454,7 +458,7 @@ memory_lane_keeps n ts =
 
 integer_keeps : (half : ℕ) (ts : List Terminal) → Keeps (grammar.integer half ts) ts
 integer_keeps half [] = tt
-integer_keeps half (Integer s n ∷ ts) = bits_by_keeps (grammar.integer_bits half s n) (Integer s n ∷ ts) ts (after_integer s n ts)
+integer_keeps half (Integer s n ∷ ts) = bits_by_keeps (grammar.integer_range half s) (grammar.integer_bits half s n) (Integer s n ∷ ts) ts (after_integer s n ts)
 integer_keeps half (Id x ∷ ts) = tt
 integer_keeps half (Open ∷ ts) = tt
 integer_keeps half (Close ∷ ts) = tt
@@ -517,12 +521,12 @@ constant_keeps (Other ∷ ts) = tt
 
 immediate_keeps : (context : Context) (ls : List Label) (k : Immediate) (ts : List Terminal) → Keeps (grammar.immediate_of context ls k ts) ts
 immediate_keeps context ls immediate.No ts = stay ts
-immediate_keeps context ls immediate.Local ts = with_index_keeps (grammar.index context.locals ts) ts (index_keeps context.locals ts)
-immediate_keeps context ls immediate.Label ts = with_index_keeps (grammar.index ls ts) ts (index_keeps ls ts)
-immediate_keeps context ls immediate.Labels ts = labels_by_keeps ls (grammar.index ls ts) ts (index_keeps ls ts)
-immediate_keeps context ls immediate.Func ts = with_index_keeps (grammar.index context.funcs ts) ts (index_keeps context.funcs ts)
+immediate_keeps context ls immediate.Local ts = with_index_keeps (grammar.index space.Local context.locals ts) ts (index_keeps space.Local context.locals ts)
+immediate_keeps context ls immediate.Label ts = with_index_keeps (grammar.index space.Label ls ts) ts (index_keeps space.Label ls ts)
+immediate_keeps context ls immediate.Labels ts = labels_by_keeps ls (grammar.index space.Label ls ts) ts (index_keeps space.Label ls ts)
+immediate_keeps context ls immediate.Func ts = with_index_keeps (grammar.index space.Func context.funcs ts) ts (index_keeps space.Func context.funcs ts)
 immediate_keeps context ls immediate.Indirect ts = indirect_keeps context.types (grammar.table_of context.tables ts) ts (table_keeps context.tables ts)
-immediate_keeps context ls immediate.Global ts = with_index_keeps (grammar.index context.globals ts) ts (index_keeps context.globals ts)
+immediate_keeps context ls immediate.Global ts = with_index_keeps (grammar.index space.Global context.globals ts) ts (index_keeps space.Global context.globals ts)
 immediate_keeps context ls immediate.I32 ts = i32_keeps ts
 immediate_keeps context ls immediate.I64 ts = i64_keeps ts
 immediate_keeps context ls immediate.F32 ts = with_f32_keeps (grammar.f32 ts) ts (f32_keeps ts)
@@ -532,9 +536,9 @@ immediate_keeps context ls immediate.Zero ts = stay ts
 immediate_keeps context ls immediate.HeapType ts = heap_keeps ts
 immediate_keeps context ls immediate.Select ts = select_keeps (grammar.after (codes "result") ts) ts
 immediate_keeps context ls immediate.Zeros ts = stay ts
-immediate_keeps context ls immediate.Data ts = with_index_keeps (grammar.index context.datas ts) ts (index_keeps context.datas ts)
-immediate_keeps context ls immediate.MemoryInit ts = with_zero_keeps (grammar.index context.datas ts) ts (index_keeps context.datas ts)
-immediate_keeps context ls immediate.Elem ts = with_index_keeps (grammar.index context.elems ts) ts (index_keeps context.elems ts)
+immediate_keeps context ls immediate.Data ts = with_index_keeps (grammar.index space.Data context.datas ts) ts (index_keeps space.Data context.datas ts)
+immediate_keeps context ls immediate.MemoryInit ts = with_zero_keeps (grammar.index space.Data context.datas ts) ts (index_keeps space.Data context.datas ts)
+immediate_keeps context ls immediate.Elem ts = with_index_keeps (grammar.index space.Elem context.elems ts) ts (index_keeps space.Elem context.elems ts)
 immediate_keeps context ls immediate.Table ts = with_index_keeps (grammar.table_of context.tables ts) ts (table_keeps context.tables ts)
 immediate_keeps context ls immediate.TableCopy ts = copy_keeps (grammar.is_index ts) context.tables ts
 immediate_keeps context ls immediate.TableInit ts = init_keeps context.elems (grammar.init_table context.tables ts) ts (init_table_keeps (grammar.are_indices ts) context.tables ts)

@@ -5,6 +5,7 @@ use Rattle.std.proofs.lemmas.Slice.Eq.{bytes_eq-Decides}
 use Rattle.wat_module_ast.specs.declared.instruction.Argument.{Argument}
 use Rattle.wat_module_ast.specs.Table.{mnemonics, low, high, prefixed, low_vectors, high_vectors}
 use Rattle.wat_module_ast.specs.declared.instruction.Instruction.{Instruction}
+use Rattle.wat_module_ast.specs.declared.error.Expected.TheVariants as expected
 use Rattle.wat_module_ast.specs.declared.error.FaultKind.TheVariants.{Unexpected, UnknownWord}
 use Rattle.wat_module_tokens.specs.Terminals.{Terminal, Open, Close, Word, Id, Integer, Text, Float, Other, Label}
 use Rattle.wat_module_ast.specs.Grammar.{Context, Fault, Instructions, plain, label_of, end_label, structured, is_end, is_else, is_then, is_if, block_type, instruction, end, otherwise}
@@ -228,7 +229,7 @@ other_back context l ps e xs k is r b _ _ vs js h by_otherwise rest q =
     ([], Close ∷ Open ∷ Word e ∷ xs, otherwise ∷ (b ++ (end ∷ [])), vs, js, grammar.by_none, by_other k h, rest, ap (λ x. otherwise ∷ x) (q ∙ sym (append_assoc b (end ∷ []) js)))
 
 other_word_back : (context : Context) (l : Label) (ps : List Part) (w : List ℕ) (ts : List Terminal) (d : Bool) → is_else w ≡ d
-    → Back context (Then l) ps (Close ∷ Open ∷ Word w ∷ ts) (if d then machine.other_part l ts ps else Err (Unexpected, Word w ∷ ts))
+    → Back context (Then l) ps (Close ∷ Open ∷ Word w ∷ ts) (if d then machine.other_part l ts ps else Err (Unexpected expected.Else, Word w ∷ ts))
 other_word_back context l ps w ts true e is r (b, zs, es, vs, js, h, c, rest, t) = other_back context l ps w ts e is r b zs es vs js h c rest t
 other_word_back context l ps w ts false e is r h = absurd h
 
@@ -386,7 +387,7 @@ open_takes context p (Text v ∷ ts) ps = tt
 open_takes context p (Float narrow wide ∷ ts) ps = tt
 open_takes context p (Other ∷ ts) ps = tt
 
-other_by_takes : (d : Bool) (l : Label) (w : List ℕ) (ts : List Terminal) (ps : List Part) → Left (if d then machine.other_part l ts ps else Err (Unexpected, Word w ∷ ts)) (suc (suc (suc (length ts))))
+other_by_takes : (d : Bool) (l : Label) (w : List ℕ) (ts : List Terminal) (ps : List Part) → Left (if d then machine.other_part l ts ps else Err (Unexpected expected.Else, Word w ∷ ts)) (suc (suc (suc (length ts))))
 other_by_takes true l w ts ps = omega arith
 other_by_takes false l w ts ps = tt
 
@@ -482,7 +483,7 @@ closes context _ ps _ _ vs js r (by_else {l = l} {v = v} {x = x} {us = us} {xs =
 closes context _ ps _ _ vs js r by_then h = (js, refl, h, omega arith)
 closes context _ ps _ _ vs js r by_otherwise h = (js, refl, h, omega arith)
 closes context _ ps _ _ vs js r (by_other {l = l} {e = e} {es = es} {other = other} k g) h =
-    subst (λ d. Goes context (if d then machine.other_part l es ps else Err (Unexpected, Word e ∷ es)) (otherwise ∷ ((other ++ (end ∷ [])) ++ js)) r (suc (suc (suc (length es))))) (sym k)
+    subst (λ d. Goes context (if d then machine.other_part l es ps else Err (Unexpected expected.Else, Word e ∷ es)) (otherwise ∷ ((other ++ (end ∷ [])) ++ js)) r (suc (suc (suc (length es))))) (sym k)
     (other ++ (end ∷ js), ap (λ z. otherwise ∷ z) (append_assoc other (end ∷ []) js), (other, Close ∷ Close ∷ vs, end ∷ [], vs, js, g, by_otherwise, h, refl), omega arith)
 closes context _ ps _ _ vs js r (by_condition {i = i} {l = l} {t = t} {cs = cs} {body = body} k g) h =
     subst (λ d. Goes context (if d then machine.on_to (i ∷ []) (Then l ∷ ps) cs else open_by context (structured t) (Word t ∷ cs) cs (Condition i l ∷ ps)) (i ∷ ((body ++ (end ∷ [])) ++ js)) r (suc (suc (length cs)))) (sym k)
@@ -495,39 +496,39 @@ closes context _ ps _ _ vs js r (by_condition_else {i = i} {l = l} {t = t} {e = 
 then_is : (w : List ℕ) → is_then w ≡ true → w ≡ codes "then"
 then_is w e = (bytes_eq-Decides w (codes "then")).0 e
 
-end_is_no_plain : (context : Context) (ls : List Label) (ts : List Terminal) → plain context ls (Word (codes "end") ∷ ts) ≡ Err (UnknownWord, Word (codes "end") ∷ ts)
+end_is_no_plain : (context : Context) (ls : List Label) (ts : List Terminal) → plain context ls (Word (codes "end") ∷ ts) ≡ Err (UnknownWord expected.Instruction, Word (codes "end") ∷ ts)
 unfolding plain mnemonics low high prefixed low_vectors high_vectors
 end_is_no_plain context ls ts = refl
 
 no_end_plain : (context : Context) (ls : List Label) (w : List ℕ) (ts : List Terminal) (x : Instruction × List Terminal) → plain context ls (Word w ∷ ts) ≡ Ok x → (b : Bool) → is_end w ≡ b → b ≡ false
 no_end_plain context ls w ts x e true k =
-    let f : plain context ls (Word w ∷ ts) ≡ Err (UnknownWord, Word w ∷ ts) = subst (λ v. plain context ls (Word v ∷ ts) ≡ Err (UnknownWord, Word v ∷ ts)) (sym (end_is w k)) (end_is_no_plain context ls ts) in cc
+    let f : plain context ls (Word w ∷ ts) ≡ Err (UnknownWord expected.Instruction, Word w ∷ ts) = subst (λ v. plain context ls (Word v ∷ ts) ≡ Err (UnknownWord expected.Instruction, Word v ∷ ts)) (sym (end_is w k)) (end_is_no_plain context ls ts) in cc
 no_end_plain context ls w ts x e false k = refl
 
 no_end_structured : (w : List ℕ) (o : ℕ) → structured w ≡ Some o → (b : Bool) → is_end w ≡ b → b ≡ false
 no_end_structured w o e true k = let f : structured w ≡ None = subst (λ v. structured v ≡ None) (sym (end_is w k)) refl in cc
 no_end_structured w o e false k = refl
 
-else_is_no_plain : (context : Context) (ls : List Label) (ts : List Terminal) → plain context ls (Word (codes "else") ∷ ts) ≡ Err (UnknownWord, Word (codes "else") ∷ ts)
+else_is_no_plain : (context : Context) (ls : List Label) (ts : List Terminal) → plain context ls (Word (codes "else") ∷ ts) ≡ Err (UnknownWord expected.Instruction, Word (codes "else") ∷ ts)
 unfolding plain mnemonics low high prefixed low_vectors high_vectors
 else_is_no_plain context ls ts = refl
 
 no_else_plain : (context : Context) (ls : List Label) (w : List ℕ) (ts : List Terminal) (x : Instruction × List Terminal) → plain context ls (Word w ∷ ts) ≡ Ok x → (b : Bool) → is_else w ≡ b → b ≡ false
 no_else_plain context ls w ts x e true k =
-    let f : plain context ls (Word w ∷ ts) ≡ Err (UnknownWord, Word w ∷ ts) = subst (λ v. plain context ls (Word v ∷ ts) ≡ Err (UnknownWord, Word v ∷ ts)) (sym (else_is w k)) (else_is_no_plain context ls ts) in cc
+    let f : plain context ls (Word w ∷ ts) ≡ Err (UnknownWord expected.Instruction, Word w ∷ ts) = subst (λ v. plain context ls (Word v ∷ ts) ≡ Err (UnknownWord expected.Instruction, Word v ∷ ts)) (sym (else_is w k)) (else_is_no_plain context ls ts) in cc
 no_else_plain context ls w ts x e false k = refl
 
 no_else_structured : (w : List ℕ) (o : ℕ) → structured w ≡ Some o → (b : Bool) → is_else w ≡ b → b ≡ false
 no_else_structured w o e true k = let f : structured w ≡ None = subst (λ v. structured v ≡ None) (sym (else_is w k)) refl in cc
 no_else_structured w o e false k = refl
 
-then_is_no_plain : (context : Context) (ls : List Label) (ts : List Terminal) → plain context ls (Word (codes "then") ∷ ts) ≡ Err (UnknownWord, Word (codes "then") ∷ ts)
+then_is_no_plain : (context : Context) (ls : List Label) (ts : List Terminal) → plain context ls (Word (codes "then") ∷ ts) ≡ Err (UnknownWord expected.Instruction, Word (codes "then") ∷ ts)
 unfolding plain mnemonics low high prefixed low_vectors high_vectors
 then_is_no_plain context ls ts = refl
 
 no_then_plain : (context : Context) (ls : List Label) (w : List ℕ) (ts : List Terminal) (x : Instruction × List Terminal) → plain context ls (Word w ∷ ts) ≡ Ok x → (b : Bool) → is_then w ≡ b → b ≡ false
 no_then_plain context ls w ts x e true k =
-    let f : plain context ls (Word w ∷ ts) ≡ Err (UnknownWord, Word w ∷ ts) = subst (λ v. plain context ls (Word v ∷ ts) ≡ Err (UnknownWord, Word v ∷ ts)) (sym (then_is w k)) (then_is_no_plain context ls ts) in cc
+    let f : plain context ls (Word w ∷ ts) ≡ Err (UnknownWord expected.Instruction, Word w ∷ ts) = subst (λ v. plain context ls (Word v ∷ ts) ≡ Err (UnknownWord expected.Instruction, Word v ∷ ts)) (sym (then_is w k)) (then_is_no_plain context ls ts) in cc
 no_then_plain context ls w ts x e false k = refl
 
 no_then_structured : (w : List ℕ) (o : ℕ) → structured w ≡ Some o → (b : Bool) → is_then w ≡ b → b ≡ false

@@ -4,6 +4,8 @@
 use Rattle.std.specs.Prelude.{ℕ, zero, suc, Bool, true, false, ◌&&◌, List, [], ◌∷◌, ◌++◌, length, Option, Some, None, Result, Ok, Err, if◌then◌else◌}
 use Rattle.wat_module_ast.specs.declared.instruction.Argument.{Argument}
 use Rattle.wat_module_ast.specs.declared.instruction.Instruction.{Instruction}
+use Rattle.wat_module_ast.specs.declared.error.Expected.{Expected}
+use Rattle.wat_module_ast.specs.declared.error.Expected.TheVariants as expected
 use Rattle.wat_module_ast.specs.declared.error.FaultKind.TheVariants.{Unexpected}
 use Rattle.wat_module_tokens.specs.Terminals.{Terminal, Open, Close, Word, Label}
 use Rattle.wat_module_ast.specs.Grammar.{Context, Fault, plain, label_of, end_label, structured, is_end, is_else, is_then, is_if, block_type, instruction, end, otherwise}
@@ -40,6 +42,16 @@ bound (Else l) = l ∷ []
 abbrev pub labels_in : List Part → List Label
 labels_in [] = []
 labels_in (p ∷ ps) = bound p ++ labels_in ps
+
+-- What the grammar accepts next in a part, unless it is in the middle of an instruction.
+abbrev pub expected_in : Part → Expected
+expected_in Body = expected.InstructionOrClose
+expected_in (Block b l) = expected.InstructionOrEnd
+expected_in (Group l) = expected.InstructionOrClose
+expected_in (Operands i) = expected.OpenOrClose
+expected_in (Condition i l) = expected.Then
+expected_in (Then l) = expected.InstructionOrClose
+expected_in (Else l) = expected.InstructionOrClose
 
 -- The result of a step: the instructions that it yields, the stack after it, and the remaining tokens.
 pub record Step : Type 0 where
@@ -100,8 +112,8 @@ word_step context (Then l) w all ts ps = word_by context (structured w) all ts (
 word_step context (Else l) w all ts ps = word_by context (structured w) all ts (Else l ∷ ps)
 word_step context (Block b l) w all ts ps =
     if is_end w then ended (end_label l ts) ps else if b && is_else w then step_at_else l (end_label l ts) ps else word_by context (structured w) all ts (Block b l ∷ ps)
-word_step context (Operands i) w all ts ps = Err (Unexpected, all)
-word_step context (Condition i l) w all ts ps = Err (Unexpected, all)
+word_step context (Operands i) w all ts ps = Err (Unexpected expected.OpenOrClose, all)
+word_step context (Condition i l) w all ts ps = Err (Unexpected expected.Then, all)
 
 -- The step at a folded structured instruction, after its `(` and its keyword.
 abbrev pub open_block : Context → ℕ → List Terminal → List Part → Result Step Fault
@@ -120,12 +132,12 @@ folded_by context p w all ts ps = open_by context (structured w) all ts (p ∷ p
 -- The step at `(` in a part, by the tokens after it.
 abbrev pub open_step : Context → Part → List Terminal → List Part → Result Step Fault
 open_step context p (Word w ∷ ts) ps = folded_by context p w (Word w ∷ ts) ts ps
-open_step context p ts ps = Err (Unexpected, ts)
+open_step context p ts ps = Err (Unexpected expected.Instruction, ts)
 
 -- The step after the `)` of `(else`: the `)` of `(if` must follow.
 abbrev pub else_step : List Terminal → List Part → Result Step Fault
 else_step (Close ∷ ts) ps = on_to (end ∷ []) ps ts
-else_step ts ps = Err (Unexpected, ts)
+else_step ts ps = Err (Unexpected expected.Close, ts)
 
 -- The step at `(else`, by the tokens after it.
 abbrev pub other_part : Label → List Terminal → List Part → Result Step Fault
@@ -133,14 +145,14 @@ other_part l ts ps = on_to (otherwise ∷ []) (Else l ∷ ps) ts
 
 -- The step at a `(` after the `)` of `(then`: `else` must follow.
 abbrev pub other_step : Label → List Terminal → List Part → Result Step Fault
-other_step l (Word w ∷ ts) ps = if is_else w then other_part l ts ps else Err (Unexpected, Word w ∷ ts)
-other_step l ts ps = Err (Unexpected, ts)
+other_step l (Word w ∷ ts) ps = if is_else w then other_part l ts ps else Err (Unexpected expected.Else, Word w ∷ ts)
+other_step l ts ps = Err (Unexpected expected.Else, ts)
 
 -- The step after the `)` of `(then`: the `)` of `(if`, or `(else`, must follow.
 abbrev pub then_step : Label → List Terminal → List Part → Result Step Fault
 then_step l (Close ∷ ts) ps = on_to (end ∷ []) ps ts
 then_step l (Open ∷ ts) ps = other_step l ts ps
-then_step l ts ps = Err (Unexpected, ts)
+then_step l ts ps = Err (Unexpected expected.ElseOrClose, ts)
 
 -- The step at `)` in a part; the tokens `all` begin with it.
 abbrev pub close_step : Part → List Terminal → List Terminal → List Part → Result Step Fault
@@ -149,15 +161,15 @@ close_step (Group l) all ts ps = on_to (end ∷ []) ps ts
 close_step (Operands i) all ts ps = on_to (i ∷ []) ps ts
 close_step (Then l) all ts ps = then_step l ts ps
 close_step (Else l) all ts ps = else_step ts ps
-close_step (Block b l) all ts ps = Err (Unexpected, all)
-close_step (Condition i l) all ts ps = Err (Unexpected, all)
+close_step (Block b l) all ts ps = Err (Unexpected expected.InstructionOrEnd, all)
+close_step (Condition i l) all ts ps = Err (Unexpected expected.Then, all)
 
 -- A step at the first token, in the part `p` on the stack `ps`.
 unfoldable pub step : Context → Part → List Part → List Terminal → Result Step Fault
 step context p ps (Open ∷ ts) = open_step context p ts ps
 step context p ps (Close ∷ ts) = close_step p (Close ∷ ts) ts ps
 step context p ps (Word w ∷ ts) = word_step context p w (Word w ∷ ts) ts ps
-step context p ps ts = Err (Unexpected, ts)
+step context p ps ts = Err (Unexpected (expected_in p), ts)
 
 abbrev pub output_before : List Instruction → Result (List Instruction × List Terminal) Fault → Result (List Instruction × List Terminal) Fault
 output_before is (Ok (js, ts)) = Ok (is ++ js, ts)
@@ -170,7 +182,7 @@ run_by go (Err f) = Err f
 -- At most `n` steps, until no part is open. Each step consumes at least one token.
 unfoldable pub run : Context → ℕ → List Part → List Terminal → Result (List Instruction × List Terminal) Fault
 run context n [] ts = Ok ([], ts)
-run context zero (p ∷ ps) ts = Err (Unexpected, ts)
+run context zero (p ∷ ps) ts = Err (Unexpected (expected_in p), ts)
 run context (suc n) (p ∷ ps) ts = run_by (run context n) (step context p ps ts)
 
 -- The instructions of a body up to its `)`, which is consumed, and the tokens after it; or the error.
@@ -180,7 +192,7 @@ body context ts = run context (suc (length ts)) (Body ∷ []) ts
 -- The first step of one folded instruction, after its `(`.
 abbrev pub first_step : Context → List Terminal → Result Step Fault
 first_step context (Word w ∷ ts) = open_by context (structured w) (Word w ∷ ts) ts []
-first_step context ts = Err (Unexpected, ts)
+first_step context ts = Err (Unexpected expected.Instruction, ts)
 
 -- One folded instruction after its `(`, and the tokens after its `)`; or the error.
 abbrev pub folded : Context → List Terminal → Result (List Instruction × List Terminal) Fault

@@ -1,13 +1,14 @@
 //! Floating-point immediates.
 ghost use Rattle.std.specs.Prelude.{◌≡◌, Ok, Err};
 ghost use Rattle.wat_module_ast.specs.Grammar.{bits_by, f32, f64, is_minus};
+ghost use Rattle.wat_module_ast.specs.declared.error.Range.TheVariants as ranges;
 ghost use Rattle.wat_module_tokens.specs.TokenCursor.{terminals_of};
 ghost use Rattle.wat_module_instructions.specs.Parts.{ReadsAs, ReadsExactly};
 
 use crate::faults::{fault, unexpected};
 use std::alloc::Global;
 use wat_floats::{f32_bits, f32_of_integer, f64_bits, f64_of_integer};
-use wat_module_ast::error::{Fault, FaultKind, ParseFailure};
+use wat_module_ast::error::{Expected, Fault, FaultKind, ParseFailure, Range};
 use wat_module_tokens::stream::TokenCursor;
 use wat_module_tokens::token::{DecodedToken, Sign};
 
@@ -29,11 +30,11 @@ fn single<'p, 'a>(
     rest: TokenCursor<'p, 'a>,
 ) -> Result<(u32, TokenCursor<'p, 'a>), Fault<'p, 'a>>
     ensures { ReadsExactly (λ v. v)
-        (bits_by bits (terminals_of all.entry) (terminals_of rest.entry)) result }
+        (bits_by ranges.Float32 bits (terminals_of all.entry) (terminals_of rest.entry)) result }
 {
     match bits {
         Some(bits) => Ok((bits, rest)),
-        None => Err(fault(FaultKind::OutOfRange, all)),
+        None => Err(fault(FaultKind::OutOfRange(Range::Float32), all)),
     }
 }
 
@@ -45,11 +46,11 @@ fn double<'p, 'a>(
     rest: TokenCursor<'p, 'a>,
 ) -> Result<(u64, TokenCursor<'p, 'a>), Fault<'p, 'a>>
     ensures { ReadsExactly (λ v. v)
-        (bits_by bits (terminals_of all.entry) (terminals_of rest.entry)) result }
+        (bits_by ranges.Float64 bits (terminals_of all.entry) (terminals_of rest.entry)) result }
 {
     match bits {
         Some(bits) => Ok((bits, rest)),
-        None => Err(fault(FaultKind::OutOfRange, all)),
+        None => Err(fault(FaultKind::OutOfRange(Range::Float64), all)),
     }
 }
 
@@ -71,7 +72,7 @@ pub(crate) fn float_32<'p, 'a>(
             let bits = f32_bits(alloc, word)?;
             Ok(single(bits, cursor, rest)?)
         }
-        _ => Err(ParseFailure::Text(unexpected(cursor))),
+        _ => Err(ParseFailure::Text(unexpected(Expected::Number, cursor))),
     }
 }
 
@@ -93,6 +94,6 @@ pub(crate) fn float_64<'p, 'a>(
             let bits = f64_bits(alloc, word)?;
             Ok(double(bits, cursor, rest)?)
         }
-        _ => Err(ParseFailure::Text(unexpected(cursor))),
+        _ => Err(ParseFailure::Text(unexpected(Expected::Number, cursor))),
     }
 }

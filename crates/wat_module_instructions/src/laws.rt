@@ -1,4 +1,7 @@
 //! Theorems about the definitions. Each function has no effect: its contract is the theorem.
+ghost use Rattle.std.specs.Prelude.{List};
+ghost use Rattle.wat_module_ast.specs.Names.{RepeatedIsFirst};
+ghost use Rattle.wat_module_tokens.specs.Terminals.{Label};
 ghost use Rattle.wat_module_instructions.specs.Law.{FoldedIsGrammar, InstructionsAreBalanced};
 ghost use Rattle.wat_module_instructions.specs.Law.{InstructionsTakeTokens, MachineIsGrammar};
 ghost use Rattle.wat_module_ast.specs.Uses.{MoreTypesKeep, UnknownTypesBring};
@@ -27,4 +30,10 @@ pub fn instructions_are_balanced()
 pub fn types_are_looked_up()
     ensures more { MoreTypesKeep }
     ensures unknown { UnknownTypesBring }
+{}
+
+/// Theorem: the first repetition of an identifier among items, which errors report, is that of the
+/// relation `Repeats`. There is one unless the identifiers are distinct.
+pub fn repetitions_are_first()
+    ensures { (labels : List Label) → RepeatedIsFirst labels }
 {}

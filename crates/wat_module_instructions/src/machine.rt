@@ -15,7 +15,7 @@ use crate::frame::{Frame, Frames};
 use crate::reading::{self, Scope};
 use crate::uses;
 use std::alloc::Global;
-use wat_module_ast::error::ParseFailure;
+use wat_module_ast::error::{Expected, ParseFailure};
 use wat_module_ast::instruction::{Argument, Instruction, Opcode};
 use wat_module_tokens::stream::TokenCursor;
 use wat_module_tokens::token::{DecodedToken, Name};
@@ -97,7 +97,7 @@ fn first_step<'p, 'a>(
         Some((DecodedToken::Word(word), rest)) => folded_instruction(
             alloc, scope, frames, out, word, cursor, rest,
         ),
-        _ => Err(ParseFailure::Text(unexpected(cursor))),
+        _ => Err(ParseFailure::Text(unexpected(Expected::Instruction, cursor))),
     }
 }
 
@@ -150,7 +150,23 @@ fn step<'p, 'a>(
         Some((DecodedToken::Word(word), rest)) => at_word(
             alloc, scope, frames, out, word, cursor, rest,
         ),
-        _ => Err(ParseFailure::Text(unexpected(cursor))),
+        _ => match frames.last() {
+            Some(Frame::Block(_, _)) => Err(ParseFailure::Text(unexpected(
+                Expected::InstructionOrEnd,
+                cursor,
+            ))),
+            Some(Frame::Operands(_)) => Err(ParseFailure::Text(unexpected(
+                Expected::OpenOrClose,
+                cursor,
+            ))),
+            Some(Frame::Condition(_, _)) => {
+                Err(ParseFailure::Text(unexpected(Expected::Then, cursor)))
+            }
+            Some(Frame::Body | Frame::Group(_) | Frame::Then(_) | Frame::Else(_)) | None => {
+                let expected = Expected::InstructionOrClose;
+                Err(ParseFailure::Text(unexpected(expected, cursor)))
+            }
+        },
     }
 }
 
@@ -167,7 +183,7 @@ fn close<'p, 'a>(
 {
     match frames.pop() {
         Some(frame) => closed(frame, frames, out, cursor, rest),
-        None => Err(ParseFailure::Text(unexpected(cursor))),
+        None => Err(ParseFailure::Text(unexpected(Expected::InstructionOrClose, cursor))),
     }
 }
 
@@ -198,8 +214,11 @@ fn closed<'p, 'a>(
         }
         Frame::Then(label) => after_then(label, frames, out, rest),
         Frame::Else(_) => after_else(frames, out, rest),
-        Frame::Block(_, _) => Err(ParseFailure::Text(unexpected(cursor))),
-        Frame::Condition(_, _) => Err(ParseFailure::Text(unexpected(cursor))),
+        Frame::Block(_, _) => Err(ParseFailure::Text(unexpected(
+            Expected::InstructionOrEnd,
+            cursor,
+        ))),
+        Frame::Condition(_, _) => Err(ParseFailure::Text(unexpected(Expected::Then, cursor))),
     }
 }
 
@@ -217,7 +236,7 @@ fn after_else<'p, 'a>(
             out.push(END)?;
             Ok(rest)
         }
-        _ => Err(ParseFailure::Text(unexpected(cursor))),
+        _ => Err(ParseFailure::Text(unexpected(Expected::Close, cursor))),
     }
 }
 
@@ -239,7 +258,7 @@ fn after_then<'p, 'a>(
             Ok(rest)
         }
         Some((DecodedToken::Open, rest)) => other_part(label, frames, out, rest),
-        _ => Err(ParseFailure::Text(unexpected(cursor))),
+        _ => Err(ParseFailure::Text(unexpected(Expected::ElseOrClose, cursor))),
     }
 }
 
@@ -260,10 +279,10 @@ fn other_part<'p, 'a>(
             if reading::is_else(word) {
                 step_at_else(label, frames, out, rest)
             } else {
-                Err(ParseFailure::Text(unexpected(cursor)))
+                Err(ParseFailure::Text(unexpected(Expected::Else, cursor)))
             }
         }
-        _ => Err(ParseFailure::Text(unexpected(cursor))),
+        _ => Err(ParseFailure::Text(unexpected(Expected::Else, cursor))),
     }
 }
 
@@ -301,7 +320,7 @@ fn folded<'p, 'a>(
         Some((DecodedToken::Word(word), rest)) => folded_word(
             alloc, scope, frames, out, word, cursor, rest,
         ),
-        _ => Err(ParseFailure::Text(unexpected(cursor))),
+        _ => Err(ParseFailure::Text(unexpected(Expected::Instruction, cursor))),
     }
 }
 
@@ -326,7 +345,7 @@ fn folded_word<'p, 'a>(
     }
     match frames.pop() {
         Some(frame) => then_inside(alloc, scope, frame, frames, out, word, cursor, rest),
-        None => Err(ParseFailure::Text(unexpected(cursor))),
+        None => Err(ParseFailure::Text(unexpected(Expected::Instruction, cursor))),
     }
 }
 
@@ -458,9 +477,11 @@ fn at_word<'p, 'a>(
         Some(Frame::Body | Frame::Group(_) | Frame::Then(_) | Frame::Else(_)) => instruction(
             alloc, scope, frames, out, word, cursor, rest,
         ),
-        Some(Frame::Operands(_) | Frame::Condition(_, _)) | None => Err(ParseFailure::Text(
-            unexpected(cursor),
-        )),
+        Some(Frame::Operands(_)) | None => Err(ParseFailure::Text(unexpected(
+            Expected::OpenOrClose,
+            cursor,
+        ))),
+        Some(Frame::Condition(_, _)) => Err(ParseFailure::Text(unexpected(Expected::Then, cursor))),
     }
 }
 

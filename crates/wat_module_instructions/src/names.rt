@@ -3,7 +3,7 @@ ghost use Rattle.std.specs.Prelude.{◌≡◌, ◌≤◌, ◌<◌, ◌^◌, ◌+
 ghost use Rattle.std.specs.Prelude.{replicate, IfOk, IfSome};
 ghost use Rattle.wat_module_ast.specs.Grammar.{position};
 ghost use Rattle.wat_module_instructions.specs.Indices.{AreIndices, IndicesOf};
-ghost use Rattle.wat_module_ast.specs.Names.{are_distinct, has_name};
+ghost use Rattle.wat_module_ast.specs.Names.{are_distinct, has_name, repeated};
 ghost use Rattle.wat_module_tokens.specs.Terminals.{label};
 
 use std::alloc::{AllocError, Global};
@@ -145,6 +145,24 @@ fn indices<'n>(
         }
     }
     Ok(Some(indices))
+}
+
+/// Returns the indices of the first item with a repeated identifier and of the first item that has
+/// the identifier of an earlier one, which is the same. Returns `None` if the identifiers are
+/// distinct.
+#[tactic(auto, unfolding(wat_module_ast::specs::Names::repeated))]
+pub fn repeated(alloc: Global, names: &[Name<'_>]) -> Result<Option<(usize, usize)>, AllocError>
+    ensures { IfOk result (λ found. found ≡ repeated (map label names.now)) }
+{
+    let mut indices = BTreeMap::new(alloc);
+    for (i, name) in names.iter().enumerate() {
+        if let Name::Given(given) = *name {
+            if let Some(first) = indices.insert(given, i)? {
+                return Ok(Some((first, i)));
+            }
+        }
+    }
+    Ok(None)
 }
 
 /// Returns the index of the first item with this identifier.

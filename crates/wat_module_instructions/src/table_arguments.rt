@@ -8,7 +8,7 @@ use crate::names::IndexedNames;
 use crate::reading::index;
 use crate::uses::table_index;
 use std::alloc::Global;
-use wat_module_ast::error::{Fault, ParseFailure};
+use wat_module_ast::error::{Fault, ParseFailure, Space};
 use wat_module_ast::instruction::Argument;
 use wat_module_ast::pairs::IndexPair;
 use wat_module_tokens::stream::TokenCursor;
@@ -58,8 +58,8 @@ pub(crate) fn copy<'p, 'a>(
         let pair = IndexPair::new(alloc, 0, 0)?;
         return Ok((Argument::Pair(pair), cursor));
     }
-    let (target, rest) = index(tables, cursor)?;
-    let (source, rest) = index(tables, rest)?;
+    let (target, rest) = index(Space::Table, tables, cursor)?;
+    let (source, rest) = index(Space::Table, tables, rest)?;
     let pair = IndexPair::new(alloc, target, source)?;
     Ok((Argument::Pair(pair), rest))
 }
@@ -73,7 +73,7 @@ fn init_table<'p, 'a>(
         result }
 {
     if are_indices(cursor) {
-        index(tables, cursor)
+        index(Space::Table, tables, cursor)
     } else {
         Ok((0, cursor))
     }
@@ -92,7 +92,7 @@ pub(crate) fn init<'p, 'a>(
         result }
 {
     let (table, rest) = init_table(tables, cursor)?;
-    let (elements, rest) = index(elems, rest)?;
+    let (elements, rest) = index(Space::Elem, elems, rest)?;
     let pair = IndexPair::new(alloc, elements, table)?;
     Ok((Argument::Pair(pair), rest))
 }

@@ -3,6 +3,7 @@ ghost use Rattle.std.specs.Prelude.{◌≡◌, ◌<◌, ◌^◌, [], true, false
 ghost use Rattle.std.specs.Prelude.{length, map, slice_get, IfOk, IfSome, MatchOption, MatchResult};
 ghost use Rattle.wat_module_ast.specs.Grammar as grammar;
 ghost use Rattle.wat_module_ast.specs.declared.instruction.Argument.TheVariants as argument;
+ghost use Rattle.wat_module_ast.specs.declared.error.Space.TheVariants as spaces;
 ghost use Rattle.wat_module_tokens.specs.TokenCursor.{terminals_of};
 ghost use Rattle.wat_module_instructions.specs.Parts.{Faults, IsListed, NotListed, ReadsAs};
 ghost use Rattle.wat_module_instructions.specs.Parts.{ReadsExactly};
@@ -14,7 +15,7 @@ use crate::faults::{fault, unexpected};
 use crate::names::IndexedNames;
 use crate::reading::{Scope, after, index, value_type};
 use std::alloc::{AllocError, Global};
-use wat_module_ast::error::{Fault, FaultKind, ParseFailure};
+use wat_module_ast::error::{Expected, Fault, FaultKind, ParseFailure, Space};
 use wat_module_ast::instruction::{Argument, ValueType};
 use wat_module_ast::types::{
     BoxedUse, FunctionType, IndirectCall, SelectTypes, TypeUse, same_type, type_at_index,
@@ -126,13 +127,16 @@ fn in_group<'p, 'a>(
                     cursor: rest,
                 })
             }
-            None => Err(ParseFailure::Text(fault(FaultKind::UnknownWord, cursor))),
+            None => {
+                let kind = FaultKind::UnknownWord(Expected::ValueType);
+                Err(ParseFailure::Text(fault(kind, cursor)))
+            }
         },
         Some((DecodedToken::Close, rest)) => Ok(GroupProgress {
             is_inside: false,
             cursor: rest,
         }),
-        _ => Err(ParseFailure::Text(unexpected(cursor))),
+        _ => Err(ParseFailure::Text(unexpected(Expected::ValueTypeOrClose, cursor))),
     }
 }
 
@@ -187,11 +191,11 @@ fn indexed_use<'p, 'a>(
 ) -> Result<(TypeUse, TokenCursor<'p, 'a>), ParseFailure<'p, 'a>>
     ensures is { ReadsAs use_of
         (grammar.indexed_use (scope_of scope.now).types (terminals_of cursor.entry)
-        (grammar.index (scope_of scope.now).types.names (terminals_of cursor.entry)))
+        (grammar.index spaces.Type (scope_of scope.now).types.names (terminals_of cursor.entry)))
         result }
     ensures small { IfOk result (λ r. spec.index_or_zero (use_of r.0) < 2 ^ 63) }
 {
-    let (index, rest) = index(scope.type_names, cursor)?;
+    let (index, rest) = index(Space::Type, scope.type_names, cursor)?;
     closed_use(alloc, scope, index, cursor, rest)
 }
 
@@ -218,7 +222,7 @@ fn closed_use<'p, 'a>(
                 assumed_use(alloc, rest)
             }
         }
-        _ => Err(ParseFailure::Text(unexpected(cursor))),
+        _ => Err(ParseFailure::Text(unexpected(Expected::Close, cursor))),
     }
 }
 
@@ -253,7 +257,7 @@ fn typed_use<'p, 'a>(
 {
     match type_at_index(types, index) {
         Some(of) => agreed(alloc, index, of, all, cursor),
-        None => Err(ParseFailure::Text(fault(FaultKind::UnknownName, all))),
+        None => Err(ParseFailure::Text(fault(FaultKind::UnknownName(Space::Type), all))),
     }
 }
 
@@ -296,8 +300,8 @@ pub(crate) fn table_index<'p, 'a>(
         result }
 {
     match cursor.first() {
-        Some((DecodedToken::Integer(_, _), _)) => index(tables, cursor),
-        Some((DecodedToken::Id(_), _)) => index(tables, cursor),
+        Some((DecodedToken::Integer(_, _), _)) => index(Space::Table, tables, cursor),
+        Some((DecodedToken::Id(_), _)) => index(Space::Table, tables, cursor),
         _ => Ok((0, cursor)),
     }
 }

@@ -6,11 +6,11 @@ ghost use Rattle.wat_module_tokens.specs.TokenCursor.{terminals_of};
 ghost use Rattle.wat_module_instructions.specs.Parts.{Faults, IsIndex, IsLane, ReadsAs};
 ghost use Rattle.wat_module_instructions.specs.Parts.{ReadsExactly};
 
-use crate::faults::{fault, unexpected};
+use crate::faults::{fault, integer_range, unexpected};
 use crate::floats::{float_32, float_64};
 use crate::memory::{align_at, offset_at};
 use std::alloc::Global;
-use wat_module_ast::error::{Fault, FaultKind, ParseFailure};
+use wat_module_ast::error::{Expected, Fault, FaultKind, ParseFailure, Range};
 use wat_module_ast::instruction::Argument;
 use wat_module_ast::vectors::{Lane, VectorBytes};
 use wat_module_tokens::stream::TokenCursor;
@@ -27,10 +27,10 @@ fn lane_index<'p, 'a>(
             if n < 0x100 {
                 Ok((n as u8, rest))
             } else {
-                Err(fault(FaultKind::OutOfRange, cursor))
+                Err(fault(FaultKind::OutOfRange(Range::Unsigned(0x80)), cursor))
             }
         }
-        _ => Err(unexpected(cursor)),
+        _ => Err(unexpected(Expected::LaneIndex, cursor)),
     }
 }
 
@@ -164,9 +164,9 @@ fn integer<'p, 'a>(
     match cursor.first() {
         Some((DecodedToken::Integer(sign, size), rest)) => match integer_bits(half, sign, size) {
             Some(n) => Ok((n, rest)),
-            None => Err(fault(FaultKind::OutOfRange, cursor)),
+            None => Err(fault(FaultKind::OutOfRange(integer_range(half, sign)), cursor)),
         },
-        _ => Err(unexpected(cursor)),
+        _ => Err(unexpected(Expected::Integer, cursor)),
     }
 }
 
@@ -323,8 +323,8 @@ pub(crate) fn constant<'p, 'a>(
     match cursor.first() {
         Some((DecodedToken::Word(word), rest)) => match shape(word) {
             Some(lane) => vector(alloc, lane, rest),
-            None => Err(ParseFailure::Text(fault(FaultKind::UnknownWord, cursor))),
+            None => Err(ParseFailure::Text(fault(FaultKind::UnknownWord(Expected::Shape), cursor))),
         },
-        _ => Err(ParseFailure::Text(unexpected(cursor))),
+        _ => Err(ParseFailure::Text(unexpected(Expected::Shape, cursor))),
     }
 }

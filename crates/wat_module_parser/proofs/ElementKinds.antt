@@ -1,7 +1,10 @@
 -- Parser and grammar agree on element segments and on the inline elements of tables.
 use Rattle.std.proofs.Common.{◌≡◌, ◌<◌, ◌≤◌, ℕ, zero, suc, Bool, true, false, List, [], ◌∷◌, length, Option, Some, None, Ok, Err, refl, sym, ap, subst, ◌∙◌, arith}
-use Rattle.std.specs.Prelude.{if◌then◌else◌, bytes_eq, codes}
-use Rattle.wat_module_ast.specs.declared.error.FaultKind.TheVariants.{UnknownWord, OutOfRange}
+use Rattle.std.specs.Prelude.{◌^◌, if◌then◌else◌, bytes_eq, codes}
+use Rattle.wat_module_ast.specs.declared.error.Expected.TheVariants as expected
+use Rattle.wat_module_ast.specs.declared.error.Range.TheVariants as range
+use Rattle.wat_module_ast.specs.declared.error.Space.TheVariants as kind
+use Rattle.wat_module_ast.specs.declared.error.FaultKind.TheVariants.{Unexpected, OutOfRange}
 use Rattle.wat_module_ast.specs.declared.instruction.Instruction.{Instruction}
 use Rattle.wat_module_tokens.specs.declared.token.Sign.TheVariants as sign
 use Rattle.wat_module_ast.specs.Grammar.{Context, Folded, index, label_of, past, reference_type}
@@ -97,8 +100,8 @@ one_function_inv : (q : Read ℕ) (es : Elements) (us : List Terminal) → Gives
 one_function_inv (Ok (x, ts)) es us h = (x, ap (λ y. Ok (x, y)) h.1, sym h.0)
 one_function_inv (Err f) es us h = absurd h
 
-function_by : (context : Context) (ts : List Terminal) (es : Elements) (us : List Terminal) → Gives (one_function (index context.funcs ts)) es us → FunctionIs context ts es us
-function_by context ts es us h = let (x, e, k) = one_function_inv (index context.funcs ts) es us h in subst (λ y. FunctionIs context ts y us) (sym k) (by_function (index_sound context.funcs ts x us (gives_of _ x us e)))
+function_by : (context : Context) (ts : List Terminal) (es : Elements) (us : List Terminal) → Gives (one_function (index kind.Func context.funcs ts)) es us → FunctionIs context ts es us
+function_by context ts es us h = let (x, e, k) = one_function_inv (index kind.Func context.funcs ts) es us h in subst (λ y. FunctionIs context ts y us) (sym k) (by_function (index_sound kind.Func context.funcs ts x us (gives_of _ x us e)))
 
 function_sound : (context : Context) (ts : List Terminal) (es : Elements) (us : List Terminal) → Brings (function_item context ts) es us → FunctionIs context ts es us
 unfolding function_item
@@ -114,8 +117,8 @@ function_sound context (Other ∷ ts) es us h = absurd h
 
 function_complete : (context : Context) (ts : List Terminal) (es : Elements) (us : List Terminal) → FunctionIs context ts es us → Brings (function_item context ts) es us
 unfolding function_item
-function_complete context _ _ us (by_function (by_number {n = n} e)) = gives_of (one_function (index context.funcs (Integer sign.Absent n ∷ us))) (ref_func n ∷ []) us (ap one_function (index_complete context.funcs (Integer sign.Absent n ∷ us) n us (by_number e)))
-function_complete context _ _ us (by_function (by_identifier {x = y} {n = n} e)) = gives_of (one_function (index context.funcs (Id y ∷ us))) (ref_func n ∷ []) us (ap one_function (index_complete context.funcs (Id y ∷ us) n us (by_identifier e)))
+function_complete context _ _ us (by_function (by_number {n = n} e)) = gives_of (one_function (index kind.Func context.funcs (Integer sign.Absent n ∷ us))) (ref_func n ∷ []) us (ap one_function (index_complete kind.Func context.funcs (Integer sign.Absent n ∷ us) n us (by_number e)))
+function_complete context _ _ us (by_function (by_identifier {x = y} {n = n} e)) = gives_of (one_function (index kind.Func context.funcs (Id y ∷ us))) (ref_func n ∷ []) us (ap one_function (index_complete kind.Func context.funcs (Id y ∷ us) n us (by_identifier e)))
 
 function_takes : (context : Context) (ts : List Terminal) (es : Elements) (us : List Terminal) → FunctionIs context ts es us → length us < length ts
 function_takes context ts _ us (by_function {x = x} n) = (index_pass context.funcs ts x us n).short
@@ -131,7 +134,7 @@ functions_keep context ts es us m = record { short = many_takes (FunctionIs cont
 
 -- Lists of elements.
 
-func_sound : (context : Context) (w : List ℕ) (ts : List Terminal) (e : ReferenceType × Elements) (us : List Terminal) (b : Bool) → bytes_eq w (codes "func") ≡ b → Gives (if b then and_then (all (function_item context) ts) (λ es us. Ok ((reference.Func, es), us)) else Err (UnknownWord, Word w ∷ ts)) e us → ElementsAre context (Word w ∷ ts) e.0 e.1 us
+func_sound : (context : Context) (w : List ℕ) (ts : List Terminal) (e : ReferenceType × Elements) (us : List Terminal) (b : Bool) → bytes_eq w (codes "func") ≡ b → Gives (if b then and_then (all (function_item context) ts) (λ es us. Ok ((reference.Func, es), us)) else Err (Unexpected expected.ElementList, Word w ∷ ts)) e us → ElementsAre context (Word w ∷ ts) e.0 e.1 us
 func_sound context w ts e us true k g =
     let (es, xs, e1, g1) = and_then_inv (all (function_item context) ts) (λ es us. Ok ((reference.Func, es), us)) e us g in
     subst (λ x. ElementsAre context (Word w ∷ ts) e.0 e.1 x) g1.1
@@ -222,10 +225,10 @@ said_sound : Laws → (types : Types) (context : Context) (w : List ℕ) (ts : L
 said_sound laws types context w ts fs r e g =
     let l = (label_of ts).0 in
     let hs = (label_of ts).1 in
-    let (i, os, e1, g1) = and_then_inv (used_at (codes "table") context.tables hs) (λ i us. and_then (expression_at (codes "offset") context us) (λ is vs. elem_list context l (Active (target i is)) vs)) fs r g in
+    let (i, os, e1, g1) = and_then_inv (used_at (codes "table") kind.Table context.tables hs) (λ i us. and_then (expression_at (codes "offset") context us) (λ is vs. elem_list context l (Active (target i is)) vs)) fs r g in
     let (is, bs, e2, g2) = and_then_inv (expression_at (codes "offset") context os) (λ is vs. elem_list context l (Active (target i is)) vs) fs r g1 in
     let k = elem_list_sound laws context l (Active (target i is)) bs fs r g2 in
-    subst (λ y. FieldIs types context (Open ∷ Word w ∷ ts) y r) k.is (by_active_elem e (used_sound (codes "table") context.tables hs i os (gives_of _ i os e1)) (expression_sound laws (codes "offset") context os is bs (gives_of _ is bs e2)) k.list)
+    subst (λ y. FieldIs types context (Open ∷ Word w ∷ ts) y r) k.is (by_active_elem e (used_sound (codes "table") kind.Table context.tables hs i os (gives_of _ i os e1)) (expression_sound laws (codes "offset") context os is bs (gives_of _ is bs e2)) k.list)
 
 active_elem_sound : Laws → (types : Types) (context : Context) (w : List ℕ) (ts : List Terminal) (fs : List Field) (r : List Terminal) (o : Option (List Terminal)) → w ≡ codes "elem" → Gives (active_elem context (label_of ts).0 o (label_of ts).1) fs r → FieldIs types context (Open ∷ Word w ∷ ts) fs r
 active_elem_sound laws types context w ts fs r None e g =
@@ -309,7 +312,7 @@ pub active_elem_complete : Laws → (context : Context) (l : Label) (hs os bs : 
 active_elem_complete laws context l _ os bs i is t es r (by_use {w = w} {ts = us} e n) x k =
     let hs = Open ∷ Word w ∷ us in
     at_open context l hs (Word w ∷ us) refl ∙ ap (λ y. active_elem context l y hs) (after_is (codes "table") w us e)
-    ∙ ap (λ q. and_then q (λ i us. and_then (expression_at (codes "offset") context us) (λ is vs. elem_list context l (Active (target i is)) vs))) (used_complete (codes "table") context.tables hs i os (by_use e n) (ends_expression laws (codes "table") (codes "offset") table_is_none refl context os is bs x))
+    ∙ ap (λ q. and_then q (λ i us. and_then (expression_at (codes "offset") context us) (λ is vs. elem_list context l (Active (target i is)) vs))) (used_complete (codes "table") kind.Table context.tables hs i os (by_use e n) (ends_expression laws (codes "table") (codes "offset") table_is_none refl context os is bs x))
     ∙ ap (λ q. and_then q (λ is vs. elem_list context l (Active (target i is)) vs)) (expression_complete laws (codes "offset") offset_is_none context os is bs x) ∙ elem_list_complete laws context l (Active (target i is)) bs t es r k
 active_elem_complete laws context l hs _ bs _ is t es r by_no_use x k =
     let b = begins_list context bs t es (Close ∷ r) k in first_complete laws context l hs is bs x ∙ first_list context l (Active (target 0 is)) bs b.w b.us b.is ∙ elem_list_complete laws context l (Active (target 0 is)) bs t es r k
@@ -338,7 +341,7 @@ either_sound laws context (Text v ∷ ts) es us e = functions_sound context (Tex
 either_sound laws context (Float narrow wide ∷ ts) es us e = functions_sound context (Float narrow wide ∷ ts) es us e
 either_sound laws context (Other ∷ ts) es us e = functions_sound context (Other ∷ ts) es us e
 
-table_with_sound : (l : Label) (ns : List (List ℕ)) (t : ReferenceType) (xs : List Terminal) (es : Elements) (ts : List Terminal) (fs : List Field) (r : List Terminal) (b : Bool) → is_u32 (length es) ≡ b → Gives (if b then Ok (Table l ns (table_of t es) (Some es) ∷ [], ts) else Err (OutOfRange, xs)) fs r
+table_with_sound : (l : Label) (ns : List (List ℕ)) (t : ReferenceType) (xs : List Terminal) (es : Elements) (ts : List Terminal) (fs : List Field) (r : List Terminal) (b : Bool) → is_u32 (length es) ≡ b → Gives (if b then Ok (Table l ns (table_of t es) (Some es) ∷ [], ts) else Err (OutOfRange (range.Unsigned (2 ^ 31)), xs)) fs r
     → (is_u32 (length es) ≡ true) × (Table l ns (table_of t es) (Some es) ∷ [] ≡ fs) × (ts ≡ r)
 table_with_sound l ns t xs es ts fs r true e g = (e, g.0, g.1)
 table_with_sound l ns t xs es ts fs r false e g = absurd g
@@ -382,7 +385,7 @@ pub table_word_complete : (context : Context) (l : Label) (ns : List (List ℕ))
 unfolding table_at
 table_word_complete context l ns u v hs t es r k e q low =
     ap (λ o. table_by context l ns o (Word u ∷ Open ∷ Word v ∷ hs) (Open ∷ Word v ∷ hs)) k ∙ ap (λ o. table_open context l ns t o (Open ∷ Word v ∷ hs)) (after_is (codes "elem") v hs e)
-    ∙ ap (λ q. and_then q (λ es us. and_then (closing es (skip_two_closes us)) (λ es vs. table_with l ns t hs es vs))) q ∙ ap (λ (b : Bool). if b then Ok (Table l ns (table_of t es) (Some es) ∷ [], r) else Err (OutOfRange, hs)) low
+    ∙ ap (λ q. and_then q (λ es us. and_then (closing es (skip_two_closes us)) (λ es vs. table_with l ns t hs es vs))) q ∙ ap (λ (b : Bool). if b then Ok (Table l ns (table_of t es) (Some es) ∷ [], r) else Err (OutOfRange (range.Unsigned (2 ^ 31)), hs)) low
 
 pub limits_first : (context : Context) (l : Label) (ns : List (List ℕ)) (hs : List Terminal) (limits : Limits) (us : List Terminal) → LimitsAre hs limits us → table_at context l ns hs ≡ table_limits l ns hs
 unfolding table_at

@@ -2,7 +2,9 @@
 use Rattle.std.proofs.Common.{◌≡◌, ◌<◌, ◌≤◌, ℕ, suc, Bool, true, false, List, [], ◌∷◌, ◌++◌, length, map, Option, Some, None, Ok, Err, refl, sym, ap, subst, ◌∙◌, arith}
 use Rattle.std.specs.Prelude.{if◌then◌else◌, bytes_eq, codes, slice_get}
 use Rattle.std.specs.Str.{is_utf8}
-use Rattle.wat_module_ast.specs.declared.error.FaultKind.TheVariants.{UnknownWord, Duplicate, NotUtf8, OtherType}
+use Rattle.wat_module_ast.specs.declared.error.Expected.TheVariants as expected
+use Rattle.wat_module_ast.specs.declared.error.Space.TheVariants as kind
+use Rattle.wat_module_ast.specs.declared.error.FaultKind.TheVariants.{UnknownWord, NotUtf8, OtherType}
 use Rattle.wat_module_ast.specs.declared.instruction.Instruction.{Instruction}
 use Rattle.wat_module_ast.specs.Grammar.{Context, Body, index, label_of, reference_type}
 use Rattle.wat_module_instructions.specs.Law.{past}
@@ -16,7 +18,8 @@ use Rattle.wat_module_ast.specs.declared.instruction.ReferenceType.{ReferenceTyp
 use Rattle.wat_module_ast.specs.declared.instruction.ReferenceType.TheVariants as reference
 use Rattle.wat_module_ast.specs.Fields.{Many, Group, InlineExport, IndexIs, by_number, by_identifier, LimitsAre, TypeUseIs, by_lists, by_index, by_both, by_unknown, ExternIs, by_type_use, by_table_type, by_memory_type, by_global_type, Variable, NamedUse, named_use, function_type, ExternType, FuncType, OfTable, OfMemory, OfGlobal, extern_space, Definition, definition, Field, TypeField, Import, Func, Table, Memory, Global, Export, Start, FieldIs, by_type, by_import, by_inline_import, by_func, by_table, by_memory, by_global, by_export, by_start, name_of, names_of, unnamed, with_locals, without_names, space_of, Data, StringIs, target, Elem, Passive, Active, Declarative, Elements, table_of, is_u32, by_table_items, by_table_functions, by_passive_elem, by_declarative_elem, by_active_elem, by_function_elem, by_memory_data, by_passive_data, by_active_data}
 use Rattle.wat_module_ast.specs.Names.{are_distinct}
-use Rattle.wat_module_parser.specs.Reading.{and_then, after, all, closed, closing, utf8_text, export, export_item, group_item, group, function, func_at, locals, instructions, agreed, lists_after, assumed_use, either_use, listed_use, indexed_use, use_by, use_at, limits_at, table_type_at, table_limits, table_open, table_by, table_at, elem_at, memory_type, memory_by, memory_at, segment_at, data_at, global_type_at, global_at, defined, import_names, func_type, extern_at, imported, inline_import, item_by, item_at, import_by, import_word, import_open, import_at, type_by, type_at, type_field, skip_two_closes, external_by, external_word, external_at, export_at, start_at, field_by, field, field_item}
+use Rattle.wat_module_parser.specs.Reading.{and_then, after, all, closed, closing, utf8_text, export, export_item, group_item, group, function, func_at, locals, instructions, agreed, lists_after, assumed_use, either_use, listed_use, indexed_use, use_by, use_at, limits_at, table_type_at, table_limits, table_open, table_by, table_at, elem_at, memory_type, memory_by, memory_at, segment_at, data_at, global_type_at, global_at, defined, import_names, func_type, extern_at, imported, inline_import, item_by, item_at, import_by, import_word, import_open, import_at, type_by, type_at, type_field, skip_two_closes, external_by, external_word, external_at, export_at, start_at, field_by, field, field_item, kind_of}
+use Rattle.wat_module_parser.specs.Places.{duplicate_variable}
 use Rattle.wat_module_parser.proofs.SameTypes.{type_is, type_same}
 use Rattle.wat_module_parser.proofs.Headers.{Ends, IsNoInstruction, Listed, NoLists, lists_sound, lists_complete, ends_lists, ends_groups, ends_body, item_ends, other_word, export_is_none, import_is_none, type_is_none, param_is_none, result_is_none, local_is_none}
 use Rattle.wat_module_parser.proofs.Items.{exports_read, export_past, groups_read, group_past, group_takes, word_is, closing_inv, closed_is, utf8_inv, begins, after_is}
@@ -65,10 +68,10 @@ either_sound types w hs vs i u us false q e n g = unknown_sound types w hs vs i 
 
 indexed_use_sound : (types : Types) (w : List ℕ) (hs : List Terminal) (u : NamedUse) (us : List Terminal) → w ≡ codes "type" → Gives (indexed_use types hs) u us → TypeUseIs types (Open ∷ Word w ∷ hs) u us
 indexed_use_sound types w hs u us e g =
-    let (i, xs, e1, g1) = and_then_inv (index types.names hs) (λ i us. and_then (closing i (closed us)) (λ i vs. either_use types i hs vs)) u us g in
+    let (i, xs, e1, g1) = and_then_inv (index kind.Type types.names hs) (λ i us. and_then (closing i (closed us)) (λ i vs. either_use types i hs vs)) u us g in
     let (j, vs, e2, g2) = and_then_inv (closing i (closed xs)) (λ i vs. either_use types i hs vs) u us g1 in
     let (same, shut) = closing_inv i j (closed xs) vs (gives_of _ j vs e2) in
-    let n = index_sound types.names hs i xs (gives_of _ i xs e1) in
+    let n = index_sound kind.Type types.names hs i xs (gives_of _ i xs e1) in
     either_sound types w hs vs j u us types.are_known refl e (subst (λ x. IndexIs types.names hs x (Close ∷ vs)) same (subst (λ x. IndexIs types.names hs i x) (closed_is xs vs shut) n)) g2
 
 use_sound : (types : Types) (ts : List Terminal) (u : NamedUse) (us : List Terminal) → Gives (use_at types ts) u us → TypeUseIs types ts u us
@@ -93,7 +96,7 @@ at_index : (types : Types) (w : List ℕ) (ts us : List Terminal) (i : ℕ) → 
 unfolding use_at
 at_index types w ts us i e n =
     ap (λ o. use_by types o (Open ∷ Word w ∷ ts)) (after_is (codes "type") w ts e)
-    ∙ ap (λ q. and_then q (λ i us. and_then (closing i (closed us)) (λ i vs. either_use types i ts vs))) (index_complete types.names ts i (Close ∷ us) n)
+    ∙ ap (λ q. and_then q (λ i us. and_then (closing i (closed us)) (λ i vs. either_use types i ts vs))) (index_complete kind.Type types.names ts i (Close ∷ us) n)
 
 indexed_complete : (types : Types) (w : List ℕ) (ts us : List Terminal) (i : ℕ) (t : FunctionType) (u : NamedUse) (ws : List Terminal) → types.are_known ≡ true → w ≡ codes "type" → IndexIs types.names ts i (Close ∷ us) → slice_get types.types i ≡ Some t → lists_after i (Some t) ts us ≡ Ok (u, ws) → use_at types (Open ∷ Word w ∷ ts) ≡ Ok (u, ws)
 indexed_complete types w ts us i t u ws q e n s h =
@@ -144,7 +147,7 @@ ends_use v a b c types _ _ us (by_unknown {w = w} {ts = ts} q e k x y) h = other
 
 -- What is imported.
 
-func_type_sound : (types : Types) (ts us : List Terminal) (u : NamedUse) (t : ExternType) (r : List Terminal) (b : Bool) → TypeUseIs types ts u us → are_distinct (map name_of u.params) ≡ b → Gives (if b then Ok (FuncType (without_names u), us) else Err (Duplicate, ts)) t r → ExternIs types space.Func ts t r
+func_type_sound : (types : Types) (ts us : List Terminal) (u : NamedUse) (t : ExternType) (r : List Terminal) (b : Bool) → TypeUseIs types ts u us → are_distinct (map name_of u.params) ≡ b → Gives (if b then Ok (FuncType (without_names u), us) else Err (duplicate_variable ts)) t r → ExternIs types space.Func ts t r
 func_type_sound types ts us u t r true k d g = subst (λ x. ExternIs types space.Func ts x r) g.0 (subst (λ x. ExternIs types space.Func ts (FuncType (without_names u)) x) g.1 (by_type_use k d))
 func_type_sound types ts us u t r false k d g = absurd g
 
@@ -167,7 +170,7 @@ no_use us = record { lists = record { no_param = refl; no_result = refl }; no_ty
 extern_complete : (types : Types) (s : IndexSpace) (ts : List Terminal) (t : ExternType) (us vs : List Terminal) → us ≡ Close ∷ vs → ExternIs types s ts t us → extern_at types s ts ≡ Ok (t, us)
 unfolding extern_at
 extern_complete types _ ts _ us vs c (by_type_use {u = u} k d) =
-    ap (λ q. and_then q (λ u us. func_type u ts us)) (use_complete types ts u us k (subst (λ x. NoUse x) (sym c) (no_use vs))) ∙ ap (λ (b : Bool). if b then Ok (FuncType (without_names u), us) else Err (Duplicate, ts)) d
+    ap (λ q. and_then q (λ u us. func_type u ts us)) (use_complete types ts u us k (subst (λ x. NoUse x) (sym c) (no_use vs))) ∙ ap (λ (b : Bool). if b then Ok (FuncType (without_names u), us) else Err (duplicate_variable ts)) d
 extern_complete types _ ts _ us vs c (by_table_type {v = v} {limits = l} {t = t} a b) =
     let k : IsTableType ts (record { limits = l; element = t }) us = record { v = v; limits = a; element = b } in ap (λ q. and_then q (λ t us. Ok (OfTable t, us))) (table_type_complete ts (record { limits = l; element = t }) us k)
 extern_complete types _ ts _ us vs c (by_memory_type {limits = l} a) =
@@ -212,25 +215,25 @@ import_names_complete m n us e f = ap (λ q. and_then q (λ m us. and_then (utf8
 
 -- What is parsed matches the grammar.
 
-body_sound : Laws → (context : Context) (ps ls : List Variable) (ds : List Terminal) (is : List Instruction) (r : List Terminal) → instructions context ps ls ds ≡ Ok (is, r) → (are_distinct (map name_of (ps ++ ls)) ≡ true) × Body (with_locals context (ps ++ ls)) ds is r
+body_sound : Laws → (context : Context) (ps ls : List Variable) (hs ds : List Terminal) (is : List Instruction) (r : List Terminal) → instructions context ps ls hs ds ≡ Ok (is, r) → (are_distinct (map name_of (ps ++ ls)) ≡ true) × Body (with_locals context (ps ++ ls)) ds is r
 unfolding instructions
-body_sound laws context ps ls ds is r e = by (are_distinct (map name_of (ps ++ ls))) refl (gives_of _ is r e)
+body_sound laws context ps ls hs ds is r e = by (are_distinct (map name_of (ps ++ ls))) refl (gives_of _ is r e)
   where
-    by : (b : Bool) → are_distinct (map name_of (ps ++ ls)) ≡ b → Gives (if b then machine.body (with_locals context (ps ++ ls)) ds else Err (Duplicate, ds)) is r → (are_distinct (map name_of (ps ++ ls)) ≡ true) × Body (with_locals context (ps ++ ls)) ds is r
+    by : (b : Bool) → are_distinct (map name_of (ps ++ ls)) ≡ b → Gives (if b then machine.body (with_locals context (ps ++ ls)) ds else Err (duplicate_variable hs)) is r → (are_distinct (map name_of (ps ++ ls)) ≡ true) × Body (with_locals context (ps ++ ls)) ds is r
     by true d g = (d, (laws.same (with_locals context (ps ++ ls)) ds is r).0 (of_gives _ is r g))
     by false d g = absurd g
 
-body_complete : Laws → (context : Context) (ps ls : List Variable) (ds : List Terminal) (is : List Instruction) (r : List Terminal) → are_distinct (map name_of (ps ++ ls)) ≡ true → Body (with_locals context (ps ++ ls)) ds is r → instructions context ps ls ds ≡ Ok (is, r)
+body_complete : Laws → (context : Context) (ps ls : List Variable) (hs ds : List Terminal) (is : List Instruction) (r : List Terminal) → are_distinct (map name_of (ps ++ ls)) ≡ true → Body (with_locals context (ps ++ ls)) ds is r → instructions context ps ls hs ds ≡ Ok (is, r)
 unfolding instructions
-body_complete laws context ps ls ds is r d b = ap (λ (x : Bool). if x then machine.body (with_locals context (ps ++ ls)) ds else Err (Duplicate, ds)) d ∙ (laws.same (with_locals context (ps ++ ls)) ds is r).1 b
+body_complete laws context ps ls hs ds is r d b = ap (λ (x : Bool). if x then machine.body (with_locals context (ps ++ ls)) ds else Err (duplicate_variable hs)) d ∙ (laws.same (with_locals context (ps ++ ls)) ds is r).1 b
 
 func_sound : Laws → (types : Types) (context : Context) (w : List ℕ) (ts : List Terminal) (ns : List (List ℕ)) (hs : List Terminal) (fs : List Field) (r : List Terminal) → w ≡ codes "func" → Many InlineExport (label_of ts).1 ns hs → Gives (func_at types context (label_of ts).0 ns hs) fs r → FieldIs types context (Open ∷ Word w ∷ ts) fs r
 func_sound laws types context w ts ns hs fs r e m g =
     let l = (label_of ts).0 in
-    let (u, bs, e1, g1) = and_then_inv (use_at types hs) (λ u us. and_then (locals us) (λ ls vs. and_then (instructions context u.params ls vs) (λ is xs. Ok (Func (function l ns u ls is) ∷ [], xs)))) fs r g in
-    let (ls, ds, e2, g2) = and_then_inv (locals bs) (λ ls vs. and_then (instructions context u.params ls vs) (λ is xs. Ok (Func (function l ns u ls is) ∷ [], xs))) fs r g1 in
-    let (is, us, e3, g3) = and_then_inv (instructions context u.params ls ds) (λ is xs. Ok (Func (function l ns u ls is) ∷ [], xs)) fs r g2 in
-    let b = body_sound laws context u.params ls ds is us e3 in
+    let (u, bs, e1, g1) = and_then_inv (use_at types hs) (λ u us. and_then (locals us) (λ ls vs. and_then (instructions context u.params ls hs vs) (λ is xs. Ok (Func (function l ns u ls vs is) ∷ [], xs)))) fs r g in
+    let (ls, ds, e2, g2) = and_then_inv (locals bs) (λ ls vs. and_then (instructions context u.params ls hs vs) (λ is xs. Ok (Func (function l ns u ls vs is) ∷ [], xs))) fs r g1 in
+    let (is, us, e3, g3) = and_then_inv (instructions context u.params ls hs ds) (λ is xs. Ok (Func (function l ns u ls ds is) ∷ [], xs)) fs r g2 in
+    let b = body_sound laws context u.params ls hs ds is us e3 in
     let k = (all_sound (group_item (codes "local") true) (Group (codes "local") true) (groups_read (codes "local") true) ls bs ds e2).0 in
     subst (λ x. FieldIs types context (Open ∷ Word w ∷ ts) fs x) g3.1 (subst (λ x. FieldIs types context (Open ∷ Word w ∷ ts) x us) g3.0 (by_func e m (use_sound types hs u bs (gives_of _ u bs e1)) k b.0 b.1))
 
@@ -311,9 +314,9 @@ inline_sound types context s w v ts ns hs xs fs r e k b m g =
 -- what is exported, after `(` and its word
 external_by_sound : (types : Types) (context : Context) (w n v : List ℕ) (ts : List Terminal) (fs : List Field) (r : List Terminal) (o : Option IndexSpace) → w ≡ codes "export" → is_utf8 n ≡ true → space_of v ≡ o → Gives (external_by context n o (Word v ∷ ts) ts) fs r → FieldIs types context (Open ∷ Word w ∷ Text n ∷ Open ∷ Word v ∷ ts) fs r
 external_by_sound types context w n v ts fs r (Some s) e u k g =
-    let (i, us, read, end) = and_then_inv (index (names_of context s) ts) (λ i us. closing (Export n s i ∷ []) (skip_two_closes us)) fs r g in
+    let (i, us, read, end) = and_then_inv (index (kind_of s) (names_of context s) ts) (λ i us. closing (Export n s i ∷ []) (skip_two_closes us)) fs r g in
     let (same, shut) = closing_inv (Export n s i ∷ []) fs (skip_two_closes us) r end in
-    subst (λ x. FieldIs types context (Open ∷ Word w ∷ Text n ∷ Open ∷ Word v ∷ ts) x r) same (by_export e u k (subst (λ x. IndexIs (names_of context s) ts i x) (twice_closed_is us r shut) (index_sound (names_of context s) ts i us (gives_of _ i us read))))
+    subst (λ x. FieldIs types context (Open ∷ Word w ∷ Text n ∷ Open ∷ Word v ∷ ts) x r) same (by_export e u k (subst (λ x. IndexIs (names_of context s) ts i x) (twice_closed_is us r shut) (index_sound (kind_of s) (names_of context s) ts i us (gives_of _ i us read))))
 external_by_sound types context w n v ts fs r None e u k g = absurd g
 
 external_word_sound : (types : Types) (context : Context) (w n : List ℕ) (ts : List Terminal) (fs : List Field) (r : List Terminal) → w ≡ codes "export" → is_utf8 n ≡ true → Gives (external_word context n ts) fs r → FieldIs types context (Open ∷ Word w ∷ Text n ∷ Open ∷ ts) fs r
@@ -347,9 +350,9 @@ export_sound types context w ts fs r e g =
 
 start_sound : (types : Types) (context : Context) (w : List ℕ) (ts : List Terminal) (fs : List Field) (r : List Terminal) → w ≡ codes "start" → Gives (start_at context ts) fs r → FieldIs types context (Open ∷ Word w ∷ ts) fs r
 start_sound types context w ts fs r e g =
-    let (i, us, read, end) = and_then_inv (index context.funcs ts) (λ i us. closing (Start i ∷ []) (closed us)) fs r g in
+    let (i, us, read, end) = and_then_inv (index kind.Func context.funcs ts) (λ i us. closing (Start i ∷ []) (closed us)) fs r g in
     let (same, shut) = closing_inv (Start i ∷ []) fs (closed us) r end in
-    subst (λ x. FieldIs types context (Open ∷ Word w ∷ ts) x r) same (by_start e (subst (λ x. IndexIs context.funcs ts i x) (closed_is us r shut) (index_sound context.funcs ts i us (gives_of _ i us read))))
+    subst (λ x. FieldIs types context (Open ∷ Word w ∷ ts) x r) same (by_start e (subst (λ x. IndexIs context.funcs ts i x) (closed_is us r shut) (index_sound kind.Func context.funcs ts i us (gives_of _ i us read))))
 
 -- the word of an index space
 pub record IsSpaceWord (w : List ℕ) (s : Option IndexSpace) : Type 0 where
@@ -474,11 +477,11 @@ type_field_sound types context w ts fs r e g =
     subst (λ x. FieldIs types context (Open ∷ Word w ∷ ts) fs x) g1.1
     (subst (λ x. FieldIs types context (Open ∷ Word w ∷ ts) x us) g1.0 (subst (λ (x : Definition). FieldIs types context (Open ∷ Word w ∷ ts) (TypeField x.name x.type ∷ []) us) k.is f))
 
-elem_by_sound : Laws → (types : Types) (context : Context) (w : List ℕ) (ts : List Terminal) (fs : List Field) (r : List Terminal) (a : Bool) → bytes_eq w (codes "elem") ≡ a → Gives (if a then elem_at context (label_of ts) else Err (UnknownWord, Word w ∷ ts)) fs r → FieldIs types context (Open ∷ Word w ∷ ts) fs r
+elem_by_sound : Laws → (types : Types) (context : Context) (w : List ℕ) (ts : List Terminal) (fs : List Field) (r : List Terminal) (a : Bool) → bytes_eq w (codes "elem") ≡ a → Gives (if a then elem_at context (label_of ts) else Err (UnknownWord expected.Field, Word w ∷ ts)) fs r → FieldIs types context (Open ∷ Word w ∷ ts) fs r
 elem_by_sound laws types context w ts fs r true e g = elem_sound laws types context w ts fs r (word_is w (codes "elem") e) g
 elem_by_sound laws types context w ts fs r false e g = absurd g
 
-segment_sound : Laws → (types : Types) (context : Context) (w : List ℕ) (ts : List Terminal) (fs : List Field) (r : List Terminal) (a : Bool) → bytes_eq w (codes "data") ≡ a → Gives (if a then data_at context (label_of ts) else if bytes_eq w (codes "elem") then elem_at context (label_of ts) else Err (UnknownWord, Word w ∷ ts)) fs r → FieldIs types context (Open ∷ Word w ∷ ts) fs r
+segment_sound : Laws → (types : Types) (context : Context) (w : List ℕ) (ts : List Terminal) (fs : List Field) (r : List Terminal) (a : Bool) → bytes_eq w (codes "data") ≡ a → Gives (if a then data_at context (label_of ts) else if bytes_eq w (codes "elem") then elem_at context (label_of ts) else Err (UnknownWord expected.Field, Word w ∷ ts)) fs r → FieldIs types context (Open ∷ Word w ∷ ts) fs r
 segment_sound laws types context w ts fs r true e g = data_sound laws types context w ts fs r (word_is w (codes "data") e) g
 segment_sound laws types context w ts fs r false e g = elem_by_sound laws types context w ts fs r (bytes_eq w (codes "elem")) refl g
 
@@ -560,7 +563,7 @@ external_complete types context w n v ts s i r e u k f =
     (
     ap (λ q. and_then q (λ n us. external_at context n us)) (utf8_is n (Open ∷ Word v ∷ ts) u)
     ∙ ap (λ o. external_by context n o (Word v ∷ ts) ts) k
-    ∙ ap (λ q. and_then q (λ i us. closing (Export n s i ∷ []) (skip_two_closes us))) (index_complete (names_of context s) ts i (Close ∷ Close ∷ r) f)
+    ∙ ap (λ q. and_then q (λ i us. closing (Export n s i ∷ []) (skip_two_closes us))) (index_complete (kind_of s) (names_of context s) ts i (Close ∷ Close ∷ r) f)
     )
 
 import_complete : (types : Types) (context : Context) (w m n v : List ℕ) (ts : List Terminal) (s : IndexSpace) (t : ExternType) (r : List Terminal) → w ≡ codes "import" → is_utf8 m ≡ true → is_utf8 n ≡ true → space_of v ≡ Some s → ExternIs types s (label_of ts).1 t (Close ∷ Close ∷ r)
@@ -593,12 +596,12 @@ field_complete laws types context _ _ r (by_func {w = w} {ts = ts} {hs = hs} {bs
     let env = with_locals context (u.params ++ ls) in
     let ends = ends_use (codes "export") refl refl refl types hs u bs b (func_ends (codes "export") export_is_none refl env bs ds ls is r c k) in
     let none = ends_use (codes "import") refl refl refl types hs u bs b (func_ends (codes "import") import_is_none refl env bs ds ls is r c k) in
-    brings_item types context space.Func w ts ns hs (Func (function l ns u ls is) ∷ []) r (ap space_of e) a (no_export hs ends)
+    brings_item types context space.Func w ts ns hs (Func (function l ns u ls ds is) ∷ []) r (ap space_of e) a (no_export hs ends)
     (
     ap (λ o. item_by types context space.Func l ns o hs) none
-    ∙ ap (λ q. and_then q (λ u us. and_then (locals us) (λ ls vs. and_then (instructions context u.params ls vs) (λ is xs. Ok (Func (function l ns u ls is) ∷ [], xs))))) (use_complete types hs u bs b (func_no_use env bs ds ls is r c k))
-    ∙ ap (λ q. and_then q (λ ls vs. and_then (instructions context u.params ls vs) (λ is xs. Ok (Func (function l ns u ls is) ∷ [], xs)))) (locals_complete env bs ds ls is r c k)
-    ∙ ap (λ q. and_then q (λ is xs. Ok (Func (function l ns u ls is) ∷ [], xs))) (body_complete laws context u.params ls ds is r d k)
+    ∙ ap (λ q. and_then q (λ u us. and_then (locals us) (λ ls vs. and_then (instructions context u.params ls hs vs) (λ is xs. Ok (Func (function l ns u ls vs is) ∷ [], xs))))) (use_complete types hs u bs b (func_no_use env bs ds ls is r c k))
+    ∙ ap (λ q. and_then q (λ ls vs. and_then (instructions context u.params ls hs vs) (λ is xs. Ok (Func (function l ns u ls vs is) ∷ [], xs)))) (locals_complete env bs ds ls is r c k)
+    ∙ ap (λ q. and_then q (λ is xs. Ok (Func (function l ns u ls ds is) ∷ [], xs))) (body_complete laws context u.params ls hs ds is r d k)
     )
 field_complete laws types context _ _ r (by_table {w = w} {v = v} {ts = ts} {hs = hs} {names = ns} {limits = limits} {t = t} e a b c) =
     let l = (label_of ts).0 in
@@ -633,7 +636,7 @@ field_complete laws types context _ _ r (by_global {w = w} {ts = ts} {hs = hs} {
     ∙ ap (λ q. and_then q (λ is vs. Ok (Global l ns t is ∷ [], vs))) ((laws.same context bs is r).1 k)
     )
 field_complete laws types context _ _ r (by_export {w = w} {n = n} {v = v} {ts = ts} {s = s} {i = i} e u k f) = external_complete types context w n v ts s i r e u k f
-field_complete laws types context _ _ r (by_start {w = w} {ts = ts} {i = i} e f) = brings_word types context w (codes "start") ts (Start i ∷ []) r e (ap (λ q. and_then q (λ i us. closing (Start i ∷ []) (closed us))) (index_complete context.funcs ts i (Close ∷ r) f))
+field_complete laws types context _ _ r (by_start {w = w} {ts = ts} {i = i} e f) = brings_word types context w (codes "start") ts (Start i ∷ []) r e (ap (λ q. and_then q (λ i us. closing (Start i ∷ []) (closed us))) (index_complete kind.Func context.funcs ts i (Close ∷ r) f))
 field_complete laws types context _ _ r (by_passive_elem {w = w} {ts = ts} {t = t} {es = es} e k) = brings_word types context w (codes "elem") ts (Elem (label_of ts).0 Passive t es ∷ []) r e (passive_elem_complete laws context (label_of ts).0 (label_of ts).1 t es r k)
 field_complete laws types context _ _ r (by_declarative_elem {w = w} {v = v} {ts = ts} {ds = ds} {t = t} {es = es} e o d k) =
     brings_word types context w (codes "elem") ts (Elem (label_of ts).0 Declarative t es ∷ []) r e (declarative_elem_complete laws context (label_of ts).0 (label_of ts).1 v ds t es r o d k)

@@ -1,6 +1,7 @@
 -- Parser and grammar agree on what precedes the instructions of a function; no rule consumes tokens of the next one.
 use Rattle.std.proofs.Common.{◌≡◌, ℕ, Bool, true, false, List, ◌∷◌, Some, None, Ok, Err, refl, sym, ap, subst, ◌∙◌}
 use Rattle.std.specs.Prelude.{if◌then◌else◌, bytes_eq, codes}
+use Rattle.wat_module_ast.specs.declared.error.Expected.TheVariants as expected
 use Rattle.wat_module_ast.specs.declared.error.FaultKind.TheVariants.{UnknownWord}
 use Rattle.wat_module_ast.specs.declared.instruction.Instruction.{Instruction}
 use Rattle.wat_module_ast.specs.Grammar.{Context, Fault, Instructions, plain, structured}
@@ -18,7 +19,7 @@ Ends v ts = after v ts ≡ None
 
 -- The keyword is not an instruction.
 pub record IsNoInstruction (v : List ℕ) : Type 0 where
-  pub plain_not : (context : Context) (ls : List Label) (ts : List Terminal) → plain context ls (Word v ∷ ts) ≡ Err (UnknownWord, Word v ∷ ts)
+  pub plain_not : (context : Context) (ls : List Label) (ts : List Terminal) → plain context ls (Word v ∷ ts) ≡ Err (UnknownWord expected.Instruction, Word v ∷ ts)
   pub structured_not : structured v ≡ None
 
 pub export_is_none : IsNoInstruction (codes "export")
@@ -43,7 +44,7 @@ not_found v w ts false e f = refl
 
 plain_differs : (v : List ℕ) → IsNoInstruction v → (context : Context) (ls : List Label) (w : List ℕ) (ts : List Terminal) (x : Instruction × List Terminal) → plain context ls (Word w ∷ ts) ≡ Ok x → (b : Bool) → bytes_eq w v ≡ b → b ≡ false
 plain_differs v k context ls w ts x e true q =
-    let f : plain context ls (Word w ∷ ts) ≡ Err (UnknownWord, Word w ∷ ts) = subst (λ u. plain context ls (Word u ∷ ts) ≡ Err (UnknownWord, Word u ∷ ts)) (sym (word_is w v q)) (k.plain_not context ls ts) in cc
+    let f : plain context ls (Word w ∷ ts) ≡ Err (UnknownWord expected.Instruction, Word w ∷ ts) = subst (λ u. plain context ls (Word u ∷ ts) ≡ Err (UnknownWord expected.Instruction, Word u ∷ ts)) (sym (word_is w v q)) (k.plain_not context ls ts) in cc
 plain_differs v k context ls w ts x e false q = refl
 
 structured_differs : (v : List ℕ) → IsNoInstruction v → (w : List ℕ) (o : ℕ) → structured w ≡ Some o → (b : Bool) → bytes_eq w v ≡ b → b ≡ false

@@ -3,6 +3,7 @@ use Rattle.std.proofs.Common.{◌≡◌, ◌<◌, ℕ, suc, Bool, true, false, L
 use Rattle.std.specs.Prelude.{if◌then◌else◌, bytes_eq, codes}
 use Rattle.std.specs.Str.{is_utf8}
 use Rattle.std.proofs.lemmas.Slice.Eq.{bytes_eq-Decides}
+use Rattle.wat_module_ast.specs.declared.error.Expected.TheVariants as expected
 use Rattle.wat_module_ast.specs.declared.error.FaultKind.TheVariants.{Unexpected, NotUtf8}
 use Rattle.wat_module_ast.specs.declared.instruction.ValueType.{ValueType}
 use Rattle.wat_module_ast.specs.Grammar.{Fault, value_type}
@@ -196,7 +197,7 @@ named_one_sound word may x (Other ∷ ts) vs us m h v e = absurd h
 group_listed : (word : List ℕ) (may : Bool) (ts : List Terminal) (vs : List Variable) (us : List Terminal) → Gives (listed ts) vs us → Spells word may ts vs us
 group_listed word may ts vs us h v e = let (types, same, m) = listed_sound ts vs us h in subst (λ x. Group word may (Open ∷ Word v ∷ ts) x us) same (by_listed e m)
 
-group_id : (word : List ℕ) (may : Bool) (x : List ℕ) (ts : List Terminal) (vs : List Variable) (us : List Terminal) (b : Bool) → may ≡ b → Gives (if b then named_group x ts else Err (Unexpected, Id x ∷ ts)) vs us → Spells word may (Id x ∷ ts) vs us
+group_id : (word : List ℕ) (may : Bool) (x : List ℕ) (ts : List Terminal) (vs : List Variable) (us : List Terminal) (b : Bool) → may ≡ b → Gives (if b then named_group x ts else Err (Unexpected expected.ValueTypeOrClose, Id x ∷ ts)) vs us → Spells word may (Id x ∷ ts) vs us
 group_id word may x ts vs us true m h = named_one_sound word may x ts vs us m h
 group_id word may x ts vs us false m h = λ v e. absurd h
 
@@ -229,7 +230,7 @@ group_complete : (word : List ℕ) (may : Bool) (ts : List Terminal) (vs : List 
 unfolding group_item group
 group_complete word may _ _ us (by_named {v = v} {x = x} {w = w} {t = t} m e type) =
     begun_is (group may) word v (Id x ∷ Word w ∷ Close ∷ us) (variable (Some x) t ∷ []) us e
-    (gives_of _ (variable (Some x) t ∷ []) us (ap (λ (b : Bool). if b then named_group x (Word w ∷ Close ∷ us) else Err (Unexpected, Id x ∷ Word w ∷ Close ∷ us)) m ∙ ap (λ o. named_type x o (Word w ∷ Close ∷ us) (Close ∷ us)) type))
+    (gives_of _ (variable (Some x) t ∷ []) us (ap (λ (b : Bool). if b then named_group x (Word w ∷ Close ∷ us) else Err (Unexpected expected.ValueTypeOrClose, Id x ∷ Word w ∷ Close ∷ us)) m ∙ ap (λ o. named_type x o (Word w ∷ Close ∷ us) (Close ∷ us)) type))
 group_complete word may _ _ us (by_listed {ts = ts} {v = v} {types = types} e m) = begun_is (group may) word v ts (map unnamed types) us e (gives_of _ (map unnamed types) us (no_name may ts types us m ∙ listed_complete ts types us m))
 
 pub group_takes : (word : List ℕ) (may : Bool) (ts : List Terminal) (vs : List Variable) (us : List Terminal) → Group word may ts vs us → length us < length ts

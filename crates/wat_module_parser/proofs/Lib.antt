@@ -12,3 +12,8 @@ pub mod Modules
 pub mod Utf8
 pub mod Unnamed
 pub mod Listing
+pub mod NameMaps
+pub mod BlockLabels
+pub mod VariableNames
+pub mod FieldIndices
+pub mod NoLabels

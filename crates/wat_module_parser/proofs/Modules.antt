@@ -4,7 +4,9 @@ use Rattle.std.specs.Prelude.{if◌then◌else◌, bytes_eq, codes, nat_lt}
 use Rattle.std.specs.List.{flat_map}
 use Rattle.std.proofs.lemmas.Bool.Decides.{Decides-ltb}
 use Rattle.std.proofs.lemmas.Grind.{flat_map-append}
-use Rattle.wat_module_ast.specs.declared.error.FaultKind.TheVariants.{Duplicate, SecondStart, LateImport}
+use Rattle.wat_module_ast.specs.declared.error.Expected.{Expected}
+use Rattle.wat_module_ast.specs.declared.error.Expected.TheVariants as expected
+use Rattle.wat_module_parser.specs.Places.{duplicate_item, import_fault, start_fault}
 use Rattle.wat_module_ast.specs.Grammar.{Context, Fault, label_of}
 use Rattle.wat_module_tokens.specs.Terminals.{Terminal, Open, Close, Word, Id, Integer, Text, Float, Other}
 use Rattle.wat_module_ast.specs.declared.fields.IndexSpace.{IndexSpace}
@@ -16,7 +18,7 @@ use Rattle.wat_module_ast.specs.ImplicitTypes.{has_type, types_after, types_of, 
 use Rattle.wat_module_ast.specs.Modules.{FieldsAre, Module, by_module, by_fields, own_context, own_types}
 use Rattle.wat_module_ast.specs.Uses.{MoreTypesKeep, UnknownTypesBring, unknown}
 use Rattle.wat_module_parser.specs.Law.{ReadingIsGrammar}
-use Rattle.wat_module_parser.specs.Reading.{Read, after, all, export, export_item, elem_name_at, inline_elem, elem_after_type, data_name_at, inline_data, unnamed_by, field_item, fields_at, fields_by, fields_again, fields_or, all_by, all_types, defined_types, context_by, binding_by, import_binding, binding_at, definition_by, definition_at, type_at, whole, whole_by, ended, at_end, ended_by, ordered, starts, Before}
+use Rattle.wat_module_parser.specs.Reading.{Read, after, all, export, export_item, elem_name_at, inline_elem, elem_after_type, data_name_at, inline_data, unnamed_by, field_item, fields_at, fields_by, fields_again, fields_or, all_by, all_types, defined_types, context_by, binding_by, import_binding, binding_at, definition_by, definition_at, type_at, whole, whole_by, ended, at_end, ended_by, ordered, starts, Before, end_after}
 use Rattle.wat_module_parser.proofs.Starts.{inside_past}
 use Rattle.wat_module_parser.proofs.Headers.{item_ends, other_word}
 use Rattle.wat_module_parser.proofs.Items.{Finds, word_is, begins, after_is, exports_read}
@@ -228,9 +230,12 @@ context_is types ts fs k =
 
 -- The module.
 
+end_after_sound : (e : Expected) (gs fs : List Field) (ts : List Terminal) → end_after e gs ts ≡ Ok fs → (gs ≡ fs) × (ts ≡ [])
+end_after_sound e gs fs [] h = let k : gs ≡ fs = cc in (k, refl)
+end_after_sound e gs fs (t ∷ ts) h = cc
+
 ended_sound : (q : Read (List Field)) (fs : List Field) → ended q ≡ Ok fs → q ≡ Ok (fs, Close ∷ [])
-ended_sound (Ok (gs, Close ∷ [])) fs e = let k : gs ≡ fs = cc in ap (λ x. Ok (x, Close ∷ [])) k
-ended_sound (Ok (gs, Close ∷ t ∷ ts)) fs e = cc
+ended_sound (Ok (gs, Close ∷ ts)) fs e = let k = end_after_sound expected.End gs fs ts e in ap (λ x. Ok (x, Close ∷ ts)) k.0 ∙ ap (λ x. Ok (fs, Close ∷ x)) k.1
 ended_sound (Ok (gs, [])) fs e = cc
 ended_sound (Ok (gs, Open ∷ ts)) fs e = cc
 ended_sound (Ok (gs, Word w ∷ ts)) fs e = cc
@@ -242,8 +247,7 @@ ended_sound (Ok (gs, Other ∷ ts)) fs e = cc
 ended_sound (Err f) fs e = cc
 
 at_end_sound : (q : Read (List Field)) (fs : List Field) → at_end q ≡ Ok fs → q ≡ Ok (fs, [])
-at_end_sound (Ok (gs, [])) fs e = let k : gs ≡ fs = cc in ap (λ x. Ok (x, [])) k
-at_end_sound (Ok (gs, t ∷ ts)) fs e = cc
+at_end_sound (Ok (gs, ts)) fs e = let k = end_after_sound expected.FieldOrEnd gs fs ts e in ap (λ x. Ok (x, ts)) k.0 ∙ ap (λ x. Ok (fs, x)) k.1
 at_end_sound (Err f) fs e = cc
 
 tail_sound : (enclosed : Bool) (q : Read (List Field)) (fs : List Field) → ended_by enclosed q ≡ Ok fs → q ≡ Ok (fs, tail enclosed)
@@ -254,20 +258,20 @@ tail_complete : (enclosed : Bool) (fs : List Field) → ended_by enclosed (Ok (f
 tail_complete true fs = refl
 tail_complete false fs = refl
 
-started_by : (ts : List Terminal) (gs fs : List Field) (a b : Bool) → imports_first gs ≡ a → nat_lt (length (starts_of gs)) 2 ≡ b → ◌≡◌ {A = Result (List Field) Fault} (if a then (if b then Ok gs else Err (SecondStart, ts)) else Err (LateImport, ts)) (Ok fs)
+started_by : (late twice : Fault) (gs fs : List Field) (a b : Bool) → imports_first gs ≡ a → nat_lt (length (starts_of gs)) 2 ≡ b → ◌≡◌ {A = Result (List Field) Fault} (if a then (if b then Ok gs else Err twice) else Err late) (Ok fs)
     → (gs ≡ fs) × (imports_first gs ≡ true) × (length (starts_of gs) ≤ 1)
-started_by ts gs fs true true i e h = let k : gs ≡ fs = cc in let l = (Decides-ltb (length (starts_of gs)) 2).0 e in (k, i, omega (arith, l))
-started_by ts gs fs true false i e h = cc
-started_by ts gs fs false b i e h = cc
+started_by late twice gs fs true true i e h = let k : gs ≡ fs = cc in let l = (Decides-ltb (length (starts_of gs)) 2).0 e in (k, i, omega (arith, l))
+started_by late twice gs fs true false i e h = cc
+started_by late twice gs fs false b i e h = cc
 
 ordered_sound : (ts : List Terminal) (q : Result (List Field) Fault) (fs : List Field) → ordered ts q ≡ Ok fs → (q ≡ Ok fs) × (imports_first fs ≡ true) × (length (starts_of fs) ≤ 1)
 ordered_sound ts (Ok gs) fs e =
-    let k = started_by ts gs fs (imports_first gs) (nat_lt (length (starts_of gs)) 2) refl refl e in (ap (λ x. Ok x) k.0, subst (λ x. imports_first x ≡ true) k.0 k.1, subst (λ x. length (starts_of x) ≤ 1) k.0 k.2)
+    let k = started_by (import_fault gs (starts Before [] ts) ts) (start_fault gs (starts Before [] ts) ts) gs fs (imports_first gs) (nat_lt (length (starts_of gs)) 2) refl refl e in (ap (λ x. Ok x) k.0, subst (λ x. imports_first x ≡ true) k.0 k.1, subst (λ x. length (starts_of x) ≤ 1) k.0 k.2)
 ordered_sound ts (Err f) fs e = cc
 
 ordered_complete : (ts : List Terminal) (fs : List Field) → imports_first fs ≡ true → length (starts_of fs) ≤ 1 → ordered ts (Ok fs) ≡ Ok fs
 ordered_complete ts fs i l =
-    ap (λ (b : Bool). if b then (if nat_lt (length (starts_of fs)) 2 then Ok fs else Err (SecondStart, ts)) else Err (LateImport, ts)) i ∙ ap (λ (b : Bool). if b then Ok fs else Err (SecondStart, ts)) ((Decides-ltb (length (starts_of fs)) 2).1 (omega (arith, l)))
+    ap (λ (b : Bool). if b then (if nat_lt (length (starts_of fs)) 2 then Ok fs else Err (start_fault fs (starts Before [] ts) ts)) else Err (import_fault fs (starts Before [] ts) ts)) i ∙ ap (λ (b : Bool). if b then Ok fs else Err (start_fault fs (starts Before [] ts) ts)) ((Decides-ltb (length (starts_of fs)) 2).1 (omega (arith, l)))
 
 no_field : (types : Types) (context : Context) (enclosed : Bool) → field_item types context (tail enclosed) ≡ None
 unfolding field_item
@@ -384,7 +388,7 @@ or_sound laws enclosed ts fs (Ok hs) e h =
 or_sound laws enclosed ts fs (Err f) e h = let ss = starts Before [] ts in again_sound laws enclosed ts fs f (all_by ss (unknown (defined_types ss)) ts) refl h
 
 of_distinct : AllLaws → (enclosed : Bool) (ts : List Terminal) (fs : List Field) (b : Bool) → all_distinct (defined_types (starts Before [] ts)) (context_by (starts Before [] ts) (defined_types (starts Before [] ts))) ≡ b
-    → (if b then fields_or enclosed (starts Before [] ts) ts (fields_by enclosed (starts Before [] ts) (defined_types (starts Before [] ts)) ts) else Err (Duplicate, ts)) ≡ Ok fs → FieldsAre ts fs (tail enclosed)
+    → (if b then fields_or enclosed (starts Before [] ts) ts (fields_by enclosed (starts Before [] ts) (defined_types (starts Before [] ts)) ts) else Err (duplicate_item (starts Before [] ts) ts)) ≡ Ok fs → FieldsAre ts fs (tail enclosed)
 of_distinct laws enclosed ts fs true d h =
     let ss = starts Before [] ts in
     let o = or_sound laws enclosed ts fs (fields_by enclosed ss (defined_types ss) ts) refl h in record { spelled = o.spelled; distinct = sym (distinct_is ts fs o.context) ∙ d; imports = o.imports; starts = o.starts }
@@ -421,7 +425,7 @@ fields_complete : AllLaws → (enclosed : Bool) (ts : List Terminal) (fs : List 
 fields_complete laws enclosed ts fs a =
     let ss = starts Before [] ts in
     let k = module_context laws.base enclosed (own_types fs) (own_context fs) ts fs a.spelled in
-    ap (λ (x : Bool). if x then fields_or enclosed ss ts (fields_by enclosed ss (defined_types ss) ts) else Err (Duplicate, ts)) (distinct_is ts fs k ∙ a.distinct)
+    ap (λ (x : Bool). if x then fields_or enclosed ss ts (fields_by enclosed ss (defined_types ss) ts) else Err (duplicate_item ss ts)) (distinct_is ts fs k ∙ a.distinct)
     ∙ or_complete laws enclosed ts fs k (from_own ts fs (tail enclosed) k a.spelled) a.imports a.starts (fields_by enclosed ss (defined_types ss) ts) refl
 
 module_is_no_field : (types : Types) (context : Context) (us r : List Terminal) (fs : List Field) → manies.Brings (field_item types context (Open ∷ Word (codes "module") ∷ us)) fs r → ⊥

@@ -13,7 +13,7 @@ use Rattle.wat_module_tokens.specs.Terminals.{Terminal, Open, Close, Label}
 use Rattle.wat_module_ast.specs.Types.{FunctionType, Types, added_types}
 use Rattle.wat_module_ast.specs.Uses.{AreAmong, MoreTypesKeep, UnknownTypesBring, with_more_types, expression_types, unknown, retyped}
 use Rattle.wat_module_ast.specs.declared.fields.IndexSpace.{IndexSpace}
-use Rattle.wat_module_ast.specs.Fields.{Variable, NamedUse, named_use, unnamed, name_of, type_of, without_names, ExternType, FuncType, Elements, target, Many, by_none, by_more, TypeUseIs, by_lists, by_index, by_both, by_unknown, ExternIs, by_type_use, by_table_type, by_memory_type, by_global_type, ExpressionIs, by_word_expression, by_instruction, ItemIs, by_item, FunctionIs, by_function, ElementsAre, by_items, by_functions, Field, Function, Func, Import, Global, Table, Elem, Passive, Active, Declarative, Data, is_u32, table_of, FieldIs, by_type, by_import, by_inline_import, by_func, by_table, by_table_items, by_table_functions, by_memory, by_memory_data, by_global, by_export, by_start, by_passive_elem, by_declarative_elem, by_active_elem, by_function_elem, by_passive_data, by_active_data}
+use Rattle.wat_module_ast.specs.Fields.{Variable, NamedUse, named_use, unnamed, name_of, type_of, without_names, label_associations, local_associations, ExternType, FuncType, Elements, target, Many, by_none, by_more, TypeUseIs, by_lists, by_index, by_both, by_unknown, ExternIs, by_type_use, by_table_type, by_memory_type, by_global_type, ExpressionIs, by_word_expression, by_instruction, ItemIs, by_item, FunctionIs, by_function, ElementsAre, by_items, by_functions, Field, Function, Func, Import, Global, Table, Elem, Passive, Active, Declarative, Data, is_u32, table_of, FieldIs, by_type, by_import, by_inline_import, by_func, by_table, by_table_items, by_table_functions, by_memory, by_memory_data, by_global, by_export, by_start, by_passive_elem, by_declarative_elem, by_active_elem, by_function_elem, by_passive_data, by_active_data}
 use Rattle.wat_module_ast.specs.ImplicitTypes.{extern_types, field_types}
 
 never : {A : Type 0} (same : Bool) → same ≡ false → same ≡ true → A
@@ -190,8 +190,8 @@ record LikeFields (same : Bool) (others : Types) (context : Context) (ts : List 
   equal : same ≡ true → fs ≡ gs
   brings : flat_map field_types fs ≡ flat_map field_types gs
 
-abbrev function : Label → List (List ℕ) → List Variable → NamedUse → List Instruction → Function
-function l ns ls u is = record { name = l; exports = ns; uses = without_names u; locals = map type_of ls; body = is }
+abbrev function : Label → List (List ℕ) → List Variable → List Terminal → NamedUse → List Instruction → Function
+function l ns ls ts u is = record { name = l; exports = ns; uses = without_names u; locals = map type_of ls; body = is; local_names = local_associations u.params ls; label_names = label_associations ts }
 
 one : (f g : Field) → field_types f ≡ field_types g → flat_map field_types (f ∷ []) ≡ flat_map field_types (g ∷ [])
 one f g e = ap (λ x. x ++ []) e
@@ -210,10 +210,10 @@ field_like same context others c _ _ r (by_inline_import {m = m} {n = n} {ts = t
 field_like same context others c _ _ r (by_func {ts = ts} {hs = hs} {bs = bs} {ds = ds} {names = ns} {u = u} {locals = ls} {is = is} e k t a d b) =
     let l = c.uses hs u bs t in
     let m = c.code (map name_of (u.params ++ ls)) (map name_of (l.v.params ++ ls)) (None ∷ []) false ds is (Close ∷ r) (names_equal same u.params l.v.params ls (λ k. ap (λ x. x.params) (l.equal k))) (params_among same u.params l.v.params ls l.params) b in record {
-      gs = Func (function (label_of ts).0 ns ls l.v m.js) ∷ [];
+      gs = Func (function (label_of ts).0 ns ls ds l.v m.js) ∷ [];
       spelled = by_func e k l.spelled a (params_distinct same u.params l.v.params ls l.params d) m.spelled;
-      equal = λ k. ap (λ x. Func (function (label_of ts).0 ns ls x is) ∷ []) (l.equal k) ∙ ap (λ x. Func (function (label_of ts).0 ns ls l.v x) ∷ []) (m.equal k);
-      brings = one (Func (function (label_of ts).0 ns ls u is)) (Func (function (label_of ts).0 ns ls l.v m.js)) (ap (λ x. x ++ expression_types is) l.brings ∙ ap (λ x. added_types (without_names l.v) ++ x) m.brings);
+      equal = λ k. ap (λ x. Func (function (label_of ts).0 ns ls ds x is) ∷ []) (l.equal k) ∙ ap (λ x. Func (function (label_of ts).0 ns ls ds l.v x) ∷ []) (m.equal k);
+      brings = one (Func (function (label_of ts).0 ns ls ds u is)) (Func (function (label_of ts).0 ns ls ds l.v m.js)) (ap (λ x. x ++ expression_types is) l.brings ∙ ap (λ x. added_types (without_names l.v) ++ x) m.brings);
     }
 field_like same context others c _ _ r (by_table a b d e) = kept same others context _ _ r (by_table a b d e)
 field_like same context others c _ _ r (by_table_items {ts = ts} {hs = hs} {names = ns} {t = t} {es = es} e a k b m low) =

@@ -1,6 +1,10 @@
 -- Parser and grammar agree on segments and on the inline data of memories.
 use Rattle.std.proofs.Common.{◌≡◌, ◌<◌, ◌≤◌, ℕ, suc, Bool, true, false, List, [], ◌∷◌, length, Option, Some, None, Ok, Err, refl, sym, ap, subst, ◌∙◌, arith}
-use Rattle.std.specs.Prelude.{if◌then◌else◌, bytes_eq, codes}
+use Rattle.std.specs.Prelude.{◌^◌, if◌then◌else◌, bytes_eq, codes}
+use Rattle.wat_module_ast.specs.declared.error.Expected.TheVariants as expected
+use Rattle.wat_module_ast.specs.declared.error.Range.TheVariants as range
+use Rattle.wat_module_ast.specs.declared.error.Space.{Space}
+use Rattle.wat_module_ast.specs.declared.error.Space.TheVariants as kind
 use Rattle.wat_module_ast.specs.declared.error.FaultKind.TheVariants.{UnknownWord, OutOfRange}
 use Rattle.wat_module_ast.specs.declared.instruction.Instruction.{Instruction}
 use Rattle.wat_module_ast.specs.Grammar.{Context, Body, Folded, index, label_of, past}
@@ -64,23 +68,23 @@ strings_keep ts bytes us m = record { short = many_takes StringIs string_takes t
 
 -- What a segment uses.
 
-pub used_sound : (word : List ℕ) (names : List Label) (ts : List Terminal) (i : ℕ) (us : List Terminal) → Gives (used_at word names ts) i us → UseIs word names ts i us
+pub used_sound : (word : List ℕ) (s : Space) (names : List Label) (ts : List Terminal) (i : ℕ) (us : List Terminal) → Gives (used_at word s names ts) i us → UseIs word names ts i us
 unfolding used_at
-used_sound word names ts i us g = by (after word ts) refl g
+used_sound word s names ts i us g = by (after word ts) refl g
   where
-    by : (o : Option (List Terminal)) → after word ts ≡ o → Gives (used_by names o ts) i us → UseIs word names ts i us
+    by : (o : Option (List Terminal)) → after word ts ≡ o → Gives (used_by s names o ts) i us → UseIs word names ts i us
     by None e h = subst (λ x. UseIs word names ts x us) h.0 (subst (λ x. UseIs word names ts 0 x) h.1 by_no_use)
     by (Some hs) e h =
         let b = begins word ts hs (finds_of (after word ts) hs e) in
-        let (j, xs, e1, g1) = and_then_inv (index names hs) (λ i us. closing i (closed us)) i us h in
+        let (j, xs, e1, g1) = and_then_inv (index s names hs) (λ i us. closing i (closed us)) i us h in
         let (same, shut) = closing_inv j i (closed xs) us g1 in
-        let n = index_sound names hs j xs (gives_of _ j xs e1) in
+        let n = index_sound s names hs j xs (gives_of _ j xs e1) in
         subst (λ x. UseIs word names x i us) (sym b.is) (by_use b.same (subst (λ x. IndexIs names hs x (Close ∷ us)) same (subst (λ x. IndexIs names hs j x) (closed_is xs us shut) n)))
 
-pub used_complete : (word : List ℕ) (names : List Label) (ts : List Terminal) (i : ℕ) (us : List Terminal) → UseIs word names ts i us → Ends word us → used_at word names ts ≡ Ok (i, us)
+pub used_complete : (word : List ℕ) (s : Space) (names : List Label) (ts : List Terminal) (i : ℕ) (us : List Terminal) → UseIs word names ts i us → Ends word us → used_at word s names ts ≡ Ok (i, us)
 unfolding used_at
-used_complete word names _ i us (by_use {w = w} {ts = ts} e n) k = ap (λ o. used_by names o (Open ∷ Word w ∷ ts)) (after_is word w ts e) ∙ ap (λ q. and_then q (λ i us. closing i (closed us))) (index_complete names ts i (Close ∷ us) n)
-used_complete word names _ _ us by_no_use k = ap (λ o. used_by names o us) k
+used_complete word s names _ i us (by_use {w = w} {ts = ts} e n) k = ap (λ o. used_by s names o (Open ∷ Word w ∷ ts)) (after_is word w ts e) ∙ ap (λ q. and_then q (λ i us. closing i (closed us))) (index_complete s names ts i (Close ∷ us) n)
+used_complete word s names _ _ us by_no_use k = ap (λ o. used_by s names o us) k
 
 pub used_keeps : (word : List ℕ) (names : List Label) (ts : List Terminal) (i : ℕ) (us : List Terminal) → UseIs word names ts i us → Keeps ts us
 used_keeps word names _ i us (by_use {ts = ts} e n) = let p = index_pass names ts i (Close ∷ us) n in let s = p.short in record { short = omega arith; same = λ d. p.same (suc d) }
@@ -110,11 +114,11 @@ one_sound laws context (Other ∷ ts) is r g = absurd g
 one_complete : Laws → (context : Context) (ts : List Terminal) (is : List Instruction) (r : List Terminal) → Folded context ts is r → one_at context ts ≡ Ok (is, r)
 one_complete laws context _ is r (grammar.by_group {ts = ts} h p) = (laws.folded context ts is r).1 (grammar.by_group h p)
 
-one_not : (v : List ℕ) → IsNoInstruction v → (context : Context) (ts : List Terminal) → folded context (Word v ∷ ts) ≡ Err (UnknownWord, Word v ∷ ts)
+one_not : (v : List ℕ) → IsNoInstruction v → (context : Context) (ts : List Terminal) → folded context (Word v ∷ ts) ≡ Err (UnknownWord expected.Instruction, Word v ∷ ts)
 one_not v k context ts = ap (λ o. run_by (run context (suc (length (Word v ∷ ts)))) (open_by context o (Word v ∷ ts) ts [])) k.structured_not ∙ ap (λ q. run_by (run context (suc (length (Word v ∷ ts)))) (at_operands q [])) (k.plain_not context [] ts)
 
 one_differs : (v : List ℕ) → IsNoInstruction v → (context : Context) (w : List ℕ) (ts : List Terminal) (x : List Instruction × List Terminal) → folded context (Word w ∷ ts) ≡ Ok x → (b : Bool) → bytes_eq w v ≡ b → b ≡ false
-one_differs v k context w ts x e true q = let f : folded context (Word w ∷ ts) ≡ Err (UnknownWord, Word w ∷ ts) = subst (λ u. folded context (Word u ∷ ts) ≡ Err (UnknownWord, Word u ∷ ts)) (sym (word_is w v q)) (one_not v k context ts) in cc
+one_differs v k context w ts x e true q = let f : folded context (Word w ∷ ts) ≡ Err (UnknownWord expected.Instruction, Word w ∷ ts) = subst (λ u. folded context (Word u ∷ ts) ≡ Err (UnknownWord expected.Instruction, Word u ∷ ts)) (sym (word_is w v q)) (one_not v k context ts) in cc
 one_differs v k context w ts x e false q = refl
 
 -- a folded instruction does not begin with a word that is none
@@ -192,10 +196,10 @@ passive_sound types context w ts hs fs r e k g =
 active_sound : Laws → (types : Types) (context : Context) (w : List ℕ) (ts hs : List Terminal) (fs : List Field) (r : List Terminal) → w ≡ codes "data" → hs ≡ (label_of ts).1 → Gives (active_data context (label_of ts).0 hs) fs r → FieldIs types context (Open ∷ Word w ∷ ts) fs r
 active_sound laws types context w ts hs fs r e k g =
     let l = (label_of ts).0 in
-    let (i, os, e1, g1) = and_then_inv (used_at (codes "memory") context.memories hs) (λ i us. and_then (expression_at (codes "offset") context us) (λ is vs. data_strings l (Some (target i is)) vs)) fs r g in
+    let (i, os, e1, g1) = and_then_inv (used_at (codes "memory") kind.Memory context.memories hs) (λ i us. and_then (expression_at (codes "offset") context us) (λ is vs. data_strings l (Some (target i is)) vs)) fs r g in
     let (is, bs, e2, g2) = and_then_inv (expression_at (codes "offset") context os) (λ is vs. data_strings l (Some (target i is)) vs) fs r g1 in
     let (bytes, m, same) = data_strings_sound l (Some (target i is)) bs fs r g2 in
-    let u = used_sound (codes "memory") context.memories hs i os (gives_of _ i os e1) in
+    let u = used_sound (codes "memory") kind.Memory context.memories hs i os (gives_of _ i os e1) in
     let o = expression_sound laws (codes "offset") context os is bs (gives_of _ is bs e2) in
     subst (λ x. FieldIs types context (Open ∷ Word w ∷ ts) x r) same (by_active_data e (subst (λ x. UseIs (codes "memory") context.memories x i os) k u) o m)
 
@@ -232,12 +236,12 @@ active_complete laws context ts os bs i is bytes r u o m =
     let l = (label_of ts).0 in
     let k = used_opens (codes "memory") context.memories (label_of ts).1 i os u (expression_opens (codes "offset") context os is bs o) in
     active_is context l (label_of ts).1 k.0 k.1
-    ∙ ap (λ q. and_then q (λ i us. and_then (expression_at (codes "offset") context us) (λ is vs. data_strings l (Some (target i is)) vs))) (used_complete (codes "memory") context.memories (label_of ts).1 i os u (ends_expression laws (codes "memory") (codes "offset") memory_is_none refl context os is bs o))
+    ∙ ap (λ q. and_then q (λ i us. and_then (expression_at (codes "offset") context us) (λ is vs. data_strings l (Some (target i is)) vs))) (used_complete (codes "memory") kind.Memory context.memories (label_of ts).1 i os u (ends_expression laws (codes "memory") (codes "offset") memory_is_none refl context os is bs o))
     ∙ ap (λ q. and_then q (λ is vs. data_strings l (Some (target i is)) vs)) (expression_complete laws (codes "offset") offset_is_none context os is bs o) ∙ data_strings_complete l (Some (target i is)) bs bytes r m
 
 -- Memories that bring their bytes.
 
-memory_of_sound : (l : Label) (ns : List (List ℕ)) (xs : List Terminal) (bytes : List ℕ) (ts : List Terminal) (fs : List Field) (r : List Terminal) (b : Bool) → is_u32 (pages_of bytes) ≡ b → Gives (if b then Ok (Memory l ns (limits (pages_of bytes) (Some (pages_of bytes))) (Some bytes) ∷ [], ts) else Err (OutOfRange, xs)) fs r
+memory_of_sound : (l : Label) (ns : List (List ℕ)) (xs : List Terminal) (bytes : List ℕ) (ts : List Terminal) (fs : List Field) (r : List Terminal) (b : Bool) → is_u32 (pages_of bytes) ≡ b → Gives (if b then Ok (Memory l ns (limits (pages_of bytes) (Some (pages_of bytes))) (Some bytes) ∷ [], ts) else Err (OutOfRange (range.Unsigned (2 ^ 31)), xs)) fs r
     → (is_u32 (pages_of bytes) ≡ true) × (Memory l ns (limits (pages_of bytes) (Some (pages_of bytes))) (Some bytes) ∷ [] ≡ fs) × (ts ≡ r)
 memory_of_sound l ns xs bytes ts fs r true e g = (e, g.0, g.1)
 memory_of_sound l ns xs bytes ts fs r false e g = absurd g
@@ -265,4 +269,4 @@ pub memory_data_complete : (l : Label) (ns : List (List ℕ)) (ts : List Termina
 unfolding string_item
 memory_data_complete l ns ts bytes r m low =
     ap (λ q. and_then q (λ bytes us. and_then (closing bytes (skip_two_closes us)) (λ bytes vs. memory_of l ns ts bytes vs))) (all_complete string_item StringIs strings_read bytes ts (Close ∷ Close ∷ r) m refl)
-    ∙ ap (λ (b : Bool). if b then Ok (Memory l ns (limits (pages_of bytes) (Some (pages_of bytes))) (Some bytes) ∷ [], r) else Err (OutOfRange, ts)) low
+    ∙ ap (λ (b : Bool). if b then Ok (Memory l ns (limits (pages_of bytes) (Some (pages_of bytes))) (Some bytes) ∷ [], r) else Err (OutOfRange (range.Unsigned (2 ^ 31)), ts)) low

@@ -1,7 +1,10 @@
 -- Parser and grammar agree on limits, types and indices; and the number of tokens that these have.
 use Rattle.std.proofs.Common.{◌≡◌, ◌<◌, ℕ, Bool, true, false, List, [], ◌∷◌, length, Option, Some, None, Ok, Err, refl, sym, ap, subst, ◌∙◌, arith}
-use Rattle.std.specs.Prelude.{if◌then◌else◌, bytes_eq, codes}
-use Rattle.wat_module_ast.specs.declared.error.FaultKind.TheVariants.{UnknownWord, OutOfRange}
+use Rattle.std.specs.Prelude.{◌^◌, if◌then◌else◌, bytes_eq, codes}
+use Rattle.wat_module_ast.specs.declared.error.Expected.TheVariants as expected
+use Rattle.wat_module_ast.specs.declared.error.Range.TheVariants as range
+use Rattle.wat_module_ast.specs.declared.error.Space.{Space}
+use Rattle.wat_module_ast.specs.declared.error.FaultKind.TheVariants.{Unexpected, OutOfRange}
 use Rattle.wat_module_tokens.specs.declared.token.Sign.{Sign}
 use Rattle.wat_module_tokens.specs.declared.token.Sign.TheVariants as sign
 use Rattle.wat_module_ast.specs.declared.instruction.ValueType.{ValueType}
@@ -22,14 +25,14 @@ use Rattle.wat_module_parser.proofs.Manies.{Gives, gives_of, and_then_inv}
 small_inv : (s : Sign) (n m : ℕ) (all ts us : List Terminal) → Gives (small s n all ts) m us → (s ≡ sign.Absent) × (is_u32 n ≡ true) × (n ≡ m) × (ts ≡ us)
 small_inv sign.Absent n m all ts us h = by (is_u32 n) refl h
   where
-    by : (b : Bool) → is_u32 n ≡ b → Gives (if b then Ok (n, ts) else Err (OutOfRange, all)) m us → (sign.Absent ≡ sign.Absent) × (is_u32 n ≡ true) × (n ≡ m) × (ts ≡ us)
+    by : (b : Bool) → is_u32 n ≡ b → Gives (if b then Ok (n, ts) else Err (OutOfRange (range.Unsigned (2 ^ 31)), all)) m us → (sign.Absent ≡ sign.Absent) × (is_u32 n ≡ true) × (n ≡ m) × (ts ≡ us)
     by true e g = (refl, e, g.0, g.1)
     by false e g = absurd g
 small_inv sign.Plus n m all ts us h = absurd h
 small_inv sign.Minus n m all ts us h = absurd h
 
 small_is : (n : ℕ) (all ts : List Terminal) → is_u32 n ≡ true → small sign.Absent n all ts ≡ Ok (n, ts)
-small_is n all ts e = ap (λ (b : Bool). if b then Ok (n, ts) else Err (OutOfRange, all)) e
+small_is n all ts e = ap (λ (b : Bool). if b then Ok (n, ts) else Err (OutOfRange (range.Unsigned (2 ^ 31)), all)) e
 
 -- Limits.
 
@@ -167,7 +170,7 @@ mutable_type_sound v (Text x ∷ ts) g us m h = absurd h
 mutable_type_sound v (Float narrow wide ∷ ts) g us m h = absurd h
 mutable_type_sound v (Other ∷ ts) g us m h = absurd h
 
-mutable_word_sound : (v : List ℕ) (ts : List Terminal) (g : GlobalType) (us : List Terminal) (b : Bool) → bytes_eq v (codes "mut") ≡ b → Gives (if b then mutable_type ts else Err (UnknownWord, Word v ∷ ts)) g us → GlobalTypeIs (Open ∷ Word v ∷ ts) g us
+mutable_word_sound : (v : List ℕ) (ts : List Terminal) (g : GlobalType) (us : List Terminal) (b : Bool) → bytes_eq v (codes "mut") ≡ b → Gives (if b then mutable_type ts else Err (Unexpected expected.Mut, Word v ∷ ts)) g us → GlobalTypeIs (Open ∷ Word v ∷ ts) g us
 mutable_word_sound v ts g us true e h = mutable_type_sound v ts g us (word_is v (codes "mut") e) h
 mutable_word_sound v ts g us false e h = absurd h
 
@@ -198,7 +201,7 @@ pub global_type_complete : (ts : List Terminal) (g : GlobalType) (us : List Term
 unfolding global_type_at
 global_type_complete _ _ us (by_constant {w = w} e) = ap (λ o. constant_by o (Word w ∷ us) us) e
 global_type_complete _ _ us (by_mutable {v = v} {w = w} m e) =
-    ap (λ (b : Bool). if b then mutable_type (Word w ∷ Close ∷ us) else Err (UnknownWord, Word v ∷ Word w ∷ Close ∷ us)) (is_word v (codes "mut") m) ∙ ap (λ o. mutable_by o (Word w ∷ Close ∷ us) (Close ∷ us)) e
+    ap (λ (b : Bool). if b then mutable_type (Word w ∷ Close ∷ us) else Err (Unexpected expected.Mut, Word v ∷ Word w ∷ Close ∷ us)) (is_word v (codes "mut") m) ∙ ap (λ o. mutable_by o (Word w ∷ Close ∷ us) (Close ∷ us)) e
 
 pub global_type_pass : (ts : List Terminal) (g : GlobalType) (us : List Terminal) → GlobalTypeIs ts g us → Passes ts us
 global_type_pass _ _ us (by_constant e) = record { short = omega arith; same = λ d. refl }
@@ -215,27 +218,27 @@ global_type_no_export _ _ us (by_mutable {v = v} {w = w} m e) = subst (λ x. exp
 
 -- Indices.
 
-named_sound : (ls : List Label) (x : List ℕ) (ts : List Terminal) (i : ℕ) (us : List Terminal) (o : Option ℕ) → position 0 x ls ≡ o → Gives (named o (Id x ∷ ts) ts) i us → IndexIs ls (Id x ∷ ts) i us
-named_sound ls x ts i us (Some n) e h = subst (λ y. IndexIs ls (Id x ∷ ts) y us) h.0 (subst (λ y. IndexIs ls (Id x ∷ ts) n y) h.1 (by_identifier e))
-named_sound ls x ts i us None e h = absurd h
+named_sound : (k : Space) (ls : List Label) (x : List ℕ) (ts : List Terminal) (i : ℕ) (us : List Terminal) (o : Option ℕ) → position 0 x ls ≡ o → Gives (named k o (Id x ∷ ts) ts) i us → IndexIs ls (Id x ∷ ts) i us
+named_sound k ls x ts i us (Some n) e h = subst (λ y. IndexIs ls (Id x ∷ ts) y us) h.0 (subst (λ y. IndexIs ls (Id x ∷ ts) n y) h.1 (by_identifier e))
+named_sound k ls x ts i us None e h = absurd h
 
 number_sound : (ls : List Label) (s : Sign) (n : ℕ) (ts : List Terminal) (i : ℕ) (us : List Terminal) → (s ≡ sign.Absent) × (is_u32 n ≡ true) × (n ≡ i) × (ts ≡ us) → IndexIs ls (Integer s n ∷ ts) i us
 number_sound ls s n ts i us (a, l, e, f) = subst (λ x. IndexIs ls (Integer x n ∷ ts) i us) (sym a) (subst (λ x. IndexIs ls (Integer sign.Absent n ∷ ts) x us) e (subst (λ x. IndexIs ls (Integer sign.Absent n ∷ ts) n x) f (by_number l)))
 
-pub index_sound : (ls : List Label) (ts : List Terminal) (i : ℕ) (us : List Terminal) → Gives (index ls ts) i us → IndexIs ls ts i us
-index_sound ls (Integer s n ∷ ts) i us h = number_sound ls s n ts i us (small_inv s n i (Integer s n ∷ ts) ts us h)
-index_sound ls (Id x ∷ ts) i us h = named_sound ls x ts i us (position 0 x ls) refl h
-index_sound ls [] i us h = absurd h
-index_sound ls (Open ∷ ts) i us h = absurd h
-index_sound ls (Close ∷ ts) i us h = absurd h
-index_sound ls (Word w ∷ ts) i us h = absurd h
-index_sound ls (Text v ∷ ts) i us h = absurd h
-index_sound ls (Float narrow wide ∷ ts) i us h = absurd h
-index_sound ls (Other ∷ ts) i us h = absurd h
+pub index_sound : (k : Space) (ls : List Label) (ts : List Terminal) (i : ℕ) (us : List Terminal) → Gives (index k ls ts) i us → IndexIs ls ts i us
+index_sound k ls (Integer s n ∷ ts) i us h = number_sound ls s n ts i us (small_inv s n i (Integer s n ∷ ts) ts us h)
+index_sound k ls (Id x ∷ ts) i us h = named_sound k ls x ts i us (position 0 x ls) refl h
+index_sound k ls [] i us h = absurd h
+index_sound k ls (Open ∷ ts) i us h = absurd h
+index_sound k ls (Close ∷ ts) i us h = absurd h
+index_sound k ls (Word w ∷ ts) i us h = absurd h
+index_sound k ls (Text v ∷ ts) i us h = absurd h
+index_sound k ls (Float narrow wide ∷ ts) i us h = absurd h
+index_sound k ls (Other ∷ ts) i us h = absurd h
 
-pub index_complete : (ls : List Label) (ts : List Terminal) (i : ℕ) (us : List Terminal) → IndexIs ls ts i us → index ls ts ≡ Ok (i, us)
-index_complete ls _ i us (by_number e) = small_is i (Integer sign.Absent i ∷ us) us e
-index_complete ls _ i us (by_identifier {x = x} e) = ap (λ o. named o (Id x ∷ us) us) e
+pub index_complete : (k : Space) (ls : List Label) (ts : List Terminal) (i : ℕ) (us : List Terminal) → IndexIs ls ts i us → index k ls ts ≡ Ok (i, us)
+index_complete k ls _ i us (by_number e) = small_is i (Integer sign.Absent i ∷ us) us e
+index_complete k ls _ i us (by_identifier {x = x} e) = ap (λ o. named k o (Id x ∷ us) us) e
 
 pub index_pass : (ls : List Label) (ts : List Terminal) (i : ℕ) (us : List Terminal) → IndexIs ls ts i us → Passes ts us
 index_pass ls _ i us (by_number e) = record { short = omega arith; same = λ d. refl }

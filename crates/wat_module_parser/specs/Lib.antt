@@ -1,4 +1,6 @@
+pub mod Places
 pub mod Reading
 pub mod Law
 pub mod Views
 pub mod Groups
+pub mod Labels

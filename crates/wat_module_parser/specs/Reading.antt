@@ -1,11 +1,16 @@
 -- How the code parses the fields of a module. A theorem (`ReadingIsGrammar` in `Law`) states that the parsed fields are
 -- those of the grammar, so nothing here has to be trusted for them. The standard does not define which error a text
 -- has; that is defined here. Section numbers are those of WebAssembly 2.0.
-use Rattle.std.specs.Prelude.{ℕ, zero, suc, Bool, true, false, List, [], ◌∷◌, ◌++◌, length, map, codes, bytes_eq, nat_lt, slice_get, Option, Some, None, Result, Ok, Err, if◌then◌else◌}
+use Rattle.std.specs.Prelude.{ℕ, zero, suc, Bool, true, false, ◌^◌, List, [], ◌∷◌, ◌++◌, length, map, codes, bytes_eq, nat_lt, slice_get, Option, Some, None, Result, Ok, Err, if◌then◌else◌}
 use Rattle.std.specs.List.{flat_map}
 use Rattle.std.specs.Str.{is_utf8}
 use Rattle.wat_module_ast.specs.declared.instruction.Instruction.{Instruction}
-use Rattle.wat_module_ast.specs.declared.error.FaultKind.TheVariants.{Unexpected, UnknownWord, UnknownName, OutOfRange, Duplicate, NotUtf8, SecondStart, OtherType, LateImport}
+use Rattle.wat_module_ast.specs.declared.error.Expected.{Expected}
+use Rattle.wat_module_ast.specs.declared.error.Expected.TheVariants as expected
+use Rattle.wat_module_ast.specs.declared.error.Range.TheVariants as range
+use Rattle.wat_module_ast.specs.declared.error.Space.{Space}
+use Rattle.wat_module_ast.specs.declared.error.Space.TheVariants as kind
+use Rattle.wat_module_ast.specs.declared.error.FaultKind.TheVariants.{Unexpected, UnknownWord, UnknownName, OutOfRange, NotUtf8, OtherType}
 use Rattle.wat_module_ast.specs.declared.instruction.ReferenceType.{ReferenceType}
 use Rattle.wat_module_ast.specs.declared.instruction.ReferenceType.TheVariants as reference
 use Rattle.wat_module_ast.specs.declared.instruction.ValueType.{ValueType}
@@ -19,10 +24,11 @@ use Rattle.wat_module_ast.specs.declared.fields.IndexSpace.{IndexSpace}
 use Rattle.wat_module_ast.specs.declared.fields.IndexSpace.TheVariants as space
 use Rattle.wat_module_ast.specs.declared.fields.Limits.{Limits}
 use Rattle.wat_module_ast.specs.declared.fields.TableType.{TableType}
-use Rattle.wat_module_ast.specs.Fields.{Field, Func, Table, Memory, Global, Export, Import, TypeField, Start, Function, NamedUse, ExternType, FuncType, OfTable, OfMemory, OfGlobal, Definition, Binding, Variable, binding, definition, definition_type, function_type, named_use, variable, unnamed, name_of, names_of, context_of, type_of, types_in, with_locals, without_names, all_distinct, imports_first, space_of, starts_of, Data, Elem, ElemMode, Passive, Active, Declarative, Elements, ref_func, table_of, Target, target, is_u32, pages_of}
+use Rattle.wat_module_ast.specs.Fields.{Field, Func, Table, Memory, Global, Export, Import, TypeField, Start, Function, NamedUse, ExternType, FuncType, OfTable, OfMemory, OfGlobal, Definition, Binding, Variable, binding, definition, definition_type, function_type, label_associations, local_associations, named_use, variable, unnamed, name_of, names_of, context_of, type_of, types_in, with_locals, without_names, all_distinct, imports_first, space_of, starts_of, Data, Elem, ElemMode, Passive, Active, Declarative, Elements, ref_func, table_of, Target, target, is_u32, pages_of}
 use Rattle.wat_module_ast.specs.Names.{are_distinct}
 use Rattle.wat_module_ast.specs.Uses.{unknown}
 use Rattle.wat_module_ast.specs.ImplicitTypes.{types_of}
+use Rattle.wat_module_parser.specs.Places.{duplicate_item, duplicate_variable, import_fault, start_fault}
 
 -- The result of a parser: a value and the tokens after it, or the error.
 abbrev pub Read : Type 0 → Type 0
@@ -46,7 +52,7 @@ many_by next vs ts (Some (Err f)) = Err f
 
 -- The values of items, fewer than `n`, appended to `vs`.
 unfoldable pub many : {V : Type 0} → (List Terminal → Item V) → ℕ → List V → List Terminal → Read (List V)
-many item zero vs ts = Err (Unexpected, ts)
+many item zero vs ts = Err (Unexpected expected.Close, ts)
 many item (suc n) vs ts = many_by (many item n) vs ts (item ts)
 
 -- 6.1.1, `item*`: the values of all items that follow.
@@ -56,7 +62,7 @@ all item ts = many item (suc (length ts)) [] ts
 -- The tokens after a `)`, which must be next.
 abbrev pub closed : List Terminal → Result (List Terminal) Fault
 closed (Close ∷ ts) = Ok ts
-closed ts = Err (Unexpected, ts)
+closed ts = Err (Unexpected expected.Close, ts)
 
 -- The value `v`, by the result of the `)` after it.
 abbrev pub closing : {V : Type 0} → V → Result (List Terminal) Fault → Read V
@@ -71,7 +77,7 @@ begun rest (Some ts) = Some (rest ts)
 -- 6.3.4, name: a string that is UTF-8.
 abbrev pub utf8_text : List Terminal → Read (List ℕ)
 utf8_text (Text n ∷ ts) = if is_utf8 n then Ok (n, ts) else Err (NotUtf8, Text n ∷ ts)
-utf8_text ts = Err (Unexpected, ts)
+utf8_text ts = Err (Unexpected expected.Text, ts)
 
 -- 6.6.5 to 6.6.8: an inline export after `(export`.
 unfoldable pub export : List Terminal → Read (List (List ℕ))
@@ -83,7 +89,7 @@ export_item ts = begun export (after (codes "export") ts)
 
 -- The value type of a keyword, or an error at the tokens `all`, which begin with the keyword.
 abbrev pub typed : Option ValueType → List Terminal → List Terminal → Read (List ValueType)
-typed None all ts = Err (UnknownWord, all)
+typed None all ts = Err (UnknownWord expected.ValueType, all)
 typed (Some t) all ts = Ok (t ∷ [], ts)
 
 -- 6.4.4, `valtype`, if a keyword is next.
@@ -97,17 +103,17 @@ listed ts = and_then (all value_item ts) (λ types us. closing (map unnamed type
 
 -- A variable with the identifier `x` and the type of a keyword, and the `)` of its group.
 abbrev pub named_type : List ℕ → Option ValueType → List Terminal → List Terminal → Read (List Variable)
-named_type x None all ts = Err (UnknownWord, all)
+named_type x None all ts = Err (UnknownWord expected.ValueType, all)
 named_type x (Some t) all ts = closing (variable (Some x) t ∷ []) (closed ts)
 
 -- 6.4.5: a value type and the `)` of its group, after the identifier `x`.
 abbrev pub named_group : List ℕ → List Terminal → Read (List Variable)
 named_group x (Word w ∷ ts) = named_type x (value_type w) (Word w ∷ ts) ts
-named_group x ts = Err (Unexpected, ts)
+named_group x ts = Err (Unexpected expected.ValueType, ts)
 
 -- 6.4.5, 6.6.5: a group of parameters, results or locals after its keyword.
 unfoldable pub group : Bool → List Terminal → Read (List Variable)
-group may_have_name (Id x ∷ ts) = if may_have_name then named_group x ts else Err (Unexpected, Id x ∷ ts)
+group may_have_name (Id x ∷ ts) = if may_have_name then named_group x ts else Err (Unexpected expected.ValueTypeOrClose, Id x ∷ ts)
 group may_have_name ts = listed ts
 
 -- 6.4.5, 6.6.5: a group with the keyword `word`, if one is next.
@@ -146,7 +152,7 @@ agreed i t ps rs all ts = if list_nothing ps rs then Ok (named_use (Some i) (map
 
 -- The lists of a type use after its index `i`, by the type with this index; the tokens `all` begin with the index.
 abbrev pub lists_after : ℕ → Option FunctionType → List Terminal → List Terminal → Read NamedUse
-lists_after i None all ts = Err (UnknownName, all)
+lists_after i None all ts = Err (UnknownName kind.Type, all)
 lists_after i (Some t) all ts = and_then (params ts) (λ ps us. and_then (results us) (λ rs vs. agreed i t ps rs all vs))
 
 -- The lists of a type use after its index `i` if the types are not known.
@@ -159,7 +165,7 @@ either_use types i all ts = if types.are_known then lists_after i (slice_get typ
 
 -- 6.6.3, type use with an index, after `(type`.
 abbrev pub indexed_use : Types → List Terminal → Read NamedUse
-indexed_use types ts = and_then (index types.names ts) (λ i us. and_then (closing i (closed us)) (λ i vs. either_use types i ts vs))
+indexed_use types ts = and_then (index kind.Type types.names ts) (λ i us. and_then (closing i (closed us)) (λ i vs. either_use types i ts vs))
 
 abbrev pub use_by : Types → Option (List Terminal) → List Terminal → Read NamedUse
 use_by types None all = listed_use all
@@ -169,17 +175,19 @@ use_by types (Some ts) all = indexed_use types ts
 unfoldable pub use_at : Types → List Terminal → Read NamedUse
 use_at types ts = use_by types (after (codes "type") ts) ts
 
--- 6.6.5: the function with this identifier, these inline exports, this type use, these locals and these instructions.
-abbrev pub function : Label → List (List ℕ) → NamedUse → List Variable → List Instruction → Function
-function l ns u ls is = record { name = l; exports = ns; uses = without_names u; locals = map type_of ls; body = is }
+-- 6.6.5: the function with this identifier, these inline exports, this type use, these locals and these instructions,
+-- with which the tokens `ts` begin.
+abbrev pub function : Label → List (List ℕ) → NamedUse → List Variable → List Terminal → List Instruction → Function
+function l ns u ls ts is = record { name = l; exports = ns; uses = without_names u; locals = map type_of ls; body = is; local_names = local_associations u.params ls; label_names = label_associations ts }
 
--- 6.6.5: the instructions of a function, after its parameters `ps` and locals `ls`, whose identifiers must be distinct.
-unfoldable pub instructions : Context → List Variable → List Variable → List Terminal → Read (List Instruction)
-instructions context ps ls ts = if are_distinct (map name_of (ps ++ ls)) then body (with_locals context (ps ++ ls)) ts else Err (Duplicate, ts)
+-- 6.6.5: the instructions of a function, after its parameters `ps` and locals `ls`, whose identifiers must be distinct;
+-- the tokens `start` begin with the type use.
+unfoldable pub instructions : Context → List Variable → List Variable → List Terminal → List Terminal → Read (List Instruction)
+instructions context ps ls start ts = if are_distinct (map name_of (ps ++ ls)) then body (with_locals context (ps ++ ls)) ts else Err (duplicate_variable start)
 
 -- 6.6.5: a function after its identifier and its inline exports.
 abbrev pub func_at : Types → Context → Label → List (List ℕ) → List Terminal → Read (List Field)
-func_at types context l ns ts = and_then (use_at types ts) (λ u us. and_then (locals us) (λ ls vs. and_then (instructions context u.params ls vs) (λ is xs. Ok (Func (function l ns u ls is) ∷ [], xs))))
+func_at types context l ns ts = and_then (use_at types ts) (λ u us. and_then (locals us) (λ ls vs. and_then (instructions context u.params ls ts vs) (λ is xs. Ok (Func (function l ns u ls vs is) ∷ [], xs))))
 
 abbrev pub limits : ℕ → Option ℕ → Limits
 limits n m = record { min = n; max = m }
@@ -192,16 +200,16 @@ max_at n ts = Ok (limits n None, ts)
 -- 6.4.6, `limits`.
 unfoldable pub limits_at : List Terminal → Read Limits
 limits_at (Integer s n ∷ ts) = and_then (small s n (Integer s n ∷ ts) ts) (λ n us. max_at n us)
-limits_at ts = Err (Unexpected, ts)
+limits_at ts = Err (Unexpected expected.Limits, ts)
 
 abbrev pub reference_by : Option ReferenceType → List Terminal → List Terminal → Read ReferenceType
-reference_by None all ts = Err (UnknownWord, all)
+reference_by None all ts = Err (UnknownWord expected.ReferenceType, all)
 reference_by (Some t) all ts = Ok (t, ts)
 
 -- 6.4.3, `reftype`.
 unfoldable pub reference_at : List Terminal → Read ReferenceType
 reference_at (Word w ∷ ts) = reference_by (reference_type w) (Word w ∷ ts) ts
-reference_at ts = Err (Unexpected, ts)
+reference_at ts = Err (Unexpected expected.ReferenceType, ts)
 
 abbrev pub table_type : Limits → ReferenceType → TableType
 table_type limits t = record { limits = limits; element = t }
@@ -213,12 +221,12 @@ table_type_at ts = and_then (limits_at ts) (λ limits us. and_then (reference_at
 -- The tokens after two `)`, which must be next.
 abbrev pub skip_two_closes : List Terminal → Result (List Terminal) Fault
 skip_two_closes (Close ∷ ts) = closed ts
-skip_two_closes ts = Err (Unexpected, ts)
+skip_two_closes ts = Err (Unexpected expected.Close, ts)
 
 -- 6.5.10: one folded instruction, which must be next.
 abbrev pub one_at : Context → List Terminal → Read (List Instruction)
 one_at context (Open ∷ ts) = folded context ts
-one_at context ts = Err (Unexpected, ts)
+one_at context ts = Err (Unexpected expected.Expression, ts)
 
 abbrev pub expression_by : Context → Option (List Terminal) → List Terminal → Read (List Instruction)
 expression_by context None start = one_at context start
@@ -245,8 +253,8 @@ one_function (Err f) = Err f
 
 -- 6.6.11: an element by the index of its function, if an integer or an identifier is next.
 unfoldable pub function_item : Context → List Terminal → Item (List Instruction)
-function_item context (Integer s n ∷ ts) = Some (one_function (index context.funcs (Integer s n ∷ ts)))
-function_item context (Id x ∷ ts) = Some (one_function (index context.funcs (Id x ∷ ts)))
+function_item context (Integer s n ∷ ts) = Some (one_function (index kind.Func context.funcs (Integer s n ∷ ts)))
+function_item context (Id x ∷ ts) = Some (one_function (index kind.Func context.funcs (Id x ∷ ts)))
 function_item context ts = None
 
 -- 6.6.6: a table by its type, and its `)`.
@@ -260,7 +268,7 @@ either_at context ts = all (function_item context) ts
 
 -- 6.6.6: a table with inline elements, whose number must be a `u32`; otherwise an error at the tokens `start`.
 abbrev pub table_with : Label → List (List ℕ) → ReferenceType → List Terminal → Elements → List Terminal → Read (List Field)
-table_with l ns t start es ts = if is_u32 (length es) then Ok (Table l ns (table_of t es) (Some es) ∷ [], ts) else Err (OutOfRange, start)
+table_with l ns t start es ts = if is_u32 (length es) then Ok (Table l ns (table_of t es) (Some es) ∷ [], ts) else Err (OutOfRange (range.Unsigned (2 ^ 31)), start)
 
 -- 6.6.6: a table with inline elements, after `(elem`.
 abbrev pub table_elements : Context → Label → List (List ℕ) → ReferenceType → List Terminal → Read (List Field)
@@ -268,11 +276,11 @@ table_elements context l ns t ts = and_then (either_at context ts) (λ es us. an
 
 -- 6.6.6: a table with inline elements, after its reference type; `(elem` must follow.
 abbrev pub table_open : Context → Label → List (List ℕ) → ReferenceType → Option (List Terminal) → List Terminal → Read (List Field)
-table_open context l ns t None start = Err (Unexpected, start)
+table_open context l ns t None start = Err (Unexpected expected.Elem, start)
 table_open context l ns t (Some ts) start = table_elements context l ns t ts
 
 abbrev pub table_by : Context → Label → List (List ℕ) → Option ReferenceType → List Terminal → List Terminal → Read (List Field)
-table_by context l ns None start ts = Err (UnknownWord, start)
+table_by context l ns None start ts = Err (UnknownWord expected.ReferenceType, start)
 table_by context l ns (Some t) start ts = table_open context l ns t (after (codes "elem") ts) ts
 
 -- 6.6.6: a table after its identifier and its inline exports.
@@ -291,7 +299,7 @@ memory_type l ns ts = and_then (limits_at ts) (λ limits us. closing (Memory l n
 
 -- 6.6.7: a memory with inline data, whose number of pages must be a `u32`; otherwise an error at the tokens `all`.
 abbrev pub memory_of : Label → List (List ℕ) → List Terminal → List ℕ → List Terminal → Read (List Field)
-memory_of l ns all bytes ts = if is_u32 (pages_of bytes) then Ok (Memory l ns (limits (pages_of bytes) (Some (pages_of bytes))) (Some bytes) ∷ [], ts) else Err (OutOfRange, all)
+memory_of l ns all bytes ts = if is_u32 (pages_of bytes) then Ok (Memory l ns (limits (pages_of bytes) (Some (pages_of bytes))) (Some bytes) ∷ [], ts) else Err (OutOfRange (range.Unsigned (2 ^ 31)), all)
 
 -- 6.6.7: a memory with inline data, after `(data`.
 abbrev pub memory_data : Label → List (List ℕ) → List Terminal → Read (List Field)
@@ -309,28 +317,28 @@ abbrev pub global_type : Bool → ValueType → GlobalType
 global_type b t = record { is_mutable = b; value = t }
 
 abbrev pub constant_by : Option ValueType → List Terminal → List Terminal → Read GlobalType
-constant_by None all ts = Err (UnknownWord, all)
+constant_by None all ts = Err (UnknownWord expected.ValueType, all)
 constant_by (Some t) all ts = Ok (global_type false t, ts)
 
 abbrev pub mutable_by : Option ValueType → List Terminal → List Terminal → Read GlobalType
-mutable_by None all ts = Err (UnknownWord, all)
+mutable_by None all ts = Err (UnknownWord expected.ValueType, all)
 mutable_by (Some t) all ts = closing (global_type true t) (closed ts)
 
 -- 6.4.9: a value type and `)`, after `(mut`.
 abbrev pub mutable_type : List Terminal → Read GlobalType
 mutable_type (Word w ∷ ts) = mutable_by (value_type w) (Word w ∷ ts) ts
-mutable_type ts = Err (Unexpected, ts)
+mutable_type ts = Err (Unexpected expected.ValueType, ts)
 
 -- 6.4.9: a mutable global type after `(`.
 abbrev pub mutable_at : List Terminal → Read GlobalType
-mutable_at (Word v ∷ ts) = if bytes_eq v (codes "mut") then mutable_type ts else Err (UnknownWord, Word v ∷ ts)
-mutable_at ts = Err (Unexpected, ts)
+mutable_at (Word v ∷ ts) = if bytes_eq v (codes "mut") then mutable_type ts else Err (Unexpected expected.Mut, Word v ∷ ts)
+mutable_at ts = Err (Unexpected expected.Mut, ts)
 
 -- 6.4.9, `globaltype`.
 unfoldable pub global_type_at : List Terminal → Read GlobalType
 global_type_at (Word w ∷ ts) = constant_by (value_type w) (Word w ∷ ts) ts
 global_type_at (Open ∷ ts) = mutable_at ts
-global_type_at ts = Err (Unexpected, ts)
+global_type_at ts = Err (Unexpected expected.GlobalType, ts)
 
 -- 6.6.8: a global after its identifier and its inline exports.
 abbrev pub global_at : Context → Label → List (List ℕ) → List Terminal → Read (List Field)
@@ -351,7 +359,7 @@ import_names ts = and_then (utf8_text ts) (λ m us. and_then (utf8_text us) (λ 
 
 -- 6.6.4: an imported function, whose parameters must have distinct identifiers; otherwise an error at the tokens `all`.
 abbrev pub func_type : NamedUse → List Terminal → List Terminal → Read ExternType
-func_type u all ts = if are_distinct (map name_of u.params) then Ok (FuncType (without_names u), ts) else Err (Duplicate, all)
+func_type u all ts = if are_distinct (map name_of u.params) then Ok (FuncType (without_names u), ts) else Err (duplicate_variable all)
 
 -- 6.6.4: an import description after its keyword and its identifier.
 unfoldable pub extern_at : Types → IndexSpace → List Terminal → Read ExternType
@@ -378,19 +386,26 @@ item_by types context s l ns (Some ts) all = inline_import types s l ns ts
 abbrev pub item_at : Types → Context → IndexSpace → Label × List Terminal → Read (List Field)
 item_at types context s p = and_then (all export_item p.1) (λ ns us. item_by types context s p.0 ns (after (codes "import") us) us)
 
+-- The index space of errors for the items of an index space.
+abbrev pub kind_of : IndexSpace → Space
+kind_of space.Func = kind.Func
+kind_of space.Table = kind.Table
+kind_of space.Mem = kind.Memory
+kind_of space.Global = kind.Global
+
 abbrev pub external_by : Context → List ℕ → Option IndexSpace → List Terminal → List Terminal → Read (List Field)
-external_by context n None all ts = Err (UnknownWord, all)
-external_by context n (Some s) all ts = and_then (index (names_of context s) ts) (λ i us. closing (Export n s i ∷ []) (skip_two_closes us))
+external_by context n None all ts = Err (Unexpected expected.ItemKind, all)
+external_by context n (Some s) all ts = and_then (index (kind_of s) (names_of context s) ts) (λ i us. closing (Export n s i ∷ []) (skip_two_closes us))
 
 -- 6.6.9: the exported item after its `(`.
 abbrev pub external_word : Context → List ℕ → List Terminal → Read (List Field)
 external_word context n (Word v ∷ ts) = external_by context n (space_of v) (Word v ∷ ts) ts
-external_word context n ts = Err (Unexpected, ts)
+external_word context n ts = Err (Unexpected expected.ItemKind, ts)
 
 -- 6.6.9: the item that is exported under the name `n`.
 unfoldable pub external_at : Context → List ℕ → List Terminal → Read (List Field)
 external_at context n (Open ∷ ts) = external_word context n ts
-external_at context n ts = Err (Unexpected, ts)
+external_at context n ts = Err (Unexpected expected.ExportDescription, ts)
 
 -- 6.6.9: an export after its keyword.
 abbrev pub export_at : Context → List Terminal → Read (List Field)
@@ -398,18 +413,18 @@ export_at context ts = and_then (utf8_text ts) (λ n us. external_at context n u
 
 -- 6.6.10: a start field after its keyword.
 abbrev pub start_at : Context → List Terminal → Read (List Field)
-start_at context ts = and_then (index context.funcs ts) (λ i us. closing (Start i ∷ []) (closed us))
+start_at context ts = and_then (index kind.Func context.funcs ts) (λ i us. closing (Start i ∷ []) (closed us))
 
 -- Segments.
 
 -- The index after `(` and the keyword of a table or memory use, or 0 without these.
-abbrev pub used_by : List Label → Option (List Terminal) → List Terminal → Read ℕ
-used_by names None all = Ok (0, all)
-used_by names (Some ts) all = and_then (index names ts) (λ i us. closing i (closed us))
+abbrev pub used_by : Space → List Label → Option (List Terminal) → List Terminal → Read ℕ
+used_by s names None all = Ok (0, all)
+used_by s names (Some ts) all = and_then (index s names ts) (λ i us. closing i (closed us))
 
 -- 6.6.11, 6.6.12: the index of `tableuse` or `memuse`, which is 0 if it is absent.
-unfoldable pub used_at : List ℕ → List Label → List Terminal → Read ℕ
-used_at word names ts = used_by names (after word ts) ts
+unfoldable pub used_at : List ℕ → Space → List Label → List Terminal → Read ℕ
+used_at word s names ts = used_by s names (after word ts) ts
 
 -- 6.6.12: the strings of a data segment, and its `)`.
 abbrev pub data_strings : Label → Option Target → List Terminal → Read (List Field)
@@ -417,7 +432,7 @@ data_strings l t ts = and_then (all string_item ts) (λ bytes us. closing (Data 
 
 -- 6.6.12: an active data segment after its identifier.
 abbrev pub active_data : Context → Label → List Terminal → Read (List Field)
-active_data context l ts = and_then (used_at (codes "memory") context.memories ts) (λ i us. and_then (expression_at (codes "offset") context us) (λ is vs. data_strings l (Some (target i is)) vs))
+active_data context l ts = and_then (used_at (codes "memory") kind.Memory context.memories ts) (λ i us. and_then (expression_at (codes "offset") context us) (λ is vs. data_strings l (Some (target i is)) vs))
 
 -- 6.6.12: a data segment after its identifier.
 unfoldable pub data_after : Context → Label → List Terminal → Read (List Field)
@@ -431,12 +446,12 @@ data_at context p = data_after context p.0 p.1
 -- 6.6.11, `elemlist`, after its first keyword `w`; the tokens `start` begin with the keyword.
 abbrev pub elements_by : Context → List ℕ → Option ReferenceType → List Terminal → List Terminal → Read (ReferenceType × Elements)
 elements_by context w (Some t) start ts = and_then (all (element_item context) ts) (λ es us. Ok ((t, es), us))
-elements_by context w None start ts = if bytes_eq w (codes "func") then and_then (all (function_item context) ts) (λ es us. Ok ((reference.Func, es), us)) else Err (UnknownWord, start)
+elements_by context w None start ts = if bytes_eq w (codes "func") then and_then (all (function_item context) ts) (λ es us. Ok ((reference.Func, es), us)) else Err (Unexpected expected.ElementList, start)
 
 -- 6.6.11, `elemlist`.
 unfoldable pub elements_at : Context → List Terminal → Read (ReferenceType × Elements)
 elements_at context (Word w ∷ ts) = elements_by context w (reference_type w) (Word w ∷ ts) ts
-elements_at context ts = Err (Unexpected, ts)
+elements_at context ts = Err (Unexpected expected.ElementList, ts)
 
 -- 6.6.11: the `elemlist` of an element segment, and its `)`.
 abbrev pub elem_list : Context → Label → ElemMode → List Terminal → Read (List Field)
@@ -453,7 +468,7 @@ implicit_table context l m ts = functions_list context l m ts
 
 -- 6.6.11: an active element segment with `tableuse`, after its identifier.
 abbrev pub given_table : Context → Label → List Terminal → Read (List Field)
-given_table context l ts = and_then (used_at (codes "table") context.tables ts) (λ i us. and_then (expression_at (codes "offset") context us) (λ is vs. elem_list context l (Active (target i is)) vs))
+given_table context l ts = and_then (used_at (codes "table") kind.Table context.tables ts) (λ i us. and_then (expression_at (codes "offset") context us) (λ is vs. elem_list context l (Active (target i is)) vs))
 
 -- 6.6.11: an active element segment, after its identifier.
 abbrev pub active_elem : Context → Label → Option (List Terminal) → List Terminal → Read (List Field)
@@ -468,7 +483,7 @@ elem_word context l w start ts = if bytes_eq w (codes "declare") then elem_list 
 unfoldable pub elem_after : Context → Label → List Terminal → Read (List Field)
 elem_after context l (Open ∷ ts) = active_elem context l (after (codes "table") (Open ∷ ts)) (Open ∷ ts)
 elem_after context l (Word w ∷ ts) = elem_word context l w (Word w ∷ ts) ts
-elem_after context l ts = Err (Unexpected, ts)
+elem_after context l ts = Err (Unexpected expected.ElementList, ts)
 
 -- 6.6.11: an element segment after its keyword, by its identifier and the tokens after it.
 abbrev pub elem_at : Context → Label × List Terminal → Read (List Field)
@@ -479,18 +494,18 @@ abbrev pub extern_after : Types → List ℕ × List ℕ → IndexSpace → Labe
 extern_after types names s p = and_then (extern_at types s p.1) (λ t us. closing (imported p.0 [] names t ∷ []) (skip_two_closes us))
 
 abbrev pub import_by : Types → List ℕ × List ℕ → Option IndexSpace → List Terminal → List Terminal → Read (List Field)
-import_by types names None all ts = Err (UnknownWord, all)
+import_by types names None all ts = Err (Unexpected expected.ItemKind, all)
 import_by types names (Some s) all ts = extern_after types names s (label_of ts)
 
 -- 6.6.4: the description of an import after its `(`.
 abbrev pub import_word : Types → List ℕ × List ℕ → List Terminal → Read (List Field)
 import_word types names (Word v ∷ ts) = import_by types names (space_of v) (Word v ∷ ts) ts
-import_word types names ts = Err (Unexpected, ts)
+import_word types names ts = Err (Unexpected expected.ItemKind, ts)
 
 -- 6.6.4: the description of an import, after its names.
 unfoldable pub import_open : Types → List ℕ × List ℕ → List Terminal → Read (List Field)
 import_open types names (Open ∷ ts) = import_word types names ts
-import_open types names ts = Err (Unexpected, ts)
+import_open types names ts = Err (Unexpected expected.ImportDescription, ts)
 
 -- 6.6.4: an import after its keyword.
 abbrev pub import_at : Types → List Terminal → Read (List Field)
@@ -503,7 +518,7 @@ abbrev pub type_lists : Label → List Terminal → Read Definition
 type_lists l ts = and_then (params ts) (λ ps us. and_then (results us) (λ rs vs. closing (definition l (function_type ps rs)) (skip_two_closes vs)))
 
 abbrev pub type_by : Label → Option (List Terminal) → List Terminal → Read Definition
-type_by l None all = Err (Unexpected, all)
+type_by l None all = Err (Unexpected expected.FunctionType, all)
 type_by l (Some ts) all = type_lists l ts
 
 -- 6.6.2: a type definition after its keyword.
@@ -515,7 +530,7 @@ type_field ts = and_then (type_at ts) (λ d us. Ok (TypeField d.name d.type ∷ 
 
 -- 6.6.11, 6.6.12: a segment after its keyword `w`; the tokens `all` begin with the keyword.
 abbrev pub segment_at : Context → List ℕ → List Terminal → List Terminal → Read (List Field)
-segment_at context w all ts = if bytes_eq w (codes "data") then data_at context (label_of ts) else if bytes_eq w (codes "elem") then elem_at context (label_of ts) else Err (UnknownWord, all)
+segment_at context w all ts = if bytes_eq w (codes "data") then data_at context (label_of ts) else if bytes_eq w (codes "elem") then elem_at context (label_of ts) else Err (UnknownWord expected.Field, all)
 
 -- A type, an import, an export, a start field or a segment, after its keyword `w`;
 -- the tokens `all` begin with the keyword.
@@ -531,7 +546,7 @@ field_by types context None w all ts = other_at types context w all ts
 -- 6.6.2 to 6.6.12: a field after its `(`.
 abbrev pub field : Types → Context → List Terminal → Read (List Field)
 field types context (Word w ∷ ts) = field_by types context (space_of w) w (Word w ∷ ts) ts
-field types context ts = Err (Unexpected, ts)
+field types context ts = Err (Unexpected expected.Field, ts)
 
 -- 6.6.2 to 6.6.12: a field, if `(` is next.
 unfoldable pub field_item : Types → Context → List Terminal → Item Field
@@ -625,17 +640,20 @@ unfoldable pub definition_at : List Terminal → List Definition
 definition_at (Word w ∷ ts) = if bytes_eq w (codes "type") then definition_by (type_at ts) else []
 definition_at ts = []
 
+-- The fields `fs`, after which no token is left; otherwise an error, with what else the grammar accepts there.
+abbrev pub end_after : Expected → List Field → List Terminal → Result (List Field) Fault
+end_after e fs [] = Ok fs
+end_after e fs (t ∷ ts) = Err (Unexpected e, t ∷ ts)
+
 -- The fields of a result, after which the `)` of the module and the end must follow.
 abbrev pub ended : Read (List Field) → Result (List Field) Fault
-ended (Ok (fs, Close ∷ [])) = Ok fs
-ended (Ok (fs, Close ∷ t ∷ ts)) = Err (Unexpected, t ∷ ts)
-ended (Ok (fs, ts)) = Err (Unexpected, ts)
+ended (Ok (fs, Close ∷ ts)) = end_after expected.End fs ts
+ended (Ok (fs, ts)) = Err (Unexpected expected.FieldOrClose, ts)
 ended (Err f) = Err f
 
 -- The fields of a result, after which the end must follow.
 abbrev pub at_end : Read (List Field) → Result (List Field) Fault
-at_end (Ok (fs, [])) = Ok fs
-at_end (Ok (fs, t ∷ ts)) = Err (Unexpected, t ∷ ts)
+at_end (Ok (fs, ts)) = end_after expected.FieldOrEnd fs ts
 at_end (Err f) = Err f
 
 -- The fields of a result, after which the module must end; it is in parentheses if the flag is true.
@@ -644,9 +662,9 @@ ended_by true q = ended q
 ended_by false q = at_end q
 
 -- 6.6.13: the fields of a result, whose imports must precede all definitions and of which at most one is a start field;
--- otherwise an error at the tokens `ts`, which begin with the fields.
+-- otherwise an error (`Places`). The tokens `ts` begin with the fields.
 abbrev pub ordered : List Terminal → Result (List Field) Fault → Result (List Field) Fault
-ordered ts (Ok fs) = if imports_first fs then (if nat_lt (length (starts_of fs)) 2 then Ok fs else Err (SecondStart, ts)) else Err (LateImport, ts)
+ordered ts (Ok fs) = if imports_first fs then (if nat_lt (length (starts_of fs)) 2 then Ok fs else Err (start_fault fs (starts Before [] ts) ts)) else Err (import_fault fs (starts Before [] ts) ts)
 ordered ts (Err f) = Err f
 
 -- 6.1.3: the context with these types and the items of the fields that begin at `ss`.
@@ -673,7 +691,7 @@ fields_by enclosed ss types ts = ordered ts (ended_by enclosed (all_by ss types 
 -- without knowing the types. An unknown index can be that of a type that a type use adds, so the second error is
 -- reported; any other first error is reported itself.
 abbrev pub fault_of : Fault → Fault → Fault
-fault_of (UnknownName, ts) g = g
+fault_of (UnknownName s, ts) g = g
 fault_of f g = f
 
 -- 6.6.13: the fields of a module in the context with all types, by the fields that were
@@ -690,7 +708,7 @@ fields_or enclosed ss ts (Err f) = fields_again enclosed ss ts f (all_by ss (unk
 
 -- 6.6.13: the fields of a module, whose identifiers must be distinct.
 abbrev pub fields_from : Bool → List (List Terminal) → List Terminal → Result (List Field) Fault
-fields_from enclosed ss ts = if all_distinct (defined_types ss) (context_by ss (defined_types ss)) then fields_or enclosed ss ts (fields_by enclosed ss (defined_types ss) ts) else Err (Duplicate, ts)
+fields_from enclosed ss ts = if all_distinct (defined_types ss) (context_by ss (defined_types ss)) then fields_or enclosed ss ts (fields_by enclosed ss (defined_types ss) ts) else Err (duplicate_item ss ts)
 
 -- 6.6.13: the fields of a module from the tokens `ts` on.
 abbrev pub fields_at : Bool → List Terminal → Result (List Field) Fault

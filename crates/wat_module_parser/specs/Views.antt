@@ -1,6 +1,6 @@
 -- The remaining tokens, names, variables and type uses of the code, as definitions, and what a call that parses
 -- an item ensures. Not part of the standard.
-use Rattle.std.specs.Prelude.{◌≡◌, ◌++◌, List, [], map, Some, None, Ok, Err}
+use Rattle.std.specs.Prelude.{◌≡◌, ◌++◌, Bool, List, [], map, Some, None, Ok, Err}
 use Rattle.wat_module_ast.specs.declared.error.ParseFailure.{ParseFailure}
 use Rattle.wat_module_ast.specs.declared.error.ParseFailure.TheVariants as refusal
 use Rattle.wat_module_instructions.specs.Parts.{fault_of}
@@ -14,6 +14,10 @@ use Rattle.wat_module_parser.specs.declared.variables.ListedUse as declared_list
 use Rattle.wat_module_parser.specs.declared.variables.NamedUse as declared_use
 use Rattle.wat_module_parser.specs.declared.variables.NamedUse.TheVariants as uses
 use Rattle.wat_module_parser.specs.declared.variables.Variable as declared_variable
+use Rattle.wat_module_parser.specs.declared.places.Sought.{Sought}
+use Rattle.wat_module_parser.specs.declared.places.Sought.TheVariants as sought
+use Rattle.wat_module_ast.specs.Fields.{Field, is_definition, is_import}
+use Rattle.wat_module_parser.specs.Places.{is_start}
 use Rattle.wat_module_ast.specs.Fields.{Binding, NamedUse, Variable, binding, named_use, unnamed, variable}
 use Rattle.wat_module_parser.specs.Reading.{Item}
 
@@ -71,3 +75,9 @@ pub record IsItem {V : Type 0} (item : Item V) (before after : List V) (left : L
 abbrev pub ItemFaults : {V : Type 0} → Item V → ParseFailure → Type 0
 ItemFaults item (refusal.Text f) = item ≡ Some (Err (fault_of f))
 ItemFaults item (refusal.Memory e) = Unit {0}
+
+-- A property of fields.
+abbrev pub property : Sought → Field → Bool
+property sought.Definition = is_definition
+property sought.Import = is_import
+property sought.Start = is_start

@@ -15,7 +15,7 @@ use crate::names::Names;
 use crate::segments::{expression, used};
 use crate::types::{skip_two_closes, table_type};
 use std::alloc::Global;
-use wat_module_ast::error::{Fault, FaultKind, ParseFailure};
+use wat_module_ast::error::{Expected, Fault, FaultKind, ParseFailure, Range, Space};
 use wat_module_ast::fields::{Elem, ElemMode, Elements, Field, Limits, Table, TableType, Target};
 use wat_module_ast::instruction::{Instruction, ReferenceType};
 use wat_module_instructions::faults::{fault, unexpected};
@@ -124,7 +124,7 @@ fn next_function<'p, 'a>(
 {
     match left.first() {
         Some((DecodedToken::Integer(_, _) | DecodedToken::Id(_), _)) => {
-            let (index, cursor) = reading::index(&names.funcs, left)?;
+            let (index, cursor) = reading::index(Space::Func, &names.funcs, left)?;
             found.push(index)?;
             Ok(Some(cursor))
         }
@@ -173,7 +173,10 @@ pub(crate) fn table_at<'p, 'a>(
     match cursor.first() {
         Some((DecodedToken::Word(word), rest)) => match reading::reference_type(word) {
             Some(of) => table_open(alloc, names, name, exports, of, rest),
-            None => Err(ParseFailure::Text(fault(FaultKind::UnknownWord, cursor))),
+            None => {
+                let kind = FaultKind::UnknownWord(Expected::ReferenceType);
+                Err(ParseFailure::Text(fault(kind, cursor)))
+            }
         },
         Some(
             (
@@ -234,7 +237,7 @@ fn table_open<'p, 'a>(
 {
     match after("elem", cursor) {
         Some(rest) => table_elements(alloc, names, name, exports, of, rest),
-        None => Err(ParseFailure::Text(unexpected(cursor))),
+        None => Err(ParseFailure::Text(unexpected(Expected::Elem, cursor))),
     }
 }
 
@@ -273,7 +276,7 @@ fn table_with<'p, 'a>(
         result }
 {
     if elements.len() as u64 >= 0x1_0000_0000 {
-        return Err(fault(FaultKind::OutOfRange, all));
+        return Err(fault(FaultKind::OutOfRange(Range::Unsigned(0x8000_0000)), all));
     }
     let size = elements.len() as u32;
     Ok((
@@ -305,7 +308,7 @@ fn elements<'p, 'a>(
 {
     match cursor.first() {
         Some((DecodedToken::Word(word), rest)) => elements_after(alloc, names, word, cursor, rest),
-        _ => Err(ParseFailure::Text(unexpected(cursor))),
+        _ => Err(ParseFailure::Text(unexpected(Expected::ElementList, cursor))),
     }
 }
 
@@ -332,7 +335,7 @@ fn elements_after<'p, 'a>(
                 let (functions, rest) = functions(alloc, names, cursor)?;
                 Ok(((ReferenceType::Func, Elements::Functions(functions)), rest))
             } else {
-                Err(ParseFailure::Text(fault(FaultKind::UnknownWord, all)))
+                Err(ParseFailure::Text(unexpected(Expected::ElementList, all)))
             }
         }
     }
@@ -422,7 +425,7 @@ fn given_table<'p, 'a>(
         (reading.given_table (context_of names.now) (label name.entry) (terminals_of cursor.entry))
         result }
 {
-    let (index, rest) = used("table", &names.tables, cursor)?;
+    let (index, rest) = used("table", Space::Table, &names.tables, cursor)?;
     let (offset, rest) = expression(alloc, names, "offset", rest)?;
     let mode = ElemMode::Active(Target { index, offset });
     elem_list(alloc, names, name, mode, rest)
@@ -485,7 +488,7 @@ fn elem_after<'p, 'a>(
     match cursor.first() {
         Some((DecodedToken::Open, _)) => active_elem(alloc, names, name, cursor),
         Some((DecodedToken::Word(word), rest)) => elem_word(alloc, names, name, word, cursor, rest),
-        _ => Err(ParseFailure::Text(unexpected(cursor))),
+        _ => Err(ParseFailure::Text(unexpected(Expected::ElementList, cursor))),
     }
 }
 

@@ -1,5 +1,5 @@
 //! Parses export fields: `(export "name" (func 0))`.
-ghost use Rattle.std.specs.Prelude.{[], ◌∷◌, Some};
+ghost use Rattle.std.specs.Prelude.{◌≡◌, [], ◌∷◌, Some};
 ghost use Rattle.wat_module_parser.specs.Reading as reading;
 ghost use Rattle.wat_module_ast.specs.Views.{field_of};
 ghost use Rattle.wat_module_parser.specs.Views.{context_of};
@@ -9,9 +9,9 @@ ghost use Rattle.wat_module_instructions.specs.Parts.{ReadsExactly};
 use crate::header::utf8_text;
 use crate::names::{Names, names_in};
 use crate::types::{skip_two_closes, space_of};
-use wat_module_ast::error::{Fault, FaultKind};
+use wat_module_ast::error::{Expected, Fault, Space};
 use wat_module_ast::fields::{Export, Field, IndexSpace};
-use wat_module_instructions::faults::{fault, unexpected};
+use wat_module_instructions::faults::unexpected;
 use wat_module_instructions::reading;
 use wat_module_tokens::stream::TokenCursor;
 use wat_module_tokens::token::DecodedToken;
@@ -40,7 +40,7 @@ fn external<'p, 'a>(
 {
     match cursor.first() {
         Some((DecodedToken::Open, rest)) => external_word(names, name, rest),
-        _ => Err(unexpected(cursor)),
+        _ => Err(unexpected(Expected::ExportDescription, cursor)),
     }
 }
 
@@ -56,9 +56,21 @@ fn external_word<'p, 'a>(
     match cursor.first() {
         Some((DecodedToken::Word(word), rest)) => match space_of(word) {
             Some(space) => external_index(names, name, space, rest),
-            None => Err(fault(FaultKind::UnknownWord, cursor)),
+            None => Err(unexpected(Expected::ItemKind, cursor)),
         },
-        _ => Err(unexpected(cursor)),
+        _ => Err(unexpected(Expected::ItemKind, cursor)),
+    }
+}
+
+/// Returns the index space of errors for the items of an index space.
+fn kind_of(space: IndexSpace) -> Space
+    ensures { result ≡ reading.kind_of space }
+{
+    match space {
+        IndexSpace::Func => Space::Func,
+        IndexSpace::Table => Space::Table,
+        IndexSpace::Mem => Space::Memory,
+        IndexSpace::Global => Space::Global,
     }
 }
 
@@ -75,7 +87,7 @@ fn external_index<'p, 'a>(
         (terminals_of cursor.entry) (terminals_of cursor.entry))
         result }
 {
-    let (index, rest) = reading::index(names_in(names, space), cursor)?;
+    let (index, rest) = reading::index(kind_of(space), names_in(names, space), cursor)?;
     let rest = skip_two_closes(rest)?;
     Ok((Field::Export(Export { name, space, index }), rest))
 }

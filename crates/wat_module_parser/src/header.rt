@@ -12,7 +12,7 @@ ghost use Rattle.wat_module_instructions.specs.Parts.{Faults, ReadsAs, ReadsExac
 use crate::variables::Variable;
 use std::alloc::Global;
 use std::str;
-use wat_module_ast::error::{Fault, FaultKind, ParseFailure};
+use wat_module_ast::error::{Expected, Fault, FaultKind, ParseFailure};
 use wat_module_ast::instruction::ValueType;
 use wat_module_instructions::faults::{fault, unexpected};
 use wat_module_instructions::reading::{after, value_type};
@@ -100,7 +100,7 @@ pub(crate) fn closed<'p, 'a>(
 {
     match cursor.first() {
         Some((DecodedToken::Close, rest)) => Ok(rest),
-        _ => Err(unexpected(cursor)),
+        _ => Err(unexpected(Expected::Close, cursor)),
     }
 }
 
@@ -128,7 +128,7 @@ pub(crate) fn utf8_text<'p, 'a>(
                 Err(fault(FaultKind::NotUtf8, cursor))
             }
         }
-        _ => Err(unexpected(cursor)),
+        _ => Err(unexpected(Expected::Text, cursor)),
     }
 }
 
@@ -221,7 +221,10 @@ fn next_value<'p, 'a>(
                 found.push(Variable { name, of })?;
                 Ok(Some(cursor))
             }
-            None => Err(ParseFailure::Text(fault(FaultKind::UnknownWord, left))),
+            None => {
+                let kind = FaultKind::UnknownWord(Expected::ValueType);
+                Err(ParseFailure::Text(fault(kind, left)))
+            }
         },
         _ => Ok(None),
     }
@@ -245,7 +248,7 @@ fn group<'p, 'a>(
             if may_have_name {
                 named_group(name, found, rest)
             } else {
-                Err(ParseFailure::Text(unexpected(cursor)))
+                Err(ParseFailure::Text(unexpected(Expected::ValueTypeOrClose, cursor)))
             }
         }
         _ => listed(found, cursor),
@@ -267,9 +270,12 @@ fn named_group<'p, 'a>(
     match cursor.first() {
         Some((DecodedToken::Word(word), rest)) => match value_type(word) {
             Some(of) => named_type(name, of, found, rest),
-            None => Err(ParseFailure::Text(fault(FaultKind::UnknownWord, cursor))),
+            None => {
+                let kind = FaultKind::UnknownWord(Expected::ValueType);
+                Err(ParseFailure::Text(fault(kind, cursor)))
+            }
         },
-        _ => Err(ParseFailure::Text(unexpected(cursor))),
+        _ => Err(ParseFailure::Text(unexpected(Expected::ValueType, cursor))),
     }
 }
 

@@ -10,13 +10,14 @@ ghost use Rattle.wat_module_tokens.specs.Terminals.{label};
 
 use crate::header::{closed, utf8_text};
 use crate::names::{Names, variable_names};
+use crate::places::duplicate_variable;
 use crate::types::{global_type, limits, skip_two_closes, space_of, table_type};
 use crate::uses::type_use;
 use crate::variables::{NamedUse, without_names};
 use std::alloc::Global;
-use wat_module_ast::error::{Fault, FaultKind, ParseFailure};
+use wat_module_ast::error::{Expected, Fault, ParseFailure};
 use wat_module_ast::fields::{ExternType, Field, Import, IndexSpace};
-use wat_module_instructions::faults::{fault, unexpected};
+use wat_module_instructions::faults::unexpected;
 use wat_module_instructions::reading;
 use wat_module_tokens::stream::TokenCursor;
 use wat_module_tokens::token::{DecodedToken, Name};
@@ -78,7 +79,7 @@ fn func_type<'p, 'a>(
         result }
 {
     if variable_names(alloc, &uses, &[])?.is_none() {
-        return Err(ParseFailure::Text(fault(FaultKind::Duplicate, all)));
+        return Err(ParseFailure::Text(duplicate_variable(alloc, all)?));
     }
     let uses = without_names(alloc, &uses)?;
     Ok((ExternType::Func(uses), rest))
@@ -144,7 +145,7 @@ fn import_open<'p, 'a>(
 {
     match cursor.first() {
         Some((DecodedToken::Open, rest)) => import_word(alloc, names, from, item, rest),
-        _ => Err(ParseFailure::Text(unexpected(cursor))),
+        _ => Err(ParseFailure::Text(unexpected(Expected::ImportDescription, cursor))),
     }
 }
 
@@ -163,9 +164,9 @@ fn import_word<'p, 'a>(
     match cursor.first() {
         Some((DecodedToken::Word(word), rest)) => match space_of(word) {
             Some(space) => import_item(alloc, names, from, item, space, rest),
-            None => Err(ParseFailure::Text(fault(FaultKind::UnknownWord, cursor))),
+            None => Err(ParseFailure::Text(unexpected(Expected::ItemKind, cursor))),
         },
-        _ => Err(ParseFailure::Text(unexpected(cursor))),
+        _ => Err(ParseFailure::Text(unexpected(Expected::ItemKind, cursor))),
     }
 }
 

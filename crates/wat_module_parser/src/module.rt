@@ -34,18 +34,20 @@ use crate::elements::table_at;
 use crate::exports::export_at;
 use crate::header::{closed, exports, variables};
 use crate::imports::{import_at, inline_import};
+use crate::labels::label_names;
 use crate::names::{Names, names_of, variable_names, with_types, without_types};
+use crate::places::{duplicate_item, duplicate_variable, import_fault, start_fault};
 use crate::segments::{memory_at, segment};
 use crate::types::{global_type, space_of};
 use crate::uses::{type_at, type_use};
-use crate::variables::{NamedUse, Variable, locals_of, without_names};
+use crate::variables::{NamedUse, Variable, local_names, locals_of, without_names};
 use std::alloc::Global;
-use wat_module_ast::error::{Fault, FaultKind, ParseFailure};
+use wat_module_ast::error::{Expected, Fault, FaultKind, ParseFailure, Space};
 use wat_module_ast::fields::{Field, Function, GlobalVariable, IndexSpace};
 use wat_module_ast::implicit_types;
 use wat_module_ast::instruction::Instruction;
 use wat_module_ast::types::FunctionType;
-use wat_module_instructions::faults::{fault, unexpected};
+use wat_module_instructions::faults::unexpected;
 use wat_module_instructions::machine;
 use wat_module_instructions::names::IndexedNames;
 use wat_module_instructions::reading::{self, Scope, after};
@@ -108,7 +110,7 @@ fn module_fields<'p, 'a>(
         (λ e. Faults (reading.fields_at enclosed (terminals_of cursor.entry)) e) }
 {
     let Some(names) = names_of(alloc, cursor)? else {
-        return Err(ParseFailure::Text(fault(FaultKind::Duplicate, cursor)));
+        return Err(ParseFailure::Text(duplicate_item(alloc, cursor)?));
     };
     match fields_by(alloc, enclosed, &names, cursor) {
         Err(ParseFailure::Text(fault)) => fields_again(alloc, enclosed, names, fault, cursor),
@@ -178,7 +180,7 @@ fn first_fault<'p, 'a>(fault: Fault<'p, 'a>, other: Fault<'p, 'a>) -> Fault<'p, 
     ensures { fault_of result ≡ reading.fault_of (fault_of fault.entry) (fault_of other.entry) }
 {
     match fault.kind {
-        FaultKind::UnknownName => other,
+        FaultKind::UnknownName(_) => other,
         _ => fault,
     }
 }
@@ -208,10 +210,10 @@ fn fields_by<'p, 'a>(
     let (fields, rest) = fields(alloc, names, cursor)?;
     ended_by(enclosed, rest)?;
     if !imports_first(&fields) {
-        return Err(ParseFailure::Text(fault(FaultKind::LateImport, cursor)));
+        return Err(ParseFailure::Text(import_fault(alloc, &fields, cursor)?));
     }
     if starts(&fields) > 1 {
-        return Err(ParseFailure::Text(fault(FaultKind::SecondStart, cursor)));
+        return Err(ParseFailure::Text(start_fault(alloc, &fields, cursor)?));
     }
     Ok(fields)
 }
@@ -227,7 +229,7 @@ fn ended_by<'p, 'a>(enclosed: bool, cursor: TokenCursor<'p, 'a>) -> Result<(), F
     if enclosed {
         ended(cursor)
     } else {
-        at_end(cursor)
+        at_end(Expected::FieldOrEnd, cursor)
     }
 }
 
@@ -240,22 +242,22 @@ fn ended<'p, 'a>(cursor: TokenCursor<'p, 'a>) -> Result<(), Fault<'p, 'a>>
         reading.ended (Ok (fs, terminals_of cursor.entry)) ≡ Err (fault_of f)) }
 {
     match cursor.first() {
-        Some((DecodedToken::Close, rest)) => at_end(rest),
-        _ => Err(unexpected(cursor)),
+        Some((DecodedToken::Close, rest)) => at_end(Expected::End, rest),
+        _ => Err(unexpected(Expected::FieldOrClose, cursor)),
     }
 }
 
-/// Checks that no token is left.
-fn at_end<'p, 'a>(cursor: TokenCursor<'p, 'a>) -> Result<(), Fault<'p, 'a>>
+/// Checks that no token is left. Otherwise `expected` is accepted here.
+fn at_end<'p, 'a>(expected: Expected, cursor: TokenCursor<'p, 'a>) -> Result<(), Fault<'p, 'a>>
     ensures { MatchResult result
         (λ _. (fs : List grammar.Field) →
-        reading.at_end (Ok (fs, terminals_of cursor.entry)) ≡ Ok fs)
+        reading.end_after expected fs (terminals_of cursor.entry) ≡ Ok fs)
         (λ f. (fs : List grammar.Field) →
-        reading.at_end (Ok (fs, terminals_of cursor.entry)) ≡ Err (fault_of f)) }
+        reading.end_after expected fs (terminals_of cursor.entry) ≡ Err (fault_of f)) }
 {
     match cursor.first() {
         None => Ok(()),
-        Some(_) => Err(unexpected(cursor)),
+        Some(_) => Err(unexpected(expected, cursor)),
     }
 }
 
@@ -384,7 +386,7 @@ fn field_at<'p, 'a>(
 {
     match cursor.first() {
         Some((DecodedToken::Word(word), rest)) => { field_after(alloc, names, word, cursor, rest) }
-        _ => Err(ParseFailure::Text(unexpected(cursor))),
+        _ => Err(ParseFailure::Text(unexpected(Expected::Field, cursor))),
     }
 }
 
@@ -463,8 +465,10 @@ fn func<'p, 'a>(
         result }
 {
     let (uses, rest) = type_use(alloc, names, cursor)?;
-    let (locals, rest) = variables(alloc, "local", true, rest)?;
-    let (body, rest) = instructions(alloc, names, &uses, &locals, rest)?;
+    let (locals, start) = variables(alloc, "local", true, rest)?;
+    let (body, rest) = instructions(alloc, names, &uses, &locals, cursor, start)?;
+    let local_names = local_names(alloc, &uses, &locals)?;
+    let label_names = label_names(alloc, start)?;
     let uses = without_names(alloc, &uses)?;
     let locals = locals_of(alloc, &locals)?;
     Ok((
@@ -474,6 +478,8 @@ fn func<'p, 'a>(
             uses,
             locals,
             body,
+            local_names,
+            label_names,
         }),
         rest,
     ))
@@ -556,7 +562,7 @@ fn start_at<'p, 'a>(
     ensures { ReadsExactly (λ v. field_of v ∷ [])
         (reading.start_at (context_of names.now) (terminals_of cursor.entry)) result }
 {
-    let (index, rest) = reading::index(&names.funcs, cursor)?;
+    let (index, rest) = reading::index(Space::Func, &names.funcs, cursor)?;
     let rest = closed(rest)?;
     Ok((Field::Start(index), rest))
 }
@@ -581,22 +587,23 @@ pub(crate) fn scope<'s, 'n>(names: &'s Names<'n>, locals: &'s IndexedNames<'n>) 
 
 /// Parses the instructions of a function after its locals, up to and including the closing
 /// parenthesis of the function. The identifiers of its parameters, which are those of `uses`, and
-/// of its locals must be distinct.
+/// of its locals must be distinct. `start` starts at the type use, for errors.
 #[tactic(auto, unfolding(crate::specs::Reading::instructions))]
 fn instructions<'p, 'a>(
     alloc: Global,
     names: &Names<'a>,
     uses: &NamedUse<'_, 'a>,
     locals: &[Variable<'a>],
+    start: TokenCursor<'p, 'a>,
     cursor: TokenCursor<'p, 'a>,
 ) -> Result<(Vec<Instruction>, TokenCursor<'p, 'a>), ParseFailure<'p, 'a>>
     ensures { ReadsAs (λ v. v.items)
         (reading.instructions (context_of names.now) (use_of uses.now).params
-        (map variable_of locals.now) (terminals_of cursor.entry))
+        (map variable_of locals.now) (terminals_of start.entry) (terminals_of cursor.entry))
         result }
 {
     let Some(locals) = variable_names(alloc, uses, locals)? else {
-        return Err(ParseFailure::Text(fault(FaultKind::Duplicate, cursor)));
+        return Err(ParseFailure::Text(duplicate_variable(alloc, start)?));
     };
     let scope = scope(names, &locals);
     machine::instructions(alloc, &scope, cursor)

@@ -206,7 +206,7 @@ pub(crate) fn names_in<'s, 'a>(names: &'s Names<'a>, space: IndexSpace) -> &'s I
 
 /// Returns the tokens after the opening parenthesis of each field. Fields are found by their
 /// parentheses alone.
-fn starts<'p, 'a>(
+pub(crate) fn starts<'p, 'a>(
     alloc: Global,
     cursor: TokenCursor<'p, 'a>,
 ) -> Result<Vec<TokenCursor<'p, 'a>>, AllocError>

@@ -16,7 +16,7 @@ use crate::module::scope;
 use crate::names::Names;
 use crate::types::{limits, skip_two_closes};
 use std::alloc::{AllocError, Global};
-use wat_module_ast::error::{Fault, FaultKind, ParseFailure};
+use wat_module_ast::error::{Expected, Fault, FaultKind, ParseFailure, Range, Space};
 use wat_module_ast::fields::{Data, Field, Limits, Memory, Target, len_of};
 use wat_module_ast::instruction::Instruction;
 use wat_module_instructions::faults::{fault, unexpected};
@@ -151,7 +151,8 @@ fn memory_of<'p, 'a>(
 {
     let pages = pages_of(&strings)?;
     if pages as u64 >= 0x1_0000_0000 {
-        return Err(ParseFailure::Text(fault(FaultKind::OutOfRange, all)));
+        let kind = FaultKind::OutOfRange(Range::Unsigned(0x8000_0000));
+        return Err(ParseFailure::Text(fault(kind, all)));
     }
     let size = pages as u32;
     Ok((
@@ -176,19 +177,21 @@ fn pages_of(strings: &[&[u8]]) -> Result<usize, AllocError>
 }
 
 /// Parses the memory use or table use of a segment: an opening parenthesis, `word`, an index and a
-/// closing parenthesis. Returns index 0 if no such group comes next.
+/// closing parenthesis. Returns index 0 if no such group comes next. `space` is the index space,
+/// for errors.
 #[tactic(auto, unfolding(crate::specs::Reading::used_at))]
 pub(crate) fn used<'p, 'a>(
     word: &str,
+    space: Space,
     names: &IndexedNames<'_>,
     cursor: TokenCursor<'p, 'a>,
 ) -> Result<(usize, TokenCursor<'p, 'a>), Fault<'p, 'a>>
-    ensures { ReadsExactly (λ v. v) (reading.used_at word.now names.now (terminals_of cursor.entry))
-        result }
+    ensures { ReadsExactly (λ v. v)
+        (reading.used_at word.now space names.now (terminals_of cursor.entry)) result }
 {
     match after(word, cursor) {
         Some(rest) => {
-            let (index, rest) = reading::index(names, rest)?;
+            let (index, rest) = reading::index(space, names, rest)?;
             let rest = closed(rest)?;
             Ok((index, rest))
         }
@@ -233,7 +236,7 @@ fn one_instruction<'p, 'a>(
             let scope = scope(names, &locals);
             machine::one_folded(alloc, &scope, rest)
         }
-        _ => Err(ParseFailure::Text(unexpected(cursor))),
+        _ => Err(ParseFailure::Text(unexpected(Expected::Expression, cursor))),
     }
 }
 
@@ -256,7 +259,7 @@ pub(crate) fn segment<'p, 'a>(
     if word == "elem" {
         return elem_at(alloc, names, cursor);
     }
-    Err(ParseFailure::Text(fault(FaultKind::UnknownWord, all)))
+    Err(ParseFailure::Text(fault(FaultKind::UnknownWord(Expected::Field), all)))
 }
 
 /// Parses a data segment after its keyword.
@@ -301,7 +304,7 @@ fn active_data<'p, 'a>(
         (reading.active_data (context_of names.now) (label name.entry) (terminals_of cursor.entry))
         result }
 {
-    let (index, rest) = used("memory", &names.memories, cursor)?;
+    let (index, rest) = used("memory", Space::Memory, &names.memories, cursor)?;
     let (offset, rest) = expression(alloc, names, "offset", rest)?;
     data_strings(alloc, name, Some(Target { index, offset }), rest)
 }

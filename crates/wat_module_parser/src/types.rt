@@ -7,7 +7,7 @@ ghost use Rattle.wat_module_tokens.specs.TokenCursor.{terminals_of};
 ghost use Rattle.wat_module_instructions.specs.Parts.{ReadsExactly, SkipsExactly};
 
 use crate::header::closed;
-use wat_module_ast::error::{Fault, FaultKind};
+use wat_module_ast::error::{Expected, Fault, FaultKind, Range, Space};
 use wat_module_ast::fields::{GlobalType, IndexSpace, Limits, TableType};
 use wat_module_ast::instruction::{ReferenceType, ValueType};
 use wat_module_instructions::faults::{fault, unexpected};
@@ -48,10 +48,10 @@ fn small<'p, 'a>(
             if n < 0x1_0000_0000 {
                 Ok((n as u32, rest))
             } else {
-                Err(fault(FaultKind::OutOfRange, all))
+                Err(fault(FaultKind::OutOfRange(Range::Unsigned(0x8000_0000)), all))
             }
         }
-        Sign::Plus | Sign::Minus => Err(unexpected(all)),
+        Sign::Plus | Sign::Minus => Err(unexpected(Expected::Unsigned, all)),
     }
 }
 
@@ -67,7 +67,7 @@ pub(crate) fn limits<'p, 'a>(
             let (min, rest) = small(sign, n, cursor, rest)?;
             maximum(min, rest)
         }
-        _ => Err(unexpected(cursor)),
+        _ => Err(unexpected(Expected::Limits, cursor)),
     }
 }
 
@@ -110,9 +110,9 @@ fn reference_type<'p, 'a>(
     match cursor.first() {
         Some((DecodedToken::Word(word), rest)) => match reading::reference_type(word) {
             Some(of) => Ok((of, rest)),
-            None => Err(fault(FaultKind::UnknownWord, cursor)),
+            None => Err(fault(FaultKind::UnknownWord(Expected::ReferenceType), cursor)),
         },
-        _ => Err(unexpected(cursor)),
+        _ => Err(unexpected(Expected::ReferenceType, cursor)),
     }
 }
 
@@ -129,10 +129,10 @@ pub(crate) fn global_type<'p, 'a>(
                 let is_mutable = false;
                 Ok((GlobalType { is_mutable, value }, rest))
             }
-            None => Err(fault(FaultKind::UnknownWord, cursor)),
+            None => Err(fault(FaultKind::UnknownWord(Expected::ValueType), cursor)),
         },
         Some((DecodedToken::Open, rest)) => mutable(rest),
-        _ => Err(unexpected(cursor)),
+        _ => Err(unexpected(Expected::GlobalType, cursor)),
     }
 }
 
@@ -147,10 +147,10 @@ fn mutable<'p, 'a>(
             if word == "mut" {
                 mutable_type(rest)
             } else {
-                Err(fault(FaultKind::UnknownWord, cursor))
+                Err(unexpected(Expected::Mut, cursor))
             }
         }
-        _ => Err(unexpected(cursor)),
+        _ => Err(unexpected(Expected::Mut, cursor)),
     }
 }
 
@@ -163,9 +163,9 @@ fn mutable_type<'p, 'a>(
     match cursor.first() {
         Some((DecodedToken::Word(word), rest)) => match value_type(word) {
             Some(of) => closing_mutable(of, rest),
-            None => Err(fault(FaultKind::UnknownWord, cursor)),
+            None => Err(fault(FaultKind::UnknownWord(Expected::ValueType), cursor)),
         },
-        _ => Err(unexpected(cursor)),
+        _ => Err(unexpected(Expected::ValueType, cursor)),
     }
 }
 
@@ -197,6 +197,6 @@ pub(crate) fn skip_two_closes<'p, 'a>(
 {
     match cursor.first() {
         Some((DecodedToken::Close, rest)) => closed(rest),
-        _ => Err(unexpected(cursor)),
+        _ => Err(unexpected(Expected::Close, cursor)),
     }
 }

@@ -13,7 +13,7 @@ use crate::names::Names;
 use crate::types::skip_two_closes;
 use crate::variables::{ListedUse, NamedUse, Variable, function_type};
 use std::alloc::Global;
-use wat_module_ast::error::{FaultKind, ParseFailure};
+use wat_module_ast::error::{Expected, FaultKind, ParseFailure, Space};
 use wat_module_ast::fields::Definition;
 use wat_module_ast::types::{FunctionType, same_type, type_at_index};
 use wat_module_instructions::faults::{fault, unexpected};
@@ -66,7 +66,7 @@ fn indexed_use<'s, 'p, 'a>(
     ensures { ReadsAs use_of (reading.indexed_use (types_of names.now) (terminals_of cursor.entry))
         result }
 {
-    let (index, rest) = reading::index(&names.type_names, cursor)?;
+    let (index, rest) = reading::index(Space::Type, &names.type_names, cursor)?;
     let rest = closed(rest)?;
     if names.are_types_known {
         return known_use(alloc, names, index, cursor, rest);
@@ -90,7 +90,7 @@ fn known_use<'s, 'p, 'a>(
 {
     match type_at_index(&names.types, index) {
         Some(of) => lists(alloc, index, of, all, cursor),
-        None => Err(ParseFailure::Text(fault(FaultKind::UnknownName, all))),
+        None => Err(ParseFailure::Text(fault(FaultKind::UnknownName(Space::Type), all))),
     }
 }
 
@@ -169,7 +169,7 @@ pub(crate) fn type_at<'p, 'a>(
     let (name, cursor) = reading::label(cursor);
     match after("func", cursor) {
         Some(rest) => type_lists(alloc, name, rest),
-        None => Err(ParseFailure::Text(unexpected(cursor))),
+        None => Err(ParseFailure::Text(unexpected(Expected::FunctionType, cursor))),
     }
 }
 

@@ -1,14 +1,15 @@
 //! Parameters, results and locals with their identifiers, and their types alone.
-ghost use Rattle.std.specs.Prelude.{◌≡◌, ◌∷◌, map, IfOk};
+ghost use Rattle.std.specs.Prelude.{◌≡◌, ◌<◌, ◌^◌, ◌++◌, ◌∷◌, map, IfOk};
 ghost use Rattle.std.specs.List.{flat_map};
 ghost use Rattle.wat_module_ast.specs.Fields as grammar;
-ghost use Rattle.wat_module_ast.specs.Views.{local_types};
+ghost use Rattle.wat_module_ast.specs.Names.{associations};
+ghost use Rattle.wat_module_ast.specs.Views.{association_of, local_types};
 ghost use Rattle.wat_module_parser.specs.Views.{listed_use_of, use_of, variable_of};
 ghost use Rattle.wat_module_ast.specs.TypeViews as bare;
 ghost use Rattle.wat_module_ast.specs.TypeViews.{type_of};
 
 use std::alloc::{AllocError, Global};
-use wat_module_ast::fields::Locals;
+use wat_module_ast::fields::{Locals, NameAssociation};
 use wat_module_ast::instruction::ValueType;
 use wat_module_ast::types::{FunctionType, TypeUse};
 use wat_module_tokens::token::Name;
@@ -133,4 +134,50 @@ fn listed_without_names(alloc: Global, uses: &ListedUse<'_>) -> Result<TypeUse, 
             Ok(TypeUse::Inline(of))
         }
     }
+}
+
+/// Returns the identifiers of the parameters of a type use and of locals, by their indices.
+#[tactic(auto, using(crate::proofs::NameMaps::listed, crate::proofs::NameMaps::indexed))]
+pub(crate) fn local_names<'a>(
+    alloc: Global,
+    uses: &NamedUse<'_, 'a>,
+    locals: &[Variable<'a>],
+) -> Result<Vec<NameAssociation<'a>>, AllocError>
+    ensures { IfOk result (λ names. map association_of names.items ≡
+        grammar.local_associations (use_of uses.now).params (map variable_of locals.now)) }
+{
+    match uses {
+        NamedUse::Listed(listed) => {
+            let params = with_names(Vec::new(alloc), 0, &listed.params)?;
+            let names = with_names(params, listed.params.len(), locals)?;
+            Ok(names)
+        }
+        NamedUse::Indexed(_, of) => {
+            let names = with_names(Vec::new(alloc), of.params.len(), locals)?;
+            Ok(names)
+        }
+    }
+}
+
+/// Returns `names` with the identifiers of variables appended, by their indices, which begin at
+/// `first`. `first` must be below 2^63.
+fn with_names<'a>(
+    names: Vec<NameAssociation<'a>>,
+    first: usize,
+    variables: &[Variable<'a>],
+) -> Result<Vec<NameAssociation<'a>>, AllocError>
+    requires { first < 2 ^ 63 }
+    ensures { IfOk result (λ all. map association_of all.items ≡
+        map association_of names.entry.items ++
+        associations first (map grammar.name_of (map variable_of variables.now))) }
+{
+    let mut names = names;
+    let mut index = first;
+    for variable in variables {
+        if let Name::Given(name) = variable.name {
+            names.push(NameAssociation { index, name })?;
+        }
+        index += 1;
+    }
+    Ok(names)
 }

@@ -28,7 +28,8 @@ use Rattle.wat_module_parser.specs.Law.{ReadingIsGrammar}
 use Rattle.wat_module_parser.specs.Reading as reading
 use Rattle.wat_module_lexer.specs.TokenTerminals.{plain, terminal_of}
 use Rattle.wat_module_lexer.specs.Shown.{TerminalsShown, TextShown}
-use Rattle.wat_modules.specs.Compiling.{DenotesModule, DenotesNamed, FitsNamed, named_bytes, compiled_as, compiled_by, compiled_tokens, encoding, fitted, message, module_name, place, too_long}
+use Rattle.wat_modules.specs.Compiling.{DenotesModule, DenotesNamed, FitsNamed, named_bytes, compiled_as, compiled_by, compiled_tokens, encoding, fitted, module_name, too_long}
+use Rattle.wat_modules.specs.Messages.{message, place}
 
 -- The visible tokens of a text, and the error after them, are unique.
 pub shows_one : TilingsAreUnique → AllShownIsOne → (text : List ℕ) (us vs : List Token) (f g : Option Fault) → TextShows (plain text) no_names us f → TextShows (plain text) no_names vs g → (us ≡ vs) × (f ≡ g)
@@ -73,8 +74,11 @@ of_bytes law n text us ts fs bytes r m e a t =
     subst (λ x. Is (compiled_by n (module_name (map (terminal_of text) us)) text us x) r) (sym q) (subst (λ b. Is (fitted text b) r) (e ∙ ap (λ x. encoding n (module_name x) fs) t) a)
 
 -- The report of a syntax error at which `left` tokens remain.
+pub readable_of : (text : List ℕ) (items : List Token) (error : Option (Option Report)) → TextShown text items error → All (IsTokenOf text) items
+readable_of text items error h = (seen text items error h).readable
+
 abbrev pub fault_report : List ℕ → List Token → FaultKind → ℕ → Report
-fault_report text us kind left = report_in text (place text us left) (Custom (message kind))
+fault_report text us kind left = report_in text (place text us left) (Custom (message text us kind left))
 
 unless_memory : (m : Report) (error : Option Report) → IsUnlessMemory error m → Is (Err m) (Err error)
 unless_memory m None h = refl

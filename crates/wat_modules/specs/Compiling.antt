@@ -1,14 +1,13 @@
 -- WebAssembly 2.0, 6.6.13 (text format, modules), 5.5.16 (binary format, modules) and 7.4.1 (name section): which text
 -- denotes which module, and the result of compiling a text.
-use Rattle.std.specs.Prelude.{◌≡◌, ◌<◌, ℕ, ◌^◌, ◌-◌, ◌++◌, nat_lt, Bool, true, false, List, length, map, codes, slice_get, if◌then◌else◌, Option, Some, None, Result, Ok, Err}
+use Rattle.std.specs.Prelude.{◌≡◌, ◌<◌, ℕ, ◌^◌, ◌++◌, nat_lt, Bool, true, false, List, length, map, codes, if◌then◌else◌, Option, Some, None, Result, Ok, Err}
 use Rattle.wat_lex.specs.declared.lexer.kinds.Token.{Token}
 use Rattle.wat_lex.specs.errors.Errors.{Report, Custom, report_in}
 use Rattle.wat_lexer_parser.specs.declared.parser.fault.Fault.{Fault}
 use Rattle.wat_lexer_parser.specs.parser.State.{report_of}
-use Rattle.wat_module_ast.specs.declared.error.FaultKind.{FaultKind}
-use Rattle.wat_module_ast.specs.declared.error.FaultKind.TheVariants.{Unexpected, UnknownWord, UnknownName, WrongLabel, OutOfRange, NotUtf8, Duplicate, SecondStart, OtherType, LateImport}
 use Rattle.wat_module_ast.specs.Grammar as grammar
 use Rattle.wat_module_tokens.specs.Terminals.{Terminal, Label}
+use Rattle.wat_modules.specs.Messages.{message, place}
 use Rattle.wat_module_lexer.specs.TokenTerminals.{Shows, terminal_of}
 use Rattle.wat_module_encoder.specs.Binary.{module_bytes}
 use Rattle.wat_module_encoder.specs.NameSection.{name_section}
@@ -64,28 +63,7 @@ abbrev pub encoding : Bool → Label → List Field → List ℕ
 encoding false l fs = module_bytes fs
 encoding true l fs = named_bytes l fs
 
--- The errors of the compiler, and their offsets. The standard does not define them.
-
--- The message of a syntax error.
-abbrev pub message : FaultKind → List ℕ
-message Unexpected = codes "unexpected token"
-message UnknownWord = codes "unknown keyword"
-message UnknownName = codes "unknown identifier"
-message WrongLabel = codes "mismatching label"
-message OutOfRange = codes "number out of range"
-message NotUtf8 = codes "name is not UTF-8"
-message Duplicate = codes "duplicate identifier"
-message SecondStart = codes "more than one start function"
-message OtherType = codes "mismatching type"
-message LateImport = codes "import after a definition"
-
-abbrev pub offset_or : ℕ → Option Token → ℕ
-offset_or end None = end
-offset_or end (Some t) = t.offset
-
--- The offset of the token from which on `left` tokens remain, or the end of the text if none remains.
-abbrev pub place : List ℕ → List Token → ℕ → ℕ
-place text tokens left = offset_or (length text) (slice_get tokens (length tokens - left))
+-- The errors of the compiler; `Messages` has those of syntax errors. The standard does not define them.
 
 abbrev pub too_long : List ℕ → Report
 too_long text = report_in text 0 (Custom (codes "module too long"))
@@ -98,7 +76,7 @@ fitted text bytes = if nat_lt (length bytes) (2 ^ 32) then Ok bytes else Err (to
 -- result of parsing the visible tokens.
 abbrev pub compiled_by : Bool → Label → List ℕ → List Token → Result (List Field) grammar.Fault → Result (List ℕ) Report
 compiled_by has_names l text tokens (Ok fs) = fitted text (encoding has_names l fs)
-compiled_by has_names l text tokens (Err f) = Err (report_in text (place text tokens (length f.1)) (Custom (message f.0)))
+compiled_by has_names l text tokens (Err f) = Err (report_in text (place text tokens (length f.1)) (Custom (message text tokens f.0 (length f.1))))
 
 -- The result of compiling a text, by its visible tokens, if it has no error.
 unfoldable pub compiled_tokens : Bool → List ℕ → List Token → Result (List ℕ) Report

@@ -2,11 +2,13 @@
 //! encoding of the module from which the grammar derives the text.
 #![tactic(auto)]
 
-ghost use Rattle.std.specs.Prelude.{◌≡◌, ◌<◌, ◌^◌, ◌++◌, true, length, map, IfOk, List, None, Option};
+ghost use Rattle.std.specs.Prelude.{◌≡◌, ◌<◌, ◌^◌, ◌++◌, true, length, map, IfOk, IfSome, List, None, Option};
 ghost use Rattle.wat_module_ast.specs.Fields.{Field};
 ghost use Rattle.wat_module_tokens.specs.TokenCursor.{terminals_of};
 ghost use Rattle.wat_module_tokens.specs.Terminals.{Label, label};
 ghost use Rattle.wat_module_tokens.specs.Tokens.{AreLinked, AreReadable};
+ghost use Rattle.std.specs.List.{All};
+ghost use Rattle.wat_lex.specs.tokens.ReadableTokens.{IsTokenOf};
 ghost use Rattle.wat_lex.specs.declared.lexer.kinds.Token.{Token};
 ghost use Rattle.wat_lex.specs.errors.Errors.{Custom, IsUnlessMemory, report_in};
 ghost use Rattle.wat_lexer_parser.specs.declared.parser.fault.Fault.{Fault};
@@ -16,7 +18,7 @@ ghost use Rattle.wat_lexer_parser.specs.parser.State.{Answers};
 ghost use Rattle.wat_modules.specs.Compiling.{Fits, DenotesModule, compiled, compiled_tokens};
 ghost use Rattle.wat_modules.specs.Compiling.{FitsNamed, compiled_as, compiled_named, encoding};
 ghost use Rattle.wat_modules.specs.Compiling.{DenotesNamed, fitted, module_name};
-ghost use Rattle.wat_modules.specs.Compiling as compiling;
+ghost use Rattle.wat_modules.specs.Messages as messages;
 ghost use Rattle.wat_module_lexer.specs.Drafts.{draft_terminals};
 ghost use Rattle.wat_module_lexer.specs.TokenTerminals.{plain, terminal_of};
 ghost use Rattle.wat_module_ast.specs.Views.{fields_of};
@@ -24,7 +26,9 @@ ghost use Rattle.wat_module_encoder.specs.Binary.{module_bytes};
 ghost use Rattle.wat_module_encoder.specs.NameSection.{name_section};
 
 pub mod laws;
+mod messages;
 
+use messages::{Message, first_of, found_token, is_misplaced, kind_by};
 use std::alloc::{AllocError, Global};
 use wat_lexer_parser::Error;
 use wat_lexer_parser::lexer::Token;
@@ -76,9 +80,9 @@ pub fn compile(alloc: Global, text: &str) -> Result<Vec<u8>, Error>
 ///
 /// Returns the binary encoding of the module from which the grammar derives the text, followed by
 /// the custom section `name` (`specs/NameSection` of `wat_module_encoder`). It has the identifiers
-/// of the module and of its functions, types, tables, memories, globals and segments, by their
-/// indices; not those of parameters, locals and labels. If there are none of these, there is no
-/// such section. The text must be shorter than 2^32 bytes.
+/// of the module, of its functions, types, tables, memories, globals and segments, and of the
+/// parameters, locals and labels of the functions that it defines, by their indices. If there are
+/// none of these, there is no such section. The text must be shorter than 2^32 bytes.
 ///
 /// # Errors
 ///
@@ -218,8 +222,8 @@ fn fault_at(alloc: Global, text: &str, kind: FaultKind, left: usize) -> Error
     requires { length text.now < 2 ^ 32 }
     ensures { (tokens : List Token) → TextShows (plain text.now) no_names tokens None →
         IsUnlessMemory result
-        (report_in text.now (compiling.place text.now tokens left)
-        (Custom (compiling.message kind))) }
+        (report_in text.now (messages.place text.now tokens left)
+        (Custom (messages.message text.now tokens kind left))) }
 {
     wat_lex::laws::one_tiling();
     wat_lexer_parser::laws::all_shown();
@@ -243,35 +247,43 @@ fn bound_size(alloc: Global, text: &str, bytes: Vec<u8>) -> Result<Vec<u8>, Erro
 /// Returns the error for a syntax error at the first of the last `left` tokens, or at the end of
 /// the text if `left` is 0.
 fn error_of(alloc: Global, text: &str, tokens: &[Token], kind: FaultKind, left: usize) -> Error
+    requires { All (IsTokenOf text.now) tokens.now }
     ensures { IsUnlessMemory result
-        (report_in text.now (compiling.place text.now tokens.now left)
-        (Custom (compiling.message kind))) }
+        (report_in text.now (messages.place text.now tokens.now left)
+        (Custom (messages.message text.now tokens.now kind left))) }
 {
-    let place = match tokens.get(tokens.len().saturating_sub(left)) {
-        Some(token) => token.offset,
-        None => text.len(),
-    };
-    match String::from_str(alloc, message(kind)) {
-        Ok(message) => Error::parse(alloc, Span::from_offset(place), text, message),
+    let offset = place(text, tokens, left);
+    let first = Span::from_offset(place(text, tokens, first_of(kind))).linecol_in(text);
+    let token = token_at(text, tokens, left);
+    let kind = kind_by(is_misplaced(text, token), kind);
+    let found = found_token(text, token);
+    match format!(in alloc; "{}", Message { kind, found, first }) {
+        Ok(message) => Error::parse(alloc, Span::from_offset(offset), text, message),
         Err(refused) => Error::from(refused),
     }
 }
 
-/// Returns the message for a kind of syntax error.
-fn message(kind: FaultKind) -> &'static str
-    ensures { result.now ≡ compiling.message kind }
+/// Returns the first of the last `left` tokens of a text, or `None` if `left` is 0.
+fn token_at(text: &str, tokens: &[Token], left: usize) -> Option<Token>
+    requires { All (IsTokenOf text.now) tokens.now }
+    ensures is { result ≡ messages.token_at tokens.now left }
+    ensures readable { IfSome result (IsTokenOf text.now) }
 {
-    match kind {
-        FaultKind::Unexpected => "unexpected token",
-        FaultKind::UnknownWord => "unknown keyword",
-        FaultKind::UnknownName => "unknown identifier",
-        FaultKind::WrongLabel => "mismatching label",
-        FaultKind::OutOfRange => "number out of range",
-        FaultKind::NotUtf8 => "name is not UTF-8",
-        FaultKind::Duplicate => "duplicate identifier",
-        FaultKind::SecondStart => "more than one start function",
-        FaultKind::OtherType => "mismatching type",
-        FaultKind::LateImport => "import after a definition",
+    match tokens.get(tokens.len().saturating_sub(left)) {
+        Some(token) => Some(*token),
+        None => None,
+    }
+}
+
+/// Returns the offset of the first of the last `left` tokens, or the length of the text if `left`
+/// is 0.
+fn place(text: &str, tokens: &[Token], left: usize) -> usize
+    requires { All (IsTokenOf text.now) tokens.now }
+    ensures { result ≡ messages.place text.now tokens.now left }
+{
+    match token_at(text, tokens, left) {
+        Some(token) => token.offset,
+        None => text.len(),
     }
 }
 

@@ -19,7 +19,7 @@ use {
 /// # #[cfg(feature = "std")]
 /// assert_eq!(
 ///     error.to_string(),
-///     "unknown keyword\n     --> a.wat:1:15\n      |\n    1 | (module (func frob))\n      |               ^"
+///     "unknown instruction `frob`\n     --> a.wat:1:15\n      |\n    1 | (module (func frob))\n      |               ^"
 /// );
 /// ```
 #[derive(Debug)]

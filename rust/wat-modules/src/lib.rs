@@ -6,10 +6,10 @@
 //! assert!(bytes.ends_with(b"\x41\x01\x0b"));
 //!
 //! let error = wat_modules::parse_str("(module (func\n  frob))").unwrap_err();
-//! assert_eq!((error.message().as_str(), error.span().offset()), ("unknown keyword", 16));
+//! assert_eq!((error.message().as_str(), error.span().offset()), ("unknown instruction `frob`", 16));
 //! assert_eq!(
 //!     error.to_string(),
-//!     "unknown keyword\n     --> <anon>:2:3\n      |\n    2 |   frob))\n      |   ^"
+//!     "unknown instruction `frob`\n     --> <anon>:2:3\n      |\n    2 |   frob))\n      |   ^"
 //! );
 //! # Ok::<(), wat_modules::Error>(())
 //! ```
@@ -86,17 +86,18 @@ pub type Result<T, E = Error> = core::result::Result<T, E>;
 /// The underlying compiler is verified. Unless an allocation fails or the module has more than `u32::MAX` bytes, it returns bytes if and only if the
 /// text is such a module, and these are the module's bytes. A text matches the grammar of at most one module. The module is not validated: the types
 /// of operands are not checked. The bytes end with a name section if the module, or one of its functions, types, tables, memories, globals or
-/// segments, has an identifier. Identifiers of parameters, locals and labels are not written.
+/// segments, or a parameter, local or label of a function that it defines, has an identifier.
 ///
 /// # Errors
 ///
 /// Returns one of these errors, with a byte offset:
 ///
 /// - a lexical error, at its offset;
-/// - a syntax error at the first token that does not match the grammar, e.g. an unknown keyword, an unknown identifier or an integer out of range;
-/// - a duplicate identifier in an index space, an import after a definition, or a second start function, at the first field;
-/// - a duplicate identifier among the parameters and locals of a function, after the last of them;
-/// - a duplicate identifier among the parameters of an imported function, at its type;
+/// - a syntax error at the first token that does not match the grammar; the message has this token and what the grammar accepts there, the index
+///   space of an unknown identifier, or the range of a number that is out of range;
+/// - a duplicate identifier in an index space, or among the parameters and locals of a function, at the second of the two; the message has the
+///   location of the first;
+/// - an import after a definition, or a second start function, at its keyword; the message has the location of the first definition or start function;
 /// - a text or a module of more than `u32::MAX` bytes, at offset 0.
 ///
 /// `Display` prints the location, and the line of the text unless it is long. If an allocation fails, the error is out of memory.

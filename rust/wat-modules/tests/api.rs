@@ -43,10 +43,13 @@ fn bytes_are_compiled_or_returned() {
     assert!(matches!(result, Cow::Owned(bytes) if bytes == EMPTY));
 }
 
+/// The message for a module without `)`.
+const UNCLOSED: &str = "expected a module field or `)`, found the end of the text";
+
 #[test]
 fn errors_have_messages_and_offsets() {
     let rows: [(&[u8], &str, usize); 5] = [
-        (b"(module", "unexpected token", 7),
+        (b"(module", UNCLOSED, 7),
         (b"\0as", "unexpected character '\\u{0}'", 0),
         (b"(\n(\xff", "the text is not UTF-8", 3),
         (b"(data \"\xe2\x80\"", "the text is not UTF-8", 7),
@@ -101,7 +104,7 @@ fn errors_have_the_path_that_is_set_first() {
 fn errors_become_errors_of_the_lexer() {
     let error = wat_lex::Error::from(parse_str("(module").unwrap_err());
     let shown = (error.message(), error.span().offset());
-    assert_eq!(shown, ("unexpected token".to_owned(), 7));
+    assert_eq!(shown, (UNCLOSED.to_owned(), 7));
 
     let refused = wat_lex::Error::from(wat_lex::proved::error::Error::out_of_memory());
     let error = Error::from(refused);

@@ -19,7 +19,8 @@ fn check(text: &str, wanted: &[u8]) {
     let most = text.replace('#', "4294967295");
     assert_eq!(compile(&most), Ok(wanted.to_vec()), "{most}");
     let above = text.replace('#', "4294967296");
-    let error = ("number out of range".to_owned(), text.find('#').unwrap());
+    let message = "number out of range: expected 0 to 4294967295, found `4294967296`";
+    let error = (message.to_owned(), text.find('#').unwrap());
     assert_eq!(compile(&above), Err(error), "{above}");
 }
 
@@ -64,7 +65,8 @@ fn integers_of_instructions_are_below_2_to_the_32() {
     let wanted = function(&[b"\x2d\x00", MOST].concat());
     assert_eq!(compile(most), Ok(wanted));
     let above = "(func i32.load8_u offset=4294967296)";
-    assert_eq!(compile(above), Err(("unknown keyword".to_owned(), 18)));
+    let message = "unknown instruction `offset=4294967296`";
+    assert_eq!(compile(above), Err((message.to_owned(), 18)));
 }
 
 /// Returns the sections of a module of one function with this instruction.
@@ -75,21 +77,29 @@ fn function(instruction: &[u8]) -> Vec<u8> {
     [sections, &code[..], instruction, b"\x0b"].concat()
 }
 
+/// The range of an integer of 32 bits without a sign, and with one.
+const UNSIGNED: &str = "0 to 4294967295";
+const SIGNED: &str = "-2147483648 to 2147483647";
+
+/// The range of an integer of 64 bits with a sign.
+const LONG: &str = "-9223372036854775808 to 9223372036854775807";
+
 #[test]
 fn constants_have_their_own_limits() {
     let rows = [
-        ("i32.const", "4294967295", "4294967296"),
-        ("i32.const", "-2147483648", "-2147483649"),
-        ("i32.const", "+2147483647", "+2147483648"),
-        ("i64.const", "-9223372036854775808", "-9223372036854775809"),
-        ("i64.const", "+9223372036854775807", "+9223372036854775808"),
+        ("i32.const", "4294967295", "4294967296", UNSIGNED),
+        ("i32.const", "-2147483648", "-2147483649", SIGNED),
+        ("i32.const", "+2147483647", "+2147483648", SIGNED),
+        ("i64.const", "-9223372036854775808", "-9223372036854775809", LONG),
+        ("i64.const", "+9223372036854775807", "+9223372036854775808", LONG),
     ];
-    for (opcode, most, above) in rows {
+    for (opcode, most, above, range) in rows {
         assert!(
             compile(&format!("(func {opcode} {most})")).is_ok(),
             "{most}"
         );
-        let error = ("number out of range".to_owned(), 16);
+        let message = format!("number out of range: expected {range}, found `{above}`");
+        let error = (message, 16);
         let text = format!("(func {opcode} {above})");
         assert_eq!(compile(&text), Err(error), "{text}");
     }

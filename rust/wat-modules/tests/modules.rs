@@ -87,7 +87,10 @@ fn both_compilers_write_the_same_bytes() {
     let known = "(module (type $t (func)) (type $t (func)))";
     assert_eq!(
         departures,
-        [(known, "duplicate identifier at 8".to_owned())]
+        [(
+            known,
+            "duplicate type `$t`, first defined at line 1, column 15 at 31".to_owned()
+        )]
     );
 }
 
@@ -96,7 +99,7 @@ fn an_error_shows_its_line() {
     let error = parse_str(String::from("(module\n  (func nop) ?)")).unwrap_err();
     assert_eq!(
         error.to_string(),
-        "unexpected token\n     --> <anon>:2:14\n      |\n    2 |   (func nop) ?)\n      |              ^"
+        "expected a module field or `)`, found `?`\n     --> <anon>:2:14\n      |\n    2 |   (func nop) ?)\n      |              ^"
     );
     assert!(!error.is_out_of_memory());
 }
@@ -181,7 +184,10 @@ fn a_label_is_found_at_any_depth() {
             numbered(depth - 1)
         );
         let error = parse_str(format!("(func block {closed})")).unwrap_err();
-        assert_eq!(error.message(), "unknown identifier");
+        assert_eq!(
+            error.message(),
+            format!("unknown label `{}`", numbered(depth - 1))
+        );
     }
     for depth in [2_000, 100_000] {
         let half = nested(depth, unnamed, |open| (open - 1 - open / 2).to_string());
@@ -241,7 +247,7 @@ fn values_of_each_length_are_read() {
     let error = parse_str(format!("(func\n{word})")).unwrap_err();
     assert_eq!(
         (error.message().as_str(), error.span().offset()),
-        ("unknown keyword", 6)
+        ("unknown instruction", 6)
     );
 }
 

@@ -4,12 +4,12 @@ use wat_lex::shim::alloc::Global;
 use wat_modules::proved::{compile, compile_with_names};
 
 /// Each text with the subsections of its name section. A text without subsections has no name section.
-const CASES: [(&str, &[u8]); 19] = [
+const CASES: [(&str, &[u8]); 28] = [
     // No identifier.
     ("", b""),
     ("(module)", b""),
     (
-        "(module (type (func)) (import \"a\" \"b\" (func)) (table 0 funcref) (memory 0) (func (export \"e\") (local i32)))",
+        "(module (type (func)) (import \"a\" \"b\" (func)) (table 0 funcref) (memory 0) (func (export \"e\") (local i32) block end))",
         b"",
     ),
     // 0, the module: its name, after the size of the subsection.
@@ -30,6 +30,49 @@ const CASES: [(&str, &[u8]); 19] = [
     (
         "(import \"a\" \"b\" (memory 0)) (import \"a\" \"c\" (global i32)) (func $f)",
         b"\x01\x04\x01\x00\x01f",
+    ),
+    // 2, locals: the number of functions, and the index of each with its name map. The parameters come first.
+    (
+        "(func $f (param $x i32) (param i64) (local $y f32))",
+        b"\x01\x04\x01\x00\x01f\x02\x09\x01\x00\x02\x00\x01x\x02\x01y",
+    ),
+    // Imported functions have an index. Their parameters and those of types have no entry; a function without names has none.
+    (
+        "(type $t (func (param $a i32))) (import \"a\" \"b\" (func (param $p i32))) (func (param i32)) (func (local $l i32))",
+        b"\x02\x06\x01\x02\x01\x00\x01l\x04\x04\x01\x00\x01t",
+    ),
+    // The parameters of a type use with an index only are counted.
+    (
+        "(type (func (param i32 i32))) (func (type 0) (local $z i32)) (func (type 0) (param $p i32) (param i32) (local $q i32))",
+        b"\x02\x0e\x02\x00\x01\x02\x01z\x01\x02\x00\x01p\x02\x01q",
+    ),
+    // 3, labels: those of `block`, `loop` and `if`, in the order of these instructions. All of them are counted.
+    (
+        "(func block $a loop if $b end end end block $a end)",
+        b"\x03\x0c\x01\x00\x03\x00\x01a\x02\x01b\x03\x01a",
+    ),
+    // A label after `end` or `else`, or of a branch, is that of its block.
+    (
+        "(func block $a br $a br_table $a $a end $a i32.const 0 if $b else $b end $b)",
+        b"\x03\x09\x01\x00\x02\x00\x01a\x01\x01b",
+    ),
+    // A folded `if` comes after its condition.
+    (
+        "(import \"a\" \"b\" (func)) (func (block (loop $l (br $l))) (if $a (block $b (result i32) (i32.const 1)) (then) (else)))",
+        b"\x03\x0c\x01\x01\x03\x01\x01l\x02\x01b\x03\x01a",
+    ),
+    (
+        "(func (if $c (if (result i32) (i32.const 1) (then (block $d (result i32) (i32.const 2))) (else (i32.const 1))) (then (block $e))))",
+        b"\x03\x0c\x01\x00\x03\x01\x01d\x02\x01c\x03\x01e",
+    ),
+    // Nested conditions, and operands of plain instructions.
+    (
+        "(func (if $a (if $b (result i32) (loop $c (result i32) (i32.const 0)) (then (i32.const 1)) (else (i32.const 2))) (then)))",
+        b"\x03\x0c\x01\x00\x03\x00\x01c\x01\x01b\x02\x01a",
+    ),
+    (
+        "(func (drop (i32.add (block $a (result i32) (i32.const 0)) (block (result i32) (i32.const 0)))) (block $b))",
+        b"\x03\x09\x01\x00\x02\x00\x01a\x02\x01b",
     ),
     // 4, types: those that type fields define. The type that `$f` adds has no name.
     (
@@ -65,8 +108,8 @@ const CASES: [(&str, &[u8]); 19] = [
     ),
     // All subsections, in the order of their ids.
     (
-        "(module $M (data $d) (elem $e func) (global $g i32 (i32.const 0)) (memory $m 0) (table $t 0 funcref) (func $f) (type $y (func)))",
-        b"\x00\x02\x01M\x01\x04\x01\x00\x01f\x04\x04\x01\x00\x01y\x05\x04\x01\x00\x01t\x06\x04\x01\x00\x01m\x07\x04\x01\x00\x01g\x08\x04\x01\x00\x01e\x09\x04\x01\x00\x01d",
+        "(module $M (data $d) (elem $e func) (global $g i32 (i32.const 0)) (memory $m 0) (table $t 0 funcref) (func $f (local $v i32) (block $b)) (type $y (func)))",
+        b"\x00\x02\x01M\x01\x04\x01\x00\x01f\x02\x06\x01\x00\x01\x00\x01v\x03\x06\x01\x00\x01\x00\x01b\x04\x04\x01\x00\x01y\x05\x04\x01\x00\x01t\x06\x04\x01\x00\x01m\x07\x04\x01\x00\x01g\x08\x04\x01\x00\x01e\x09\x04\x01\x00\x01d",
     ),
 ];
 

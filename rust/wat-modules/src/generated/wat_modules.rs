@@ -4,7 +4,9 @@
 
 use wat_lex::shim::prelude::*;
 pub mod laws;
+mod messages;
 
+use messages::{Message, first_of, found_token, is_misplaced, kind_by};
 use wat_lex::shim::alloc::{AllocError, Global};
 use wat_parser::proved::Error;
 use wat_parser::proved::lexer::Token;
@@ -60,9 +62,9 @@ pub fn compile(alloc: Global, text: &str) -> Result<Vec<u8>, Error> {
 ///
 /// Returns the binary encoding of the module from which the grammar derives the text, followed by
 /// the custom section `name` (`specs/NameSection` of `wat_module_encoder`). It has the identifiers
-/// of the module and of its functions, types, tables, memories, globals and segments, by their
-/// indices; not those of parameters, locals and labels. If there are none of these, there is no
-/// such section. The text must be shorter than 2^32 bytes.
+/// of the module, of its functions, types, tables, memories, globals and segments, and of the
+/// parameters, locals and labels of the functions that it defines, by their indices. If there are
+/// none of these, there is no such section. The text must be shorter than 2^32 bytes.
 ///
 /// # Errors
 ///
@@ -229,8 +231,8 @@ fn encoded(
 /// requires { length text.now < 2 ^ 32 }
 /// ensures { (tokens : List Token) → TextShows (plain text.now) no_names tokens None →
 ///     IsUnlessMemory result
-///     (report_in text.now (compiling.place text.now tokens left)
-///     (Custom (compiling.message kind))) }
+///     (report_in text.now (messages.place text.now tokens left)
+///     (Custom (messages.message text.now tokens kind left))) }
 /// ```
 fn fault_at(alloc: Global, text: &str, kind: FaultKind, left: usize) -> Error {
     wat_lex::proved::laws::one_tiling();
@@ -262,40 +264,52 @@ fn bound_size(alloc: Global, text: &str, bytes: Vec<u8>) -> Result<Vec<u8>, Erro
 /// # Proved
 ///
 /// ```text
+/// requires { All (IsTokenOf text.now) tokens.now }
 /// ensures { IsUnlessMemory result
-/// (report_in text.now (compiling.place text.now tokens.now left)
-/// (Custom (compiling.message kind))) }
+///     (report_in text.now (messages.place text.now tokens.now left)
+///     (Custom (messages.message text.now tokens.now kind left))) }
 /// ```
 fn error_of(alloc: Global, text: &str, tokens: &[Token], kind: FaultKind, left: usize) -> Error {
-    let place = match tokens.get(tokens.len().saturating_sub(left)) {
-        Some(token) => token.offset,
-        None => text.len(),
-    };
-    match String::from_str(alloc, message(kind)) {
-        Ok(message) => Error::parse(alloc, Span::from_offset(place), text, message),
+    let offset = place(text, tokens, left);
+    let first = Span::from_offset(place(text, tokens, first_of(kind))).linecol_in(text);
+    let token = token_at(text, tokens, left);
+    let kind = kind_by(is_misplaced(text, token), kind);
+    let found = found_token(text, token);
+    match try_format!(alloc; "{}", Message { kind, found, first }) {
+        Ok(message) => Error::parse(alloc, Span::from_offset(offset), text, message),
         Err(refused) => Error::from(refused),
     }
 }
 
-/// Returns the message for a kind of syntax error.
+/// Returns the first of the last `left` tokens of a text, or `None` if `left` is 0.
 ///
 /// # Proved
 ///
 /// ```text
-/// ensures { result.now ≡ compiling.message kind }
+/// requires { All (IsTokenOf text.now) tokens.now }
+/// ensures is { result ≡ messages.token_at tokens.now left }
+/// ensures readable { IfSome result (IsTokenOf text.now) }
 /// ```
-fn message(kind: FaultKind) -> &'static str {
-    match kind {
-        FaultKind::Unexpected => "unexpected token",
-        FaultKind::UnknownWord => "unknown keyword",
-        FaultKind::UnknownName => "unknown identifier",
-        FaultKind::WrongLabel => "mismatching label",
-        FaultKind::OutOfRange => "number out of range",
-        FaultKind::NotUtf8 => "name is not UTF-8",
-        FaultKind::Duplicate => "duplicate identifier",
-        FaultKind::SecondStart => "more than one start function",
-        FaultKind::OtherType => "mismatching type",
-        FaultKind::LateImport => "import after a definition",
+fn token_at(text: &str, tokens: &[Token], left: usize) -> Option<Token> {
+    match tokens.get(tokens.len().saturating_sub(left)) {
+        Some(token) => Some(*token),
+        None => None,
+    }
+}
+
+/// Returns the offset of the first of the last `left` tokens, or the length of the text if `left`
+/// is 0.
+///
+/// # Proved
+///
+/// ```text
+/// requires { All (IsTokenOf text.now) tokens.now }
+/// ensures { result ≡ messages.place text.now tokens.now left }
+/// ```
+fn place(text: &str, tokens: &[Token], left: usize) -> usize {
+    match token_at(text, tokens, left) {
+        Some(token) => token.offset,
+        None => text.len(),
     }
 }
 

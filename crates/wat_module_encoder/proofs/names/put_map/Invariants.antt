@@ -1,7 +1,8 @@
 use Rattle.std.proofs.Common.{◌≡◌, ◌+◌, ◌≤◌, ◌++◌, length, map, drop}
 use Rattle.std.specs.List.{flat_map}
 use Rattle.wat_module_ast.specs.Views.{field_of}
-use Rattle.wat_module_encoder.specs.NameSection.{association_bytes, associations}
+use Rattle.wat_module_ast.specs.Names.{associations}
+use Rattle.wat_module_encoder.specs.NameSection.{association_bytes}
 use Rattle.wat_module_encoder.specs.Views.{labels_in}
 use Rattle.wat_module_encoder.proofs.names.put_map.Given as goal
 

@@ -5,29 +5,138 @@ use wat_lex::shim::prelude::*;
 use wat_lex::shim::alloc::{AllocError, AllocFailed};
 use crate::tokens::stream::TokenCursor;
 
+/// An index space: those of a module, the locals of a function, and the labels of open blocks.
+#[derive(Clone, Copy)]
+pub enum Space {
+    /// Types.
+    Type,
+    /// Functions.
+    Func,
+    /// Tables.
+    Table,
+    /// Memories.
+    Memory,
+    /// Global variables.
+    Global,
+    /// Element segments.
+    Elem,
+    /// Data segments.
+    Data,
+    /// Parameters and local variables of a function.
+    Local,
+    /// Labels of open blocks, the innermost first.
+    Label,
+}
+
+/// A token, or the beginning of a rule of the grammar, that is accepted at a token in error.
+#[derive(Clone, Copy)]
+pub enum Expected {
+    /// `)`.
+    Close,
+    /// `(` or `)`.
+    OpenOrClose,
+    /// The end of the text.
+    End,
+    /// A field of a module, after its `(`.
+    Field,
+    /// A field of a module, or the `)` of the module.
+    FieldOrClose,
+    /// A field of a module, or the end of the text.
+    FieldOrEnd,
+    /// An instruction.
+    Instruction,
+    /// An instruction, or the `)` of its group.
+    InstructionOrClose,
+    /// An instruction, or the `end` of its block.
+    InstructionOrEnd,
+    /// `(then`.
+    Then,
+    /// `else`, after `(`.
+    Else,
+    /// `(else`, or the `)` of a folded `if`.
+    ElseOrClose,
+    /// An instruction in parentheses, or an expression with its keyword in parentheses.
+    Expression,
+    /// A value type.
+    ValueType,
+    /// A value type, or the `)` of its group.
+    ValueTypeOrClose,
+    /// A reference type.
+    ReferenceType,
+    /// A heap type.
+    HeapType,
+    /// A value type, or `(mut`.
+    GlobalType,
+    /// `mut`, after `(`.
+    Mut,
+    /// `(func`.
+    FunctionType,
+    /// The minimum of limits.
+    Limits,
+    /// An index, or an identifier, of an item of an index space.
+    Index(Space),
+    /// An integer without a sign.
+    Unsigned,
+    /// An integer.
+    Integer,
+    /// An integer or a floating-point number.
+    Number,
+    /// The index of a lane.
+    LaneIndex,
+    /// The shape of a vector.
+    Shape,
+    /// A string.
+    Text,
+    /// The keyword of an index space whose items can be imported and exported.
+    ItemKind,
+    /// The description of an export.
+    ExportDescription,
+    /// The description of an import.
+    ImportDescription,
+    /// `(elem`.
+    Elem,
+    /// A reference type, or `func`.
+    ElementList,
+}
+
+/// The values that a number may have.
+#[derive(Clone, Copy)]
+pub enum Range {
+    /// Integers from 0 to twice this number, exclusive.
+    Unsigned(u64),
+    /// Integers from minus this number, inclusive, to this number, exclusive.
+    Signed(u64),
+    /// Floating-point numbers of 32 bits.
+    Float32,
+    /// Floating-point numbers of 64 bits.
+    Float64,
+}
+
 /// Kind of a syntax error.
 #[derive(Clone, Copy)]
 pub enum FaultKind {
     /// A token that no rule of the grammar accepts here, or the end of the text.
-    Unexpected,
+    Unexpected(Expected),
     /// A keyword that is not one of those accepted here, such as an unknown instruction or type.
-    UnknownWord,
-    /// An identifier that no item has, or a type index that is out of range.
-    UnknownName,
+    UnknownWord(Expected),
+    /// An identifier that no item of an index space has, or a type index that is out of range.
+    UnknownName(Space),
     /// A label after `end` or `else` that is not the label of its block.
     WrongLabel,
     /// A number that its type cannot represent.
-    OutOfRange,
+    OutOfRange(Range),
     /// A name that is not UTF-8.
     NotUtf8,
-    /// Two items of one kind with the same identifier.
-    Duplicate,
-    /// A second start function.
-    SecondStart,
+    /// An identifier that an earlier item of its index space has. The number is that of the tokens
+    /// from the identifier of the earlier item on.
+    Duplicate(Space, usize),
+    /// A second start function. The number is that of the tokens from the keyword of the first on.
+    SecondStart(usize),
     /// A type use that lists a type other than the one at its index.
     OtherType,
-    /// An import after a definition.
-    LateImport,
+    /// An import after a definition. The number is that of the tokens from the keyword of the
+    /// first definition on.
+    LateImport(usize),
 }
 
 /// A syntax error.

@@ -25,8 +25,16 @@ pub struct Locals {
     pub of: ValueType,
 }
 
-/// A function definition. The identifiers of its parameters and locals are not kept: the body
-/// refers to them by index.
+/// An entry of a name map: an index, and the identifier of the item with this index.
+#[derive(Clone, Copy)]
+pub struct NameAssociation<'p> {
+    /// Index of the item.
+    pub index: usize,
+    /// Identifier of the item, without `$`.
+    pub name: &'p str,
+}
+
+/// A function definition. The body refers to parameters, locals and labels by index.
 pub struct Function<'p> {
     /// Identifier of the function, if given.
     pub name: Name<'p>,
@@ -38,6 +46,11 @@ pub struct Function<'p> {
     pub locals: Vec<Locals>,
     /// Instructions, without the final `end`.
     pub body: Vec<Instruction>,
+    /// Identifiers of the parameters and locals that have one, by their indices.
+    pub local_names: Vec<NameAssociation<'p>>,
+    /// Identifiers of the labels that have one, by their indices. The labels are those of `block`,
+    /// `loop` and `if`, in the order of these instructions.
+    pub label_names: Vec<NameAssociation<'p>>,
 }
 
 /// An index space whose items can be imported and exported.

@@ -2,8 +2,9 @@
 //! Constructors of syntax errors.
 
 use wat_lex::shim::prelude::*;
-use crate::ast::error::{Fault, FaultKind};
+use crate::ast::error::{Expected, Fault, FaultKind, Range};
 use crate::tokens::stream::TokenCursor;
+use crate::tokens::token::Sign;
 
 /// Returns a syntax error of this kind at the first of these tokens.
 ///
@@ -17,13 +18,27 @@ pub fn fault<'p, 'a>(kind: FaultKind, cursor: TokenCursor<'p, 'a>) -> Fault<'p, 
 }
 
 /// Returns the syntax error for a token that no rule of the grammar accepts here, or for the end of
-/// the text.
+/// the text. `expected` is accepted here.
 ///
 /// # Proved
 ///
 /// ```text
-/// ensures { (result.kind ≡ Unexpected) × (result.left ≡ cursor.entry) }
+/// ensures { (result.kind ≡ Unexpected expected) × (result.left ≡ cursor.entry) }
 /// ```
-pub fn unexpected<'p, 'a>(cursor: TokenCursor<'p, 'a>) -> Fault<'p, 'a> {
-    fault(FaultKind::Unexpected, cursor)
+pub fn unexpected<'p, 'a>(expected: Expected, cursor: TokenCursor<'p, 'a>) -> Fault<'p, 'a> {
+    fault(FaultKind::Unexpected(expected), cursor)
+}
+
+/// Returns the range of an integer with this sign. `half` is the value of the highest bit.
+///
+/// # Proved
+///
+/// ```text
+/// ensures { result ≡ grammar.integer_range half sign }
+/// ```
+pub(crate) fn integer_range(half: u64, sign: Sign) -> Range {
+    match sign {
+        Sign::Absent => Range::Unsigned(half),
+        Sign::Plus | Sign::Minus => Range::Signed(half),
+    }
 }

@@ -5,7 +5,7 @@ use wat_lex::shim::prelude::*;
 use crate::instructions::faults::{fault, unexpected};
 use wat_lex::shim::alloc::Global;
 use wat_parser::floats::{f32_bits, f32_of_integer, f64_bits, f64_of_integer};
-use crate::ast::error::{Fault, FaultKind, ParseFailure};
+use crate::ast::error::{Expected, Fault, FaultKind, ParseFailure, Range};
 use crate::tokens::stream::TokenCursor;
 use crate::tokens::token::{DecodedToken, Sign};
 
@@ -30,7 +30,7 @@ fn is_minus(sign: Sign) -> bool {
 ///
 /// ```text
 /// ensures { ReadsExactly (λ v. v)
-/// (bits_by bits (terminals_of all.entry) (terminals_of rest.entry)) result }
+/// (bits_by ranges.Float32 bits (terminals_of all.entry) (terminals_of rest.entry)) result }
 /// ```
 fn single<'p, 'a>(
     bits: Option<u32>,
@@ -39,7 +39,7 @@ fn single<'p, 'a>(
 ) -> Result<(u32, TokenCursor<'p, 'a>), Fault<'p, 'a>> {
     match bits {
         Some(bits) => Ok((bits, rest)),
-        None => Err(fault(FaultKind::OutOfRange, all)),
+        None => Err(fault(FaultKind::OutOfRange(Range::Float32), all)),
     }
 }
 
@@ -50,7 +50,7 @@ fn single<'p, 'a>(
 ///
 /// ```text
 /// ensures { ReadsExactly (λ v. v)
-/// (bits_by bits (terminals_of all.entry) (terminals_of rest.entry)) result }
+/// (bits_by ranges.Float64 bits (terminals_of all.entry) (terminals_of rest.entry)) result }
 /// ```
 fn double<'p, 'a>(
     bits: Option<u64>,
@@ -59,7 +59,7 @@ fn double<'p, 'a>(
 ) -> Result<(u64, TokenCursor<'p, 'a>), Fault<'p, 'a>> {
     match bits {
         Some(bits) => Ok((bits, rest)),
-        None => Err(fault(FaultKind::OutOfRange, all)),
+        None => Err(fault(FaultKind::OutOfRange(Range::Float64), all)),
     }
 }
 
@@ -85,7 +85,7 @@ pub(crate) fn float_32<'p, 'a>(
             let bits = f32_bits(alloc, word)?;
             Ok(single(bits, cursor, rest)?)
         }
-        _ => Err(ParseFailure::Text(unexpected(cursor))),
+        _ => Err(ParseFailure::Text(unexpected(Expected::Number, cursor))),
     }
 }
 
@@ -111,6 +111,6 @@ pub(crate) fn float_64<'p, 'a>(
             let bits = f64_bits(alloc, word)?;
             Ok(double(bits, cursor, rest)?)
         }
-        _ => Err(ParseFailure::Text(unexpected(cursor))),
+        _ => Err(ParseFailure::Text(unexpected(Expected::Number, cursor))),
     }
 }

@@ -43,3 +43,13 @@ pub fn instructions_are_balanced() {}
 /// ensures unknown { UnknownTypesBring }
 /// ```
 pub fn types_are_looked_up() {}
+
+/// Theorem: the first repetition of an identifier among items, which errors report, is that of the
+/// relation `Repeats`. There is one unless the identifiers are distinct.
+///
+/// # Proved
+///
+/// ```text
+/// ensures { (labels : List Label) → RepeatedIsFirst labels }
+/// ```
+pub fn repetitions_are_first() {}

@@ -7,7 +7,7 @@ use crate::instructions::frame::{Frame, Frames};
 use crate::instructions::reading::{self, Scope};
 use crate::instructions::uses;
 use wat_lex::shim::alloc::Global;
-use crate::ast::error::ParseFailure;
+use crate::ast::error::{Expected, ParseFailure};
 use crate::ast::instruction::{Argument, Instruction, Opcode};
 use crate::tokens::stream::TokenCursor;
 use crate::tokens::token::{DecodedToken, Name};
@@ -101,7 +101,10 @@ fn first_step<'p, 'a>(
         Some((DecodedToken::Word(word), rest)) => {
             folded_instruction(alloc, scope, frames, out, word, cursor, rest)
         }
-        _ => Err(ParseFailure::Text(unexpected(cursor))),
+        _ => Err(ParseFailure::Text(unexpected(
+            Expected::Instruction,
+            cursor,
+        ))),
     }
 }
 
@@ -161,7 +164,23 @@ fn step<'p, 'a>(
         Some((DecodedToken::Word(word), rest)) => {
             at_word(alloc, scope, frames, out, word, cursor, rest)
         }
-        _ => Err(ParseFailure::Text(unexpected(cursor))),
+        _ => match frames.last() {
+            Some(Frame::Block(_, _)) => Err(ParseFailure::Text(unexpected(
+                Expected::InstructionOrEnd,
+                cursor,
+            ))),
+            Some(Frame::Operands(_)) => Err(ParseFailure::Text(unexpected(
+                Expected::OpenOrClose,
+                cursor,
+            ))),
+            Some(Frame::Condition(_, _)) => {
+                Err(ParseFailure::Text(unexpected(Expected::Then, cursor)))
+            }
+            Some(Frame::Body | Frame::Group(_) | Frame::Then(_) | Frame::Else(_)) | None => {
+                let expected = Expected::InstructionOrClose;
+                Err(ParseFailure::Text(unexpected(expected, cursor)))
+            }
+        },
     }
 }
 
@@ -182,7 +201,10 @@ fn close<'p, 'a>(
 ) -> Result<TokenCursor<'p, 'a>, ParseFailure<'p, 'a>> {
     match frames.pop() {
         Some(frame) => closed(frame, frames, out, cursor, rest),
-        None => Err(ParseFailure::Text(unexpected(cursor))),
+        None => Err(ParseFailure::Text(unexpected(
+            Expected::InstructionOrClose,
+            cursor,
+        ))),
     }
 }
 
@@ -217,8 +239,11 @@ fn closed<'p, 'a>(
         }
         Frame::Then(label) => after_then(label, frames, out, rest),
         Frame::Else(_) => after_else(frames, out, rest),
-        Frame::Block(_, _) => Err(ParseFailure::Text(unexpected(cursor))),
-        Frame::Condition(_, _) => Err(ParseFailure::Text(unexpected(cursor))),
+        Frame::Block(_, _) => Err(ParseFailure::Text(unexpected(
+            Expected::InstructionOrEnd,
+            cursor,
+        ))),
+        Frame::Condition(_, _) => Err(ParseFailure::Text(unexpected(Expected::Then, cursor))),
     }
 }
 
@@ -240,7 +265,7 @@ fn after_else<'p, 'a>(
             out.push(END)?;
             Ok(rest)
         }
-        _ => Err(ParseFailure::Text(unexpected(cursor))),
+        _ => Err(ParseFailure::Text(unexpected(Expected::Close, cursor))),
     }
 }
 
@@ -266,7 +291,10 @@ fn after_then<'p, 'a>(
             Ok(rest)
         }
         Some((DecodedToken::Open, rest)) => other_part(label, frames, out, rest),
-        _ => Err(ParseFailure::Text(unexpected(cursor))),
+        _ => Err(ParseFailure::Text(unexpected(
+            Expected::ElseOrClose,
+            cursor,
+        ))),
     }
 }
 
@@ -291,10 +319,10 @@ fn other_part<'p, 'a>(
             if reading::is_else(word) {
                 step_at_else(label, frames, out, rest)
             } else {
-                Err(ParseFailure::Text(unexpected(cursor)))
+                Err(ParseFailure::Text(unexpected(Expected::Else, cursor)))
             }
         }
-        _ => Err(ParseFailure::Text(unexpected(cursor))),
+        _ => Err(ParseFailure::Text(unexpected(Expected::Else, cursor))),
     }
 }
 
@@ -340,7 +368,10 @@ fn folded<'p, 'a>(
         Some((DecodedToken::Word(word), rest)) => {
             folded_word(alloc, scope, frames, out, word, cursor, rest)
         }
-        _ => Err(ParseFailure::Text(unexpected(cursor))),
+        _ => Err(ParseFailure::Text(unexpected(
+            Expected::Instruction,
+            cursor,
+        ))),
     }
 }
 
@@ -369,7 +400,10 @@ fn folded_word<'p, 'a>(
     }
     match frames.pop() {
         Some(frame) => then_inside(alloc, scope, frame, frames, out, word, cursor, rest),
-        None => Err(ParseFailure::Text(unexpected(cursor))),
+        None => Err(ParseFailure::Text(unexpected(
+            Expected::Instruction,
+            cursor,
+        ))),
     }
 }
 
@@ -517,9 +551,11 @@ fn at_word<'p, 'a>(
         Some(Frame::Body | Frame::Group(_) | Frame::Then(_) | Frame::Else(_)) => {
             instruction(alloc, scope, frames, out, word, cursor, rest)
         }
-        Some(Frame::Operands(_) | Frame::Condition(_, _)) | None => {
-            Err(ParseFailure::Text(unexpected(cursor)))
-        }
+        Some(Frame::Operands(_)) | None => Err(ParseFailure::Text(unexpected(
+            Expected::OpenOrClose,
+            cursor,
+        ))),
+        Some(Frame::Condition(_, _)) => Err(ParseFailure::Text(unexpected(Expected::Then, cursor))),
     }
 }
 

@@ -161,6 +161,27 @@ fn indices<'n>(
     Ok(Some(indices))
 }
 
+/// Returns the indices of the first item with a repeated identifier and of the first item that has
+/// the identifier of an earlier one, which is the same. Returns `None` if the identifiers are
+/// distinct.
+///
+/// # Proved
+///
+/// ```text
+/// ensures { IfOk result (λ found. found ≡ repeated (map label names.now)) }
+/// ```
+pub fn repeated(alloc: Global, names: &[Name<'_>]) -> Result<Option<(usize, usize)>, AllocError> {
+    let mut indices = BTreeMap::new(alloc);
+    for (i, name) in names.iter().enumerate() {
+        if let Name::Given(given) = *name {
+            if let Some(first) = indices.insert(given, i)? {
+                return Ok(Some((first, i)));
+            }
+        }
+    }
+    Ok(None)
+}
+
 /// Returns the index of the first item with this identifier.
 ///
 /// # Proved

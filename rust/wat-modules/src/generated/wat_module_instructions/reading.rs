@@ -2,13 +2,13 @@
 //! Parses plain instructions, their immediates, keywords, indices and labels.
 
 use wat_lex::shim::prelude::*;
-use crate::instructions::faults::{fault, unexpected};
+use crate::instructions::faults::{fault, integer_range, unexpected};
 use crate::instructions::frame::Frames;
 use crate::instructions::names::IndexedNames;
 use crate::instructions::{floats, memory, table_arguments, uses, vector_arguments};
 use wat_lex::shim::alloc::Global;
 use crate::ast::branches::BranchTable;
-use crate::ast::error::{Fault, FaultKind, ParseFailure};
+use crate::ast::error::{Expected, Fault, FaultKind, ParseFailure, Range, Space};
 use crate::ast::instruction::{Argument, Instruction, Opcode, ReferenceType, ValueType};
 use crate::ast::table::{self, Immediate};
 use crate::ast::types::FunctionType;
@@ -64,15 +64,17 @@ fn position(among: Identifiers<'_, '_>, name: &str) -> Option<usize> {
     }
 }
 
-/// Parses an index: an unsigned 32-bit integer, or one of these identifiers.
+/// Parses an index: an unsigned 32-bit integer, or one of these identifiers. `space` is the index
+/// space, for errors.
 ///
 /// # Proved
 ///
 /// ```text
 /// ensures { ReadsExactly (λ v. v)
-/// (index (identifiers_of among.entry) (terminals_of cursor.entry)) result }
+/// (index space (identifiers_of among.entry) (terminals_of cursor.entry)) result }
 /// ```
 fn index_among<'p, 'a>(
+    space: Space,
     among: Identifiers<'_, '_>,
     cursor: TokenCursor<'p, 'a>,
 ) -> Result<(usize, TokenCursor<'p, 'a>), Fault<'p, 'a>> {
@@ -81,29 +83,35 @@ fn index_among<'p, 'a>(
             if n < 0x1_0000_0000 {
                 Ok((n as usize, rest))
             } else {
-                Err(fault(FaultKind::OutOfRange, cursor))
+                Err(fault(
+                    FaultKind::OutOfRange(Range::Unsigned(0x8000_0000)),
+                    cursor,
+                ))
             }
         }
         Some((DecodedToken::Id(name), rest)) => match position(among, name) {
             Some(n) => Ok((n, rest)),
-            None => Err(fault(FaultKind::UnknownName, cursor)),
+            None => Err(fault(FaultKind::UnknownName(space), cursor)),
         },
-        _ => Err(unexpected(cursor)),
+        Some((DecodedToken::Integer(_, _), _)) => Err(unexpected(Expected::Unsigned, cursor)),
+        _ => Err(unexpected(Expected::Index(space), cursor)),
     }
 }
 
-/// Parses the index of an item: an unsigned 32-bit integer, or the item's identifier.
+/// Parses the index of an item: an unsigned 32-bit integer, or the item's identifier. `space` is
+/// the index space, for errors.
 ///
 /// # Proved
 ///
 /// ```text
-/// ensures { ReadsExactly (λ v. v) (index names.now (terminals_of cursor.entry)) result }
+/// ensures { ReadsExactly (λ v. v) (index space names.now (terminals_of cursor.entry)) result }
 /// ```
 pub fn index<'p, 'a>(
+    space: Space,
     names: &IndexedNames<'_>,
     cursor: TokenCursor<'p, 'a>,
 ) -> Result<(usize, TokenCursor<'p, 'a>), Fault<'p, 'a>> {
-    index_among(Identifiers::Items(names), cursor)
+    index_among(space, Identifiers::Items(names), cursor)
 }
 
 /// Parses the index of a label: an unsigned 32-bit integer, or the label's identifier.
@@ -112,13 +120,13 @@ pub fn index<'p, 'a>(
 ///
 /// ```text
 /// ensures { ReadsExactly (λ v. v)
-/// (index (labels_in frames.now) (terminals_of cursor.entry)) result }
+/// (index spaces.Label (labels_in frames.now) (terminals_of cursor.entry)) result }
 /// ```
 fn label_number<'p, 'a>(
     frames: &Frames<'_>,
     cursor: TokenCursor<'p, 'a>,
 ) -> Result<(usize, TokenCursor<'p, 'a>), Fault<'p, 'a>> {
-    index_among(Identifiers::Labels(frames), cursor)
+    index_among(Space::Label, Identifiers::Labels(frames), cursor)
 }
 
 /// Parses the index of an item as an immediate.
@@ -126,14 +134,15 @@ fn label_number<'p, 'a>(
 /// # Proved
 ///
 /// ```text
-/// ensures { ReadsExactly (λ v. v) (with_index (index names.now (terminals_of cursor.entry)))
+/// ensures { ReadsExactly (λ v. v) (with_index (index space names.now (terminals_of cursor.entry)))
 /// result }
 /// ```
 fn name_argument<'p, 'a>(
+    space: Space,
     names: &IndexedNames<'_>,
     cursor: TokenCursor<'p, 'a>,
 ) -> Result<(Argument, TokenCursor<'p, 'a>), Fault<'p, 'a>> {
-    let (n, rest) = index(names, cursor)?;
+    let (n, rest) = index(space, names, cursor)?;
     Ok((Argument::Index(n), rest))
 }
 
@@ -142,14 +151,15 @@ fn name_argument<'p, 'a>(
 /// # Proved
 ///
 /// ```text
-/// ensures { ReadsExactly (λ v. v) (with_zero (index names.now (terminals_of cursor.entry)))
+/// ensures { ReadsExactly (λ v. v) (with_zero (index space names.now (terminals_of cursor.entry)))
 /// result }
 /// ```
 fn name_and_zero<'p, 'a>(
+    space: Space,
     names: &IndexedNames<'_>,
     cursor: TokenCursor<'p, 'a>,
 ) -> Result<(Argument, TokenCursor<'p, 'a>), Fault<'p, 'a>> {
-    let (n, rest) = index(names, cursor)?;
+    let (n, rest) = index(space, names, cursor)?;
     Ok((Argument::IndexZero(n), rest))
 }
 
@@ -159,7 +169,8 @@ fn name_and_zero<'p, 'a>(
 ///
 /// ```text
 /// ensures { ReadsExactly (λ v. v)
-/// (with_index (index (labels_in frames.now) (terminals_of cursor.entry))) result }
+/// (with_index (index spaces.Label (labels_in frames.now) (terminals_of cursor.entry)))
+/// result }
 /// ```
 fn label_argument<'p, 'a>(
     frames: &Frames<'_>,
@@ -183,7 +194,7 @@ struct LastLabel<'p, 'a> {
 /// ```text
 /// ensures { ReadsAs (λ v. v)
 /// (labels_by (labels_in frames.now)
-/// (index (labels_in frames.now) (terminals_of cursor.entry)))
+/// (index spaces.Label (labels_in frames.now) (terminals_of cursor.entry)))
 /// result }
 /// ```
 fn labels_argument<'p, 'a>(
@@ -311,9 +322,12 @@ fn number_32<'p, 'a>(
     match cursor.first() {
         Some((DecodedToken::Integer(sign, size), rest)) => match signed_32(sign, size) {
             Some(n) => Ok((Argument::I32(n), rest)),
-            None => Err(fault(FaultKind::OutOfRange, cursor)),
+            None => Err(fault(
+                FaultKind::OutOfRange(integer_range(0x8000_0000, sign)),
+                cursor,
+            )),
         },
-        _ => Err(unexpected(cursor)),
+        _ => Err(unexpected(Expected::Integer, cursor)),
     }
 }
 
@@ -364,9 +378,12 @@ fn number_64<'p, 'a>(
     match cursor.first() {
         Some((DecodedToken::Integer(sign, size), rest)) => match signed_64(sign, size) {
             Some(n) => Ok((Argument::I64(n), rest)),
-            None => Err(fault(FaultKind::OutOfRange, cursor)),
+            None => {
+                let range = integer_range(0x8000_0000_0000_0000, sign);
+                Err(fault(FaultKind::OutOfRange(range), cursor))
+            }
         },
-        _ => Err(unexpected(cursor)),
+        _ => Err(unexpected(Expected::Integer, cursor)),
     }
 }
 
@@ -430,9 +447,9 @@ fn heap_argument<'p, 'a>(
     match cursor.first() {
         Some((DecodedToken::Word(word), rest)) => match heap_type(word) {
             Some(of) => Ok((Argument::HeapType(of), rest)),
-            None => Err(fault(FaultKind::UnknownWord, cursor)),
+            None => Err(fault(FaultKind::UnknownWord(Expected::HeapType), cursor)),
         },
-        _ => Err(unexpected(cursor)),
+        _ => Err(unexpected(Expected::HeapType, cursor)),
     }
 }
 
@@ -455,12 +472,12 @@ fn immediate<'p, 'a>(
 ) -> Result<(Argument, TokenCursor<'p, 'a>), ParseFailure<'p, 'a>> {
     match kind {
         Immediate::No => Ok((Argument::Nothing, cursor)),
-        Immediate::Local => Ok(name_argument(scope.locals, cursor)?),
+        Immediate::Local => Ok(name_argument(Space::Local, scope.locals, cursor)?),
         Immediate::Label => Ok(label_argument(frames, cursor)?),
         Immediate::Labels => labels_argument(alloc, frames, cursor),
-        Immediate::Func => Ok(name_argument(scope.funcs, cursor)?),
+        Immediate::Func => Ok(name_argument(Space::Func, scope.funcs, cursor)?),
         Immediate::Indirect => uses::indirect_call(alloc, scope, cursor),
-        Immediate::Global => Ok(name_argument(scope.globals, cursor)?),
+        Immediate::Global => Ok(name_argument(Space::Global, scope.globals, cursor)?),
         Immediate::I32 => Ok(number_32(cursor)?),
         Immediate::I64 => Ok(number_64(cursor)?),
         Immediate::F32 => float_32(alloc, cursor),
@@ -470,9 +487,9 @@ fn immediate<'p, 'a>(
         Immediate::HeapType => Ok(heap_argument(cursor)?),
         Immediate::Select => uses::select_types(alloc, cursor),
         Immediate::Zeros => Ok((Argument::Zeros, cursor)),
-        Immediate::Data => Ok(name_argument(scope.datas, cursor)?),
-        Immediate::MemoryInit => Ok(name_and_zero(scope.datas, cursor)?),
-        Immediate::Elem => Ok(name_argument(scope.elems, cursor)?),
+        Immediate::Data => Ok(name_argument(Space::Data, scope.datas, cursor)?),
+        Immediate::MemoryInit => Ok(name_and_zero(Space::Data, scope.datas, cursor)?),
+        Immediate::Elem => Ok(name_argument(Space::Elem, scope.elems, cursor)?),
         Immediate::Table => Ok(table_arguments::table(scope.tables, cursor)?),
         Immediate::TableCopy => table_arguments::copy(alloc, scope.tables, cursor),
         Immediate::TableInit => table_arguments::init(alloc, scope.tables, scope.elems, cursor),
@@ -538,9 +555,15 @@ pub fn plain<'p, 'a>(
                 let opcode = opcode_of(row.opcode, &argument);
                 Ok((Instruction { opcode, argument }, rest))
             }
-            None => Err(ParseFailure::Text(fault(FaultKind::UnknownWord, cursor))),
+            None => {
+                let kind = FaultKind::UnknownWord(Expected::Instruction);
+                Err(ParseFailure::Text(fault(kind, cursor)))
+            }
         },
-        _ => Err(ParseFailure::Text(unexpected(cursor))),
+        _ => Err(ParseFailure::Text(unexpected(
+            Expected::Instruction,
+            cursor,
+        ))),
     }
 }
 

@@ -6,7 +6,7 @@ use crate::instructions::names::IndexedNames;
 use crate::instructions::reading::index;
 use crate::instructions::uses::table_index;
 use wat_lex::shim::alloc::Global;
-use crate::ast::error::{Fault, ParseFailure};
+use crate::ast::error::{Fault, ParseFailure, Space};
 use crate::ast::instruction::Argument;
 use crate::ast::pairs::IndexPair;
 use crate::tokens::stream::TokenCursor;
@@ -72,8 +72,8 @@ pub(crate) fn copy<'p, 'a>(
         let pair = IndexPair::new(alloc, 0, 0)?;
         return Ok((Argument::Pair(pair), cursor));
     }
-    let (target, rest) = index(tables, cursor)?;
-    let (source, rest) = index(tables, rest)?;
+    let (target, rest) = index(Space::Table, tables, cursor)?;
+    let (source, rest) = index(Space::Table, tables, rest)?;
     let pair = IndexPair::new(alloc, target, source)?;
     Ok((Argument::Pair(pair), rest))
 }
@@ -91,7 +91,7 @@ fn init_table<'p, 'a>(
     cursor: TokenCursor<'p, 'a>,
 ) -> Result<(usize, TokenCursor<'p, 'a>), Fault<'p, 'a>> {
     if are_indices(cursor) {
-        index(tables, cursor)
+        index(Space::Table, tables, cursor)
     } else {
         Ok((0, cursor))
     }
@@ -114,7 +114,7 @@ pub(crate) fn init<'p, 'a>(
     cursor: TokenCursor<'p, 'a>,
 ) -> Result<(Argument, TokenCursor<'p, 'a>), ParseFailure<'p, 'a>> {
     let (table, rest) = init_table(tables, cursor)?;
-    let (elements, rest) = index(elems, rest)?;
+    let (elements, rest) = index(Space::Elem, elems, rest)?;
     let pair = IndexPair::new(alloc, elements, table)?;
     Ok((Argument::Pair(pair), rest))
 }

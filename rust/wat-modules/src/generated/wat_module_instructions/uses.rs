@@ -6,7 +6,7 @@ use crate::instructions::faults::{fault, unexpected};
 use crate::instructions::names::IndexedNames;
 use crate::instructions::reading::{Scope, after, index, value_type};
 use wat_lex::shim::alloc::{AllocError, Global};
-use crate::ast::error::{Fault, FaultKind, ParseFailure};
+use crate::ast::error::{Expected, Fault, FaultKind, ParseFailure, Space};
 use crate::ast::instruction::{Argument, ValueType};
 use crate::ast::types::{
     BoxedUse, FunctionType, IndirectCall, SelectTypes, TypeUse, same_type, type_at_index,
@@ -132,13 +132,19 @@ fn in_group<'p, 'a>(
                     cursor: rest,
                 })
             }
-            None => Err(ParseFailure::Text(fault(FaultKind::UnknownWord, cursor))),
+            None => {
+                let kind = FaultKind::UnknownWord(Expected::ValueType);
+                Err(ParseFailure::Text(fault(kind, cursor)))
+            }
         },
         Some((DecodedToken::Close, rest)) => Ok(GroupProgress {
             is_inside: false,
             cursor: rest,
         }),
-        _ => Err(ParseFailure::Text(unexpected(cursor))),
+        _ => Err(ParseFailure::Text(unexpected(
+            Expected::ValueTypeOrClose,
+            cursor,
+        ))),
     }
 }
 
@@ -202,7 +208,7 @@ fn listed_use<'p, 'a>(
 /// ```text
 /// ensures is { ReadsAs use_of
 ///     (grammar.indexed_use (scope_of scope.now).types (terminals_of cursor.entry)
-///     (grammar.index (scope_of scope.now).types.names (terminals_of cursor.entry)))
+///     (grammar.index spaces.Type (scope_of scope.now).types.names (terminals_of cursor.entry)))
 ///     result }
 /// ensures small { IfOk result (λ r. spec.index_or_zero (use_of r.0) < 2 ^ 63) }
 /// ```
@@ -211,7 +217,7 @@ fn indexed_use<'p, 'a>(
     scope: &Scope<'_, '_>,
     cursor: TokenCursor<'p, 'a>,
 ) -> Result<(TypeUse, TokenCursor<'p, 'a>), ParseFailure<'p, 'a>> {
-    let (index, rest) = index(scope.type_names, cursor)?;
+    let (index, rest) = index(Space::Type, scope.type_names, cursor)?;
     closed_use(alloc, scope, index, cursor, rest)
 }
 
@@ -242,7 +248,7 @@ fn closed_use<'p, 'a>(
                 assumed_use(alloc, rest)
             }
         }
-        _ => Err(ParseFailure::Text(unexpected(cursor))),
+        _ => Err(ParseFailure::Text(unexpected(Expected::Close, cursor))),
     }
 }
 
@@ -285,7 +291,10 @@ fn typed_use<'p, 'a>(
 ) -> Result<(TypeUse, TokenCursor<'p, 'a>), ParseFailure<'p, 'a>> {
     match type_at_index(types, index) {
         Some(of) => agreed(alloc, index, of, all, cursor),
-        None => Err(ParseFailure::Text(fault(FaultKind::UnknownName, all))),
+        None => Err(ParseFailure::Text(fault(
+            FaultKind::UnknownName(Space::Type),
+            all,
+        ))),
     }
 }
 
@@ -340,8 +349,8 @@ pub(crate) fn table_index<'p, 'a>(
     cursor: TokenCursor<'p, 'a>,
 ) -> Result<(usize, TokenCursor<'p, 'a>), Fault<'p, 'a>> {
     match cursor.first() {
-        Some((DecodedToken::Integer(_, _), _)) => index(tables, cursor),
-        Some((DecodedToken::Id(_), _)) => index(tables, cursor),
+        Some((DecodedToken::Integer(_, _), _)) => index(Space::Table, tables, cursor),
+        Some((DecodedToken::Id(_), _)) => index(Space::Table, tables, cursor),
         _ => Ok((0, cursor)),
     }
 }

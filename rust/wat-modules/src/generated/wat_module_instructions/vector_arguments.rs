@@ -2,11 +2,11 @@
 //! Parses the immediates of vector instructions.
 
 use wat_lex::shim::prelude::*;
-use crate::instructions::faults::{fault, unexpected};
+use crate::instructions::faults::{fault, integer_range, unexpected};
 use crate::instructions::floats::{float_32, float_64};
 use crate::instructions::memory::{align_at, offset_at};
 use wat_lex::shim::alloc::Global;
-use crate::ast::error::{Fault, FaultKind, ParseFailure};
+use crate::ast::error::{Expected, Fault, FaultKind, ParseFailure, Range};
 use crate::ast::instruction::Argument;
 use crate::ast::vectors::{Lane, VectorBytes};
 use crate::tokens::stream::TokenCursor;
@@ -27,10 +27,10 @@ fn lane_index<'p, 'a>(
             if n < 0x100 {
                 Ok((n as u8, rest))
             } else {
-                Err(fault(FaultKind::OutOfRange, cursor))
+                Err(fault(FaultKind::OutOfRange(Range::Unsigned(0x80)), cursor))
             }
         }
-        _ => Err(unexpected(cursor)),
+        _ => Err(unexpected(Expected::LaneIndex, cursor)),
     }
 }
 
@@ -198,9 +198,12 @@ fn integer<'p, 'a>(
     match cursor.first() {
         Some((DecodedToken::Integer(sign, size), rest)) => match integer_bits(half, sign, size) {
             Some(n) => Ok((n, rest)),
-            None => Err(fault(FaultKind::OutOfRange, cursor)),
+            None => Err(fault(
+                FaultKind::OutOfRange(integer_range(half, sign)),
+                cursor,
+            )),
         },
-        _ => Err(unexpected(cursor)),
+        _ => Err(unexpected(Expected::Integer, cursor)),
     }
 }
 
@@ -385,8 +388,11 @@ pub(crate) fn constant<'p, 'a>(
     match cursor.first() {
         Some((DecodedToken::Word(word), rest)) => match shape(word) {
             Some(lane) => vector(alloc, lane, rest),
-            None => Err(ParseFailure::Text(fault(FaultKind::UnknownWord, cursor))),
+            None => Err(ParseFailure::Text(fault(
+                FaultKind::UnknownWord(Expected::Shape),
+                cursor,
+            ))),
         },
-        _ => Err(ParseFailure::Text(unexpected(cursor))),
+        _ => Err(ParseFailure::Text(unexpected(Expected::Shape, cursor))),
     }
 }

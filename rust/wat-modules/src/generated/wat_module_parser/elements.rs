@@ -7,7 +7,7 @@ use crate::parser::names::Names;
 use crate::parser::segments::{expression, used};
 use crate::parser::types::{skip_two_closes, table_type};
 use wat_lex::shim::alloc::Global;
-use crate::ast::error::{Fault, FaultKind, ParseFailure};
+use crate::ast::error::{Expected, Fault, FaultKind, ParseFailure, Range, Space};
 use crate::ast::fields::{Elem, ElemMode, Elements, Field, Limits, Table, TableType, Target};
 use crate::ast::instruction::{Instruction, ReferenceType};
 use crate::instructions::faults::{fault, unexpected};
@@ -130,7 +130,7 @@ fn next_function<'p, 'a>(
 ) -> Result<Option<TokenCursor<'p, 'a>>, ParseFailure<'p, 'a>> {
     match left.first() {
         Some((DecodedToken::Integer(_, _) | DecodedToken::Id(_), _)) => {
-            let (index, cursor) = reading::index(&names.funcs, left)?;
+            let (index, cursor) = reading::index(Space::Func, &names.funcs, left)?;
             found.push(index)?;
             Ok(Some(cursor))
         }
@@ -185,7 +185,10 @@ pub(crate) fn table_at<'p, 'a>(
     match cursor.first() {
         Some((DecodedToken::Word(word), rest)) => match reading::reference_type(word) {
             Some(of) => table_open(alloc, names, name, exports, of, rest),
-            None => Err(ParseFailure::Text(fault(FaultKind::UnknownWord, cursor))),
+            None => {
+                let kind = FaultKind::UnknownWord(Expected::ReferenceType);
+                Err(ParseFailure::Text(fault(kind, cursor)))
+            }
         },
         Some((
             DecodedToken::Open
@@ -252,7 +255,7 @@ fn table_open<'p, 'a>(
 ) -> Result<(Field<'a>, TokenCursor<'p, 'a>), ParseFailure<'p, 'a>> {
     match after("elem", cursor) {
         Some(rest) => table_elements(alloc, names, name, exports, of, rest),
-        None => Err(ParseFailure::Text(unexpected(cursor))),
+        None => Err(ParseFailure::Text(unexpected(Expected::Elem, cursor))),
     }
 }
 
@@ -299,7 +302,10 @@ fn table_with<'p, 'a>(
     rest: TokenCursor<'p, 'a>,
 ) -> Result<(Field<'a>, TokenCursor<'p, 'a>), Fault<'p, 'a>> {
     if elements.len() as u64 >= 0x1_0000_0000 {
-        return Err(fault(FaultKind::OutOfRange, all));
+        return Err(fault(
+            FaultKind::OutOfRange(Range::Unsigned(0x8000_0000)),
+            all,
+        ));
     }
     let size = elements.len() as u32;
     Ok((
@@ -334,7 +340,10 @@ fn elements<'p, 'a>(
 ) -> Result<((ReferenceType, Elements), TokenCursor<'p, 'a>), ParseFailure<'p, 'a>> {
     match cursor.first() {
         Some((DecodedToken::Word(word), rest)) => elements_after(alloc, names, word, cursor, rest),
-        _ => Err(ParseFailure::Text(unexpected(cursor))),
+        _ => Err(ParseFailure::Text(unexpected(
+            Expected::ElementList,
+            cursor,
+        ))),
     }
 }
 
@@ -365,7 +374,7 @@ fn elements_after<'p, 'a>(
                 let (functions, rest) = functions(alloc, names, cursor)?;
                 Ok(((ReferenceType::Func, Elements::Functions(functions)), rest))
             } else {
-                Err(ParseFailure::Text(fault(FaultKind::UnknownWord, all)))
+                Err(ParseFailure::Text(unexpected(Expected::ElementList, all)))
             }
         }
     }
@@ -470,7 +479,7 @@ fn given_table<'p, 'a>(
     name: Name<'a>,
     cursor: TokenCursor<'p, 'a>,
 ) -> Result<(Field<'a>, TokenCursor<'p, 'a>), ParseFailure<'p, 'a>> {
-    let (index, rest) = used("table", &names.tables, cursor)?;
+    let (index, rest) = used("table", Space::Table, &names.tables, cursor)?;
     let (offset, rest) = expression(alloc, names, "offset", rest)?;
     let mode = ElemMode::Active(Target { index, offset });
     elem_list(alloc, names, name, mode, rest)
@@ -544,7 +553,10 @@ fn elem_after<'p, 'a>(
     match cursor.first() {
         Some((DecodedToken::Open, _)) => active_elem(alloc, names, name, cursor),
         Some((DecodedToken::Word(word), rest)) => elem_word(alloc, names, name, word, cursor, rest),
-        _ => Err(ParseFailure::Text(unexpected(cursor))),
+        _ => Err(ParseFailure::Text(unexpected(
+            Expected::ElementList,
+            cursor,
+        ))),
     }
 }
 

@@ -5,9 +5,9 @@ use wat_lex::shim::prelude::*;
 use crate::parser::header::utf8_text;
 use crate::parser::names::{Names, names_in};
 use crate::parser::types::{skip_two_closes, space_of};
-use crate::ast::error::{Fault, FaultKind};
+use crate::ast::error::{Expected, Fault, Space};
 use crate::ast::fields::{Export, Field, IndexSpace};
-use crate::instructions::faults::{fault, unexpected};
+use crate::instructions::faults::unexpected;
 use crate::instructions::reading;
 use crate::tokens::stream::TokenCursor;
 use crate::tokens::token::DecodedToken;
@@ -43,7 +43,7 @@ fn external<'p, 'a>(
 ) -> Result<(Field<'a>, TokenCursor<'p, 'a>), Fault<'p, 'a>> {
     match cursor.first() {
         Some((DecodedToken::Open, rest)) => external_word(names, name, rest),
-        _ => Err(unexpected(cursor)),
+        _ => Err(unexpected(Expected::ExportDescription, cursor)),
     }
 }
 
@@ -63,9 +63,25 @@ fn external_word<'p, 'a>(
     match cursor.first() {
         Some((DecodedToken::Word(word), rest)) => match space_of(word) {
             Some(space) => external_index(names, name, space, rest),
-            None => Err(fault(FaultKind::UnknownWord, cursor)),
+            None => Err(unexpected(Expected::ItemKind, cursor)),
         },
-        _ => Err(unexpected(cursor)),
+        _ => Err(unexpected(Expected::ItemKind, cursor)),
+    }
+}
+
+/// Returns the index space of errors for the items of an index space.
+///
+/// # Proved
+///
+/// ```text
+/// ensures { result ≡ reading.kind_of space }
+/// ```
+fn kind_of(space: IndexSpace) -> Space {
+    match space {
+        IndexSpace::Func => Space::Func,
+        IndexSpace::Table => Space::Table,
+        IndexSpace::Mem => Space::Memory,
+        IndexSpace::Global => Space::Global,
     }
 }
 
@@ -86,7 +102,7 @@ fn external_index<'p, 'a>(
     space: IndexSpace,
     cursor: TokenCursor<'p, 'a>,
 ) -> Result<(Field<'a>, TokenCursor<'p, 'a>), Fault<'p, 'a>> {
-    let (index, rest) = reading::index(names_in(names, space), cursor)?;
+    let (index, rest) = reading::index(kind_of(space), names_in(names, space), cursor)?;
     let rest = skip_two_closes(rest)?;
     Ok((Field::Export(Export { name, space, index }), rest))
 }

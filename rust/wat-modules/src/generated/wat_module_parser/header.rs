@@ -5,7 +5,7 @@ use wat_lex::shim::prelude::*;
 use crate::parser::variables::Variable;
 use wat_lex::shim::alloc::Global;
 use core::str;
-use crate::ast::error::{Fault, FaultKind, ParseFailure};
+use crate::ast::error::{Expected, Fault, FaultKind, ParseFailure};
 use crate::ast::instruction::ValueType;
 use crate::instructions::faults::{fault, unexpected};
 use crate::instructions::reading::{after, value_type};
@@ -109,7 +109,7 @@ pub(crate) fn closed<'p, 'a>(
 ) -> Result<TokenCursor<'p, 'a>, Fault<'p, 'a>> {
     match cursor.first() {
         Some((DecodedToken::Close, rest)) => Ok(rest),
-        _ => Err(unexpected(cursor)),
+        _ => Err(unexpected(Expected::Close, cursor)),
     }
 }
 
@@ -145,7 +145,7 @@ pub(crate) fn utf8_text<'p, 'a>(
                 Err(fault(FaultKind::NotUtf8, cursor))
             }
         }
-        _ => Err(unexpected(cursor)),
+        _ => Err(unexpected(Expected::Text, cursor)),
     }
 }
 
@@ -250,7 +250,10 @@ fn next_value<'p, 'a>(
                 found.push(Variable { name, of })?;
                 Ok(Some(cursor))
             }
-            None => Err(ParseFailure::Text(fault(FaultKind::UnknownWord, left))),
+            None => {
+                let kind = FaultKind::UnknownWord(Expected::ValueType);
+                Err(ParseFailure::Text(fault(kind, left)))
+            }
         },
         _ => Ok(None),
     }
@@ -277,7 +280,10 @@ fn group<'p, 'a>(
             if may_have_name {
                 named_group(name, found, rest)
             } else {
-                Err(ParseFailure::Text(unexpected(cursor)))
+                Err(ParseFailure::Text(unexpected(
+                    Expected::ValueTypeOrClose,
+                    cursor,
+                )))
             }
         }
         _ => listed(found, cursor),
@@ -303,9 +309,12 @@ fn named_group<'p, 'a>(
     match cursor.first() {
         Some((DecodedToken::Word(word), rest)) => match value_type(word) {
             Some(of) => named_type(name, of, found, rest),
-            None => Err(ParseFailure::Text(fault(FaultKind::UnknownWord, cursor))),
+            None => {
+                let kind = FaultKind::UnknownWord(Expected::ValueType);
+                Err(ParseFailure::Text(fault(kind, cursor)))
+            }
         },
-        _ => Err(ParseFailure::Text(unexpected(cursor))),
+        _ => Err(ParseFailure::Text(unexpected(Expected::ValueType, cursor))),
     }
 }
 

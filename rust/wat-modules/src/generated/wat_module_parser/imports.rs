@@ -4,13 +4,14 @@
 use wat_lex::shim::prelude::*;
 use crate::parser::header::{closed, utf8_text};
 use crate::parser::names::{Names, variable_names};
+use crate::parser::places::duplicate_variable;
 use crate::parser::types::{global_type, limits, skip_two_closes, space_of, table_type};
 use crate::parser::uses::type_use;
 use crate::parser::variables::{NamedUse, without_names};
 use wat_lex::shim::alloc::Global;
-use crate::ast::error::{Fault, FaultKind, ParseFailure};
+use crate::ast::error::{Expected, Fault, ParseFailure};
 use crate::ast::fields::{ExternType, Field, Import, IndexSpace};
-use crate::instructions::faults::{fault, unexpected};
+use crate::instructions::faults::unexpected;
 use crate::instructions::reading;
 use crate::tokens::stream::TokenCursor;
 use crate::tokens::token::{DecodedToken, Name};
@@ -82,7 +83,7 @@ fn func_type<'p, 'a>(
     rest: TokenCursor<'p, 'a>,
 ) -> Result<(ExternType, TokenCursor<'p, 'a>), ParseFailure<'p, 'a>> {
     if variable_names(alloc, &uses, &[])?.is_none() {
-        return Err(ParseFailure::Text(fault(FaultKind::Duplicate, all)));
+        return Err(ParseFailure::Text(duplicate_variable(alloc, all)?));
     }
     let uses = without_names(alloc, &uses)?;
     Ok((ExternType::Func(uses), rest))
@@ -159,7 +160,10 @@ fn import_open<'p, 'a>(
 ) -> Result<(Field<'a>, TokenCursor<'p, 'a>), ParseFailure<'p, 'a>> {
     match cursor.first() {
         Some((DecodedToken::Open, rest)) => import_word(alloc, names, from, item, rest),
-        _ => Err(ParseFailure::Text(unexpected(cursor))),
+        _ => Err(ParseFailure::Text(unexpected(
+            Expected::ImportDescription,
+            cursor,
+        ))),
     }
 }
 
@@ -182,9 +186,9 @@ fn import_word<'p, 'a>(
     match cursor.first() {
         Some((DecodedToken::Word(word), rest)) => match space_of(word) {
             Some(space) => import_item(alloc, names, from, item, space, rest),
-            None => Err(ParseFailure::Text(fault(FaultKind::UnknownWord, cursor))),
+            None => Err(ParseFailure::Text(unexpected(Expected::ItemKind, cursor))),
         },
-        _ => Err(ParseFailure::Text(unexpected(cursor))),
+        _ => Err(ParseFailure::Text(unexpected(Expected::ItemKind, cursor))),
     }
 }
 

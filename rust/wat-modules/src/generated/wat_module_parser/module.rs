@@ -19,18 +19,20 @@ use crate::parser::elements::table_at;
 use crate::parser::exports::export_at;
 use crate::parser::header::{closed, exports, variables};
 use crate::parser::imports::{import_at, inline_import};
+use crate::parser::labels::label_names;
 use crate::parser::names::{Names, names_of, variable_names, with_types, without_types};
+use crate::parser::places::{duplicate_item, duplicate_variable, import_fault, start_fault};
 use crate::parser::segments::{memory_at, segment};
 use crate::parser::types::{global_type, space_of};
 use crate::parser::uses::{type_at, type_use};
-use crate::parser::variables::{NamedUse, Variable, locals_of, without_names};
+use crate::parser::variables::{NamedUse, Variable, local_names, locals_of, without_names};
 use wat_lex::shim::alloc::Global;
-use crate::ast::error::{Fault, FaultKind, ParseFailure};
+use crate::ast::error::{Expected, Fault, FaultKind, ParseFailure, Space};
 use crate::ast::fields::{Field, Function, GlobalVariable, IndexSpace};
 use crate::ast::implicit_types;
 use crate::ast::instruction::Instruction;
 use crate::ast::types::FunctionType;
-use crate::instructions::faults::{fault, unexpected};
+use crate::instructions::faults::unexpected;
 use crate::instructions::machine;
 use crate::instructions::names::IndexedNames;
 use crate::instructions::reading::{self, Scope, after};
@@ -104,7 +106,7 @@ fn module_fields<'p, 'a>(
     cursor: TokenCursor<'p, 'a>,
 ) -> Result<Vec<Field<'a>>, ParseFailure<'p, 'a>> {
     let Some(names) = names_of(alloc, cursor)? else {
-        return Err(ParseFailure::Text(fault(FaultKind::Duplicate, cursor)));
+        return Err(ParseFailure::Text(duplicate_item(alloc, cursor)?));
     };
     match fields_by(alloc, enclosed, &names, cursor) {
         Err(ParseFailure::Text(fault)) => fields_again(alloc, enclosed, names, fault, cursor),
@@ -186,7 +188,7 @@ fn types_without<'p, 'a>(
 /// ```
 fn first_fault<'p, 'a>(fault: Fault<'p, 'a>, other: Fault<'p, 'a>) -> Fault<'p, 'a> {
     match fault.kind {
-        FaultKind::UnknownName => other,
+        FaultKind::UnknownName(_) => other,
         _ => fault,
     }
 }
@@ -220,10 +222,10 @@ fn fields_by<'p, 'a>(
     let (fields, rest) = fields(alloc, names, cursor)?;
     ended_by(enclosed, rest)?;
     if !imports_first(&fields) {
-        return Err(ParseFailure::Text(fault(FaultKind::LateImport, cursor)));
+        return Err(ParseFailure::Text(import_fault(alloc, &fields, cursor)?));
     }
     if starts(&fields) > 1 {
-        return Err(ParseFailure::Text(fault(FaultKind::SecondStart, cursor)));
+        return Err(ParseFailure::Text(start_fault(alloc, &fields, cursor)?));
     }
     Ok(fields)
 }
@@ -243,7 +245,7 @@ fn ended_by<'p, 'a>(enclosed: bool, cursor: TokenCursor<'p, 'a>) -> Result<(), F
     if enclosed {
         ended(cursor)
     } else {
-        at_end(cursor)
+        at_end(Expected::FieldOrEnd, cursor)
     }
 }
 
@@ -260,26 +262,26 @@ fn ended_by<'p, 'a>(enclosed: bool, cursor: TokenCursor<'p, 'a>) -> Result<(), F
 /// ```
 fn ended<'p, 'a>(cursor: TokenCursor<'p, 'a>) -> Result<(), Fault<'p, 'a>> {
     match cursor.first() {
-        Some((DecodedToken::Close, rest)) => at_end(rest),
-        _ => Err(unexpected(cursor)),
+        Some((DecodedToken::Close, rest)) => at_end(Expected::End, rest),
+        _ => Err(unexpected(Expected::FieldOrClose, cursor)),
     }
 }
 
-/// Checks that no token is left.
+/// Checks that no token is left. Otherwise `expected` is accepted here.
 ///
 /// # Proved
 ///
 /// ```text
 /// ensures { MatchResult result
 /// (λ _. (fs : List grammar.Field) →
-/// reading.at_end (Ok (fs, terminals_of cursor.entry)) ≡ Ok fs)
+/// reading.end_after expected fs (terminals_of cursor.entry) ≡ Ok fs)
 /// (λ f. (fs : List grammar.Field) →
-/// reading.at_end (Ok (fs, terminals_of cursor.entry)) ≡ Err (fault_of f)) }
+/// reading.end_after expected fs (terminals_of cursor.entry) ≡ Err (fault_of f)) }
 /// ```
-fn at_end<'p, 'a>(cursor: TokenCursor<'p, 'a>) -> Result<(), Fault<'p, 'a>> {
+fn at_end<'p, 'a>(expected: Expected, cursor: TokenCursor<'p, 'a>) -> Result<(), Fault<'p, 'a>> {
     match cursor.first() {
         None => Ok(()),
-        Some(_) => Err(unexpected(cursor)),
+        Some(_) => Err(unexpected(expected, cursor)),
     }
 }
 
@@ -435,7 +437,7 @@ fn field_at<'p, 'a>(
 ) -> Result<(Field<'a>, TokenCursor<'p, 'a>), ParseFailure<'p, 'a>> {
     match cursor.first() {
         Some((DecodedToken::Word(word), rest)) => field_after(alloc, names, word, cursor, rest),
-        _ => Err(ParseFailure::Text(unexpected(cursor))),
+        _ => Err(ParseFailure::Text(unexpected(Expected::Field, cursor))),
     }
 }
 
@@ -530,8 +532,10 @@ fn func<'p, 'a>(
     cursor: TokenCursor<'p, 'a>,
 ) -> Result<(Field<'a>, TokenCursor<'p, 'a>), ParseFailure<'p, 'a>> {
     let (uses, rest) = type_use(alloc, names, cursor)?;
-    let (locals, rest) = variables(alloc, "local", true, rest)?;
-    let (body, rest) = instructions(alloc, names, &uses, &locals, rest)?;
+    let (locals, start) = variables(alloc, "local", true, rest)?;
+    let (body, rest) = instructions(alloc, names, &uses, &locals, cursor, start)?;
+    let local_names = local_names(alloc, &uses, &locals)?;
+    let label_names = label_names(alloc, start)?;
     let uses = without_names(alloc, &uses)?;
     let locals = locals_of(alloc, &locals)?;
     Ok((
@@ -541,6 +545,8 @@ fn func<'p, 'a>(
             uses,
             locals,
             body,
+            local_names,
+            label_names,
         }),
         rest,
     ))
@@ -639,7 +645,7 @@ fn start_at<'p, 'a>(
     names: &Names<'a>,
     cursor: TokenCursor<'p, 'a>,
 ) -> Result<(Field<'a>, TokenCursor<'p, 'a>), Fault<'p, 'a>> {
-    let (index, rest) = reading::index(&names.funcs, cursor)?;
+    let (index, rest) = reading::index(Space::Func, &names.funcs, cursor)?;
     let rest = closed(rest)?;
     Ok((Field::Start(index), rest))
 }
@@ -668,14 +674,14 @@ pub(crate) fn scope<'s, 'n>(names: &'s Names<'n>, locals: &'s IndexedNames<'n>) 
 
 /// Parses the instructions of a function after its locals, up to and including the closing
 /// parenthesis of the function. The identifiers of its parameters, which are those of `uses`, and
-/// of its locals must be distinct.
+/// of its locals must be distinct. `start` starts at the type use, for errors.
 ///
 /// # Proved
 ///
 /// ```text
 /// ensures { ReadsAs (λ v. v.items)
 /// (reading.instructions (context_of names.now) (use_of uses.now).params
-/// (map variable_of locals.now) (terminals_of cursor.entry))
+/// (map variable_of locals.now) (terminals_of start.entry) (terminals_of cursor.entry))
 /// result }
 /// ```
 fn instructions<'p, 'a>(
@@ -683,10 +689,11 @@ fn instructions<'p, 'a>(
     names: &Names<'a>,
     uses: &NamedUse<'_, 'a>,
     locals: &[Variable<'a>],
+    start: TokenCursor<'p, 'a>,
     cursor: TokenCursor<'p, 'a>,
 ) -> Result<(Vec<Instruction>, TokenCursor<'p, 'a>), ParseFailure<'p, 'a>> {
     let Some(locals) = variable_names(alloc, uses, locals)? else {
-        return Err(ParseFailure::Text(fault(FaultKind::Duplicate, cursor)));
+        return Err(ParseFailure::Text(duplicate_variable(alloc, start)?));
     };
     let scope = scope(names, &locals);
     machine::instructions(alloc, &scope, cursor)

@@ -222,7 +222,7 @@ pub(crate) fn names_in<'s, 'a>(names: &'s Names<'a>, space: IndexSpace) -> &'s I
 /// ensures { IfOk result (λ starts. map terminals_of starts.items ≡
 /// reading.starts reading.Before [] (terminals_of cursor.entry)) }
 /// ```
-fn starts<'p, 'a>(
+pub(crate) fn starts<'p, 'a>(
     alloc: Global,
     cursor: TokenCursor<'p, 'a>,
 ) -> Result<Vec<TokenCursor<'p, 'a>>, AllocError> {

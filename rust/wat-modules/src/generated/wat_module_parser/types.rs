@@ -3,7 +3,7 @@
 
 use wat_lex::shim::prelude::*;
 use crate::parser::header::closed;
-use crate::ast::error::{Fault, FaultKind};
+use crate::ast::error::{Expected, Fault, FaultKind, Range, Space};
 use crate::ast::fields::{GlobalType, IndexSpace, Limits, TableType};
 use crate::ast::instruction::{ReferenceType, ValueType};
 use crate::instructions::faults::{fault, unexpected};
@@ -52,10 +52,13 @@ fn small<'p, 'a>(
             if n < 0x1_0000_0000 {
                 Ok((n as u32, rest))
             } else {
-                Err(fault(FaultKind::OutOfRange, all))
+                Err(fault(
+                    FaultKind::OutOfRange(Range::Unsigned(0x8000_0000)),
+                    all,
+                ))
             }
         }
-        Sign::Plus | Sign::Minus => Err(unexpected(all)),
+        Sign::Plus | Sign::Minus => Err(unexpected(Expected::Unsigned, all)),
     }
 }
 
@@ -74,7 +77,7 @@ pub(crate) fn limits<'p, 'a>(
             let (min, rest) = small(sign, n, cursor, rest)?;
             maximum(min, rest)
         }
-        _ => Err(unexpected(cursor)),
+        _ => Err(unexpected(Expected::Limits, cursor)),
     }
 }
 
@@ -127,9 +130,12 @@ fn reference_type<'p, 'a>(
     match cursor.first() {
         Some((DecodedToken::Word(word), rest)) => match reading::reference_type(word) {
             Some(of) => Ok((of, rest)),
-            None => Err(fault(FaultKind::UnknownWord, cursor)),
+            None => Err(fault(
+                FaultKind::UnknownWord(Expected::ReferenceType),
+                cursor,
+            )),
         },
-        _ => Err(unexpected(cursor)),
+        _ => Err(unexpected(Expected::ReferenceType, cursor)),
     }
 }
 
@@ -149,10 +155,10 @@ pub(crate) fn global_type<'p, 'a>(
                 let is_mutable = false;
                 Ok((GlobalType { is_mutable, value }, rest))
             }
-            None => Err(fault(FaultKind::UnknownWord, cursor)),
+            None => Err(fault(FaultKind::UnknownWord(Expected::ValueType), cursor)),
         },
         Some((DecodedToken::Open, rest)) => mutable(rest),
-        _ => Err(unexpected(cursor)),
+        _ => Err(unexpected(Expected::GlobalType, cursor)),
     }
 }
 
@@ -171,10 +177,10 @@ fn mutable<'p, 'a>(
             if word == "mut" {
                 mutable_type(rest)
             } else {
-                Err(fault(FaultKind::UnknownWord, cursor))
+                Err(unexpected(Expected::Mut, cursor))
             }
         }
-        _ => Err(unexpected(cursor)),
+        _ => Err(unexpected(Expected::Mut, cursor)),
     }
 }
 
@@ -191,9 +197,9 @@ fn mutable_type<'p, 'a>(
     match cursor.first() {
         Some((DecodedToken::Word(word), rest)) => match value_type(word) {
             Some(of) => closing_mutable(of, rest),
-            None => Err(fault(FaultKind::UnknownWord, cursor)),
+            None => Err(fault(FaultKind::UnknownWord(Expected::ValueType), cursor)),
         },
-        _ => Err(unexpected(cursor)),
+        _ => Err(unexpected(Expected::ValueType, cursor)),
     }
 }
 
@@ -233,6 +239,6 @@ pub(crate) fn skip_two_closes<'p, 'a>(
 ) -> Result<TokenCursor<'p, 'a>, Fault<'p, 'a>> {
     match cursor.first() {
         Some((DecodedToken::Close, rest)) => closed(rest),
-        _ => Err(unexpected(cursor)),
+        _ => Err(unexpected(Expected::Close, cursor)),
     }
 }

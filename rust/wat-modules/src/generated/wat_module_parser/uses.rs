@@ -7,7 +7,7 @@ use crate::parser::names::Names;
 use crate::parser::types::skip_two_closes;
 use crate::parser::variables::{ListedUse, NamedUse, Variable, function_type};
 use wat_lex::shim::alloc::Global;
-use crate::ast::error::{FaultKind, ParseFailure};
+use crate::ast::error::{Expected, FaultKind, ParseFailure, Space};
 use crate::ast::fields::Definition;
 use crate::ast::types::{FunctionType, same_type, type_at_index};
 use crate::instructions::faults::{fault, unexpected};
@@ -71,7 +71,7 @@ fn indexed_use<'s, 'p, 'a>(
     names: &'s Names<'a>,
     cursor: TokenCursor<'p, 'a>,
 ) -> Result<(NamedUse<'s, 'a>, TokenCursor<'p, 'a>), ParseFailure<'p, 'a>> {
-    let (index, rest) = reading::index(&names.type_names, cursor)?;
+    let (index, rest) = reading::index(Space::Type, &names.type_names, cursor)?;
     let rest = closed(rest)?;
     if names.are_types_known {
         return known_use(alloc, names, index, cursor, rest);
@@ -99,7 +99,10 @@ fn known_use<'s, 'p, 'a>(
 ) -> Result<(NamedUse<'s, 'a>, TokenCursor<'p, 'a>), ParseFailure<'p, 'a>> {
     match type_at_index(&names.types, index) {
         Some(of) => lists(alloc, index, of, all, cursor),
-        None => Err(ParseFailure::Text(fault(FaultKind::UnknownName, all))),
+        None => Err(ParseFailure::Text(fault(
+            FaultKind::UnknownName(Space::Type),
+            all,
+        ))),
     }
 }
 
@@ -193,7 +196,10 @@ pub(crate) fn type_at<'p, 'a>(
     let (name, cursor) = reading::label(cursor);
     match after("func", cursor) {
         Some(rest) => type_lists(alloc, name, rest),
-        None => Err(ParseFailure::Text(unexpected(cursor))),
+        None => Err(ParseFailure::Text(unexpected(
+            Expected::FunctionType,
+            cursor,
+        ))),
     }
 }
 

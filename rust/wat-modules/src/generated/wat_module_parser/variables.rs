@@ -3,7 +3,7 @@
 
 use wat_lex::shim::prelude::*;
 use wat_lex::shim::alloc::{AllocError, Global};
-use crate::ast::fields::Locals;
+use crate::ast::fields::{Locals, NameAssociation};
 use crate::ast::instruction::ValueType;
 use crate::ast::types::{FunctionType, TypeUse};
 use crate::tokens::token::Name;
@@ -150,4 +150,57 @@ fn listed_without_names(alloc: Global, uses: &ListedUse<'_>) -> Result<TypeUse, 
             Ok(TypeUse::Inline(of))
         }
     }
+}
+
+/// Returns the identifiers of the parameters of a type use and of locals, by their indices.
+///
+/// # Proved
+///
+/// ```text
+/// ensures { IfOk result (λ names. map association_of names.items ≡
+/// grammar.local_associations (use_of uses.now).params (map variable_of locals.now)) }
+/// ```
+pub(crate) fn local_names<'a>(
+    alloc: Global,
+    uses: &NamedUse<'_, 'a>,
+    locals: &[Variable<'a>],
+) -> Result<Vec<NameAssociation<'a>>, AllocError> {
+    match uses {
+        NamedUse::Listed(listed) => {
+            let params = with_names(Vec::new(alloc), 0, &listed.params)?;
+            let names = with_names(params, listed.params.len(), locals)?;
+            Ok(names)
+        }
+        NamedUse::Indexed(_, of) => {
+            let names = with_names(Vec::new(alloc), of.params.len(), locals)?;
+            Ok(names)
+        }
+    }
+}
+
+/// Returns `names` with the identifiers of variables appended, by their indices, which begin at
+/// `first`. `first` must be below 2^63.
+///
+/// # Proved
+///
+/// ```text
+/// requires { first < 2 ^ 63 }
+/// ensures { IfOk result (λ all. map association_of all.items ≡
+///     map association_of names.entry.items ++
+///     associations first (map grammar.name_of (map variable_of variables.now))) }
+/// ```
+fn with_names<'a>(
+    names: Vec<NameAssociation<'a>>,
+    first: usize,
+    variables: &[Variable<'a>],
+) -> Result<Vec<NameAssociation<'a>>, AllocError> {
+    let mut names = names;
+    let mut index = first;
+    for variable in variables {
+        if let Name::Given(name) = variable.name {
+            names.push(NameAssociation { index, name })?;
+        }
+        index += 1;
+    }
+    Ok(names)
 }

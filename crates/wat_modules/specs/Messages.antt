@@ -1,0 +1,190 @@
+-- The messages of syntax errors of modules, in bytes, and their offsets. The standard does not define them. Each is a
+-- function of the kind of the error, the text and its visible tokens, and the count of tokens from the one in error on.
+use Rattle.std.specs.Prelude.{ℕ, Bool, true, false, ◌+◌, ◌*◌, ◌-◌, ◌++◌, ◌||◌, bytes_eq, nat_le, List, length, codes, slice_get, if◌then◌else◌, Option, Some, None}
+use Rattle.std.specs.Fmt.{decimal}
+use Rattle.wat_lex.specs.declared.lexer.kinds.Token.{Token}
+use Rattle.wat_lex.specs.declared.lexer.kinds.TokenKind.{TokenKind}
+use Rattle.wat_lex.specs.declared.lexer.kinds.TokenKind.TheVariants as kind
+use Rattle.wat_lex.specs.errors.Positions.{line_and_column}
+use Rattle.wat_lex.specs.tokens.ReadableTokens.{token_text}
+use Rattle.wat_module_ast.specs.declared.error.Expected.{Expected}
+use Rattle.wat_module_ast.specs.declared.error.Expected.TheVariants as expected
+use Rattle.wat_module_ast.specs.declared.error.FaultKind.{FaultKind}
+use Rattle.wat_module_ast.specs.declared.error.FaultKind.TheVariants.{Unexpected, UnknownWord, UnknownName, WrongLabel, OutOfRange, NotUtf8, Duplicate, SecondStart, OtherType, LateImport}
+use Rattle.wat_module_ast.specs.declared.error.Range.{Range}
+use Rattle.wat_module_ast.specs.declared.error.Range.TheVariants as range
+use Rattle.wat_module_ast.specs.declared.error.Space.{Space}
+use Rattle.wat_module_ast.specs.declared.error.Space.TheVariants as space
+
+-- Offsets.
+
+abbrev pub offset_or : ℕ → Option Token → ℕ
+offset_or end None = end
+offset_or end (Some t) = t.offset
+
+-- The token from which on `left` tokens remain, or `None` if none remains.
+abbrev pub token_at : List Token → ℕ → Option Token
+token_at tokens left = slice_get tokens (length tokens - left)
+
+-- The offset of the token from which on `left` tokens remain, or the end of the text if none remains.
+abbrev pub place : List ℕ → List Token → ℕ → ℕ
+place text tokens left = offset_or (length text) (token_at tokens left)
+
+-- The location of an offset, with the line and the column in bytes, both from 1.
+abbrev pub location : ℕ × ℕ → List ℕ
+location p = codes "line " ++ (decimal (p.0 + 1) ++ (codes ", column " ++ decimal (p.1 + 1)))
+
+-- The token in error.
+
+-- A token by its kind.
+abbrev pub kind_phrase : TokenKind → List ℕ
+kind_phrase kind.String = codes "a string"
+kind_phrase kind.Id = codes "an identifier"
+kind_phrase kind.Keyword = codes "a keyword"
+kind_phrase (kind.Integer k) = codes "an integer"
+kind_phrase (kind.Float k) = codes "a float"
+kind_phrase kind.Reserved = codes "a reserved token"
+kind_phrase kind.Annotation = codes "an annotation"
+kind_phrase k = codes "a token"
+
+abbrev pub is_string : TokenKind → Bool
+is_string kind.String = true
+is_string k = false
+
+-- Returns `true` if messages have the lexeme of the token: it is not a string, and has at most 40 bytes.
+abbrev pub is_short : Token → Bool
+is_short t = if is_string t.kind then false else nat_le t.len 40
+
+-- A lexeme in backticks.
+abbrev pub quoted : List ℕ → List ℕ
+quoted w = codes "`" ++ (w ++ codes "`")
+
+-- The token in error, or the end of the text.
+abbrev pub found : List ℕ → Option Token → List ℕ
+found text None = codes "the end of the text"
+found text (Some t) = if is_short t then quoted (token_text text t) else kind_phrase t.kind
+
+-- The token in error after a noun, if messages have its lexeme, and otherwise nothing.
+abbrev pub named : List ℕ → Option Token → List ℕ
+named text None = codes ""
+named text (Some t) = if is_short t then codes " " ++ quoted (token_text text t) else codes ""
+
+-- Phrases.
+
+-- An item of an index space.
+abbrev pub noun : Space → List ℕ
+noun space.Type = codes "type"
+noun space.Func = codes "function"
+noun space.Table = codes "table"
+noun space.Memory = codes "memory"
+noun space.Global = codes "global"
+noun space.Elem = codes "element segment"
+noun space.Data = codes "data segment"
+noun space.Local = codes "local"
+noun space.Label = codes "label"
+
+-- An index of an index space.
+abbrev pub index_phrase : Space → List ℕ
+index_phrase space.Type = codes "a type index"
+index_phrase space.Func = codes "a function index"
+index_phrase space.Table = codes "a table index"
+index_phrase space.Memory = codes "a memory index"
+index_phrase space.Global = codes "a global index"
+index_phrase space.Elem = codes "an element segment index"
+index_phrase space.Data = codes "a data segment index"
+index_phrase space.Local = codes "a local index"
+index_phrase space.Label = codes "a label index"
+
+-- What the grammar accepts.
+abbrev pub phrase : Expected → List ℕ
+phrase expected.Close = codes "`)`"
+phrase expected.OpenOrClose = codes "`(` or `)`"
+phrase expected.End = codes "the end of the text"
+phrase expected.Field = codes "a module field"
+phrase expected.FieldOrClose = codes "a module field or `)`"
+phrase expected.FieldOrEnd = codes "a module field or the end of the text"
+phrase expected.Instruction = codes "an instruction"
+phrase expected.InstructionOrClose = codes "an instruction or `)`"
+phrase expected.InstructionOrEnd = codes "an instruction or `end`"
+phrase expected.Then = codes "`(then`"
+phrase expected.Else = codes "`else`"
+phrase expected.ElseOrClose = codes "`(else` or `)`"
+phrase expected.Expression = codes "an expression"
+phrase expected.ValueType = codes "a value type"
+phrase expected.ValueTypeOrClose = codes "a value type or `)`"
+phrase expected.ReferenceType = codes "a reference type"
+phrase expected.HeapType = codes "a heap type"
+phrase expected.GlobalType = codes "a global type"
+phrase expected.Mut = codes "`mut`"
+phrase expected.FunctionType = codes "`(func`"
+phrase expected.Limits = codes "limits"
+phrase (expected.Index s) = index_phrase s
+phrase expected.Unsigned = codes "an unsigned integer"
+phrase expected.Integer = codes "an integer of at most 64 bits"
+phrase expected.Number = codes "a number"
+phrase expected.LaneIndex = codes "a lane index"
+phrase expected.Shape = codes "a vector shape"
+phrase expected.Text = codes "a string"
+phrase expected.ItemKind = codes "`func`, `table`, `memory` or `global`"
+phrase expected.ExportDescription = codes "an export description"
+phrase expected.ImportDescription = codes "an import description"
+phrase expected.Elem = codes "`(elem`"
+phrase expected.ElementList = codes "a reference type or `func`"
+
+-- What an unknown keyword should be, without an article.
+abbrev pub word_noun : Expected → List ℕ
+word_noun expected.Field = codes "module field"
+word_noun expected.Instruction = codes "instruction"
+word_noun expected.ValueType = codes "value type"
+word_noun expected.ReferenceType = codes "reference type"
+word_noun expected.HeapType = codes "heap type"
+word_noun expected.Shape = codes "vector shape"
+word_noun e = codes "keyword"
+
+-- The values of a range.
+abbrev pub range_phrase : Range → List ℕ
+range_phrase (range.Unsigned half) = codes "0 to " ++ decimal (half * 2 - 1)
+range_phrase (range.Signed half) = codes "-" ++ (decimal half ++ (codes " to " ++ decimal (half - 1)))
+range_phrase range.Float32 = codes "a 32-bit float"
+range_phrase range.Float64 = codes "a 64-bit float"
+
+-- 6.4 to 6.6: returns `true` for the keywords that are unexpected, and not unknown, if they are in error.
+abbrev pub is_keyword : List ℕ → Bool
+is_keyword w =
+    bytes_eq w (codes "end") || (bytes_eq w (codes "else") || (bytes_eq w (codes "then") || (bytes_eq w (codes "param") || (bytes_eq w (codes "result") || (bytes_eq w (codes "local") || (bytes_eq w (codes "type") || (bytes_eq w (codes "func") || (bytes_eq w (codes "import") || bytes_eq w (codes "export")))))))))
+
+-- Returns `true` if the token is such a keyword.
+abbrev pub is_misplaced : List ℕ → Option Token → Bool
+is_misplaced text None = false
+is_misplaced text (Some t) = is_keyword (token_text text t)
+
+-- The kind of an error in its message: a keyword that the grammar has is not unknown, but unexpected.
+abbrev pub kind_by : Bool → FaultKind → FaultKind
+kind_by true (UnknownWord e) = Unexpected e
+kind_by b k = k
+
+-- The count of tokens from the first of two on, if the error has two, and otherwise 0.
+abbrev pub first_of : FaultKind → ℕ
+first_of (Duplicate s left) = left
+first_of (SecondStart left) = left
+first_of (LateImport left) = left
+first_of k = 0
+
+-- The message of a syntax error by its kind, the token in error, this token as it follows a noun, and the location of
+-- the first of two tokens.
+abbrev pub message_by : FaultKind → List ℕ → List ℕ → List ℕ → List ℕ
+message_by (Unexpected e) found named first = codes "expected " ++ (phrase e ++ (codes ", found " ++ found))
+message_by (UnknownWord e) found named first = codes "unknown " ++ (word_noun e ++ named)
+message_by (UnknownName s) found named first = codes "unknown " ++ (noun s ++ named)
+message_by WrongLabel found named first = codes "mismatching label" ++ named
+message_by (OutOfRange r) found named first = codes "number out of range: expected " ++ (range_phrase r ++ (codes ", found " ++ found))
+message_by NotUtf8 found named first = codes "name is not UTF-8"
+message_by (Duplicate s left) found named first = codes "duplicate " ++ (noun s ++ (named ++ (codes ", first defined at " ++ first)))
+message_by (SecondStart left) found named first = codes "duplicate start function, first defined at " ++ first
+message_by OtherType found named first = codes "parameters or results differ from those of type" ++ named
+message_by (LateImport left) found named first = codes "import after the first definition, which is at " ++ first
+
+-- The message of a syntax error at the token from which on `left` tokens remain.
+abbrev pub message : List ℕ → List Token → FaultKind → ℕ → List ℕ
+message text tokens k left =
+    message_by (kind_by (is_misplaced text (token_at tokens left)) k) (found text (token_at tokens left)) (named text (token_at tokens left)) (location (line_and_column text (place text tokens (first_of k))))

@@ -1,0 +1,17 @@
+-- The parts of a message of the code, as definitions. Not part of the standard.
+use Rattle.std.specs.Prelude.{ℕ, ◌++◌, List, codes}
+use Rattle.wat_modules.specs.declared.messages.Found.{Found}
+use Rattle.wat_modules.specs.declared.messages.Found.TheVariants as declared
+use Rattle.wat_modules.specs.Messages.{kind_phrase, quoted}
+
+-- The token in error, or the end of the text.
+abbrev pub found_of : Found → List ℕ
+found_of (declared.Lexeme w) = quoted w.now
+found_of (declared.Kind k) = kind_phrase k
+found_of declared.End = codes "the end of the text"
+
+-- The token in error after a noun.
+abbrev pub named_of : Found → List ℕ
+named_of (declared.Lexeme w) = codes " " ++ quoted w.now
+named_of (declared.Kind k) = codes ""
+named_of declared.End = codes ""

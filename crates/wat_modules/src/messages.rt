@@ -1,0 +1,349 @@
+//! Messages of syntax errors.
+ghost use Rattle.std.specs.Prelude.{◌≡◌, IfSome};
+ghost use Rattle.wat_lex.specs.tokens.ReadableTokens.{IsTokenOf};
+ghost use Rattle.wat_modules.specs.Messages as messages;
+ghost use Rattle.wat_modules.specs.Views.{found_of, named_of};
+
+use std::fmt;
+use wat_lexer_parser::lexer::{Token, TokenKind};
+use wat_module_ast::error::{Expected, FaultKind, Range, Space};
+
+/// Maximum length in bytes of a lexeme in a message.
+const LONGEST: u32 = 40;
+
+/// The message of a syntax error.
+#[derive(Clone, Copy)]
+pub(crate) struct Message<'t> {
+    /// Kind of the error.
+    pub(crate) kind: FaultKind,
+    /// Token in error.
+    pub(crate) found: Found<'t>,
+    /// Line and column, both from 0, of the first of two tokens, if the error has two.
+    pub(crate) first: (usize, usize),
+}
+
+/// The token in error, as a message has it.
+#[derive(Clone, Copy)]
+pub(crate) enum Found<'t> {
+    /// The lexeme of the token.
+    Lexeme(&'t str),
+    /// The kind of the token, which is a string or a long lexeme.
+    Kind(TokenKind),
+    /// The end of the text.
+    End,
+}
+
+/// Returns the token in error, as a message has it.
+pub(crate) fn found_token<'t>(text: &'t str, token: Option<Token>) -> Found<'t>
+    requires { IfSome token (IsTokenOf text.now) }
+    ensures found { found_of result ≡ messages.found text.now token }
+    ensures named { named_of result ≡ messages.named text.now token }
+{
+    match token {
+        Some(token) => {
+            if is_short(token) {
+                Found::Lexeme(token.src(text))
+            } else {
+                Found::Kind(token.kind)
+            }
+        }
+        None => Found::End,
+    }
+}
+
+/// Returns `true` if messages have the lexeme of a token.
+fn is_short(token: Token) -> bool
+    ensures { result ≡ messages.is_short token }
+{
+    match token.kind {
+        TokenKind::String => false,
+        _ => token.len <= LONGEST,
+    }
+}
+
+/// Returns the kind of an error in its message: a keyword that the grammar has is not unknown, but
+/// unexpected.
+pub(crate) fn kind_by(is_misplaced: bool, kind: FaultKind) -> FaultKind
+    ensures { result ≡ messages.kind_by is_misplaced kind }
+{
+    match kind {
+        FaultKind::UnknownWord(expected) => {
+            if is_misplaced {
+                FaultKind::Unexpected(expected)
+            } else {
+                kind
+            }
+        }
+        _ => kind,
+    }
+}
+
+/// Returns `true` if a token is a keyword that the grammar uses elsewhere.
+pub(crate) fn is_misplaced(text: &str, token: Option<Token>) -> bool
+    requires { IfSome token (IsTokenOf text.now) }
+    ensures { result ≡ messages.is_misplaced text.now token }
+{
+    match token {
+        Some(token) => is_keyword(token.src(text)),
+        None => false,
+    }
+}
+
+/// Returns `true` for the keywords that are unexpected, and not unknown, if they are in error.
+fn is_keyword(word: &str) -> bool
+    ensures { result ≡ messages.is_keyword word.now }
+{
+    word == "end"
+        || word == "else"
+        || word == "then"
+        || word == "param"
+        || word == "result"
+        || word == "local"
+        || word == "type"
+        || word == "func"
+        || word == "import"
+        || word == "export"
+}
+
+/// Returns the number of tokens from the first of two on, if the error has two, and otherwise 0.
+pub(crate) fn first_of(kind: FaultKind) -> usize
+    ensures { result ≡ messages.first_of kind }
+{
+    match kind {
+        FaultKind::Duplicate(_, left)
+        | FaultKind::SecondStart(left)
+        | FaultKind::LateImport(left) => left,
+        _ => 0,
+    }
+}
+
+impl fmt::Display for Message<'_> {
+    ghost use Rattle.std.specs.Prelude.{Some};
+    ghost use Rattle.wat_modules.specs.Messages.{location, message_by};
+    ghost use Rattle.wat_modules.specs.Views.{found_of, named_of};
+
+    ghost output = { λ m. Some (message_by m.kind (found_of m.found) (named_of m.found)
+        (location m.first)) };
+
+    fn fmt<W: fmt::Write>(&self, f: &mut fmt::Formatter<W>) -> fmt::Result {
+        let named = Named(self.found);
+        let first = Location(self.first);
+        match self.kind {
+            FaultKind::Unexpected(expected) => {
+                write!(f, "expected {}, found {}", phrase(expected), self.found)
+            }
+            FaultKind::UnknownWord(expected) => {
+                write!(f, "unknown {}{named}", word_noun(expected))
+            }
+            FaultKind::UnknownName(space) => write!(f, "unknown {}{named}", noun(space)),
+            FaultKind::WrongLabel => write!(f, "mismatching label{named}"),
+            FaultKind::OutOfRange(range) => {
+                let values = Values(range);
+                write!(
+                    f,
+                    "number out of range: expected {values}, found {}",
+                    self.found
+                )
+            }
+            FaultKind::NotUtf8 => write!(f, "name is not UTF-8"),
+            FaultKind::Duplicate(space, _) => {
+                write!(
+                    f,
+                    "duplicate {}{named}, first defined at {first}",
+                    noun(space)
+                )
+            }
+            FaultKind::SecondStart(_) => {
+                write!(f, "duplicate start function, first defined at {first}")
+            }
+            FaultKind::OtherType => {
+                write!(f, "parameters or results differ from those of type{named}")
+            }
+            FaultKind::LateImport(_) => {
+                write!(f, "import after the first definition, which is at {first}")
+            }
+        }
+    }
+}
+
+impl fmt::Display for Found<'_> {
+    ghost use Rattle.std.specs.Prelude.{Some};
+    ghost use Rattle.wat_modules.specs.Views.{found_of};
+
+    ghost output = { λ t. Some (found_of t) };
+
+    fn fmt<W: fmt::Write>(&self, f: &mut fmt::Formatter<W>) -> fmt::Result {
+        match self {
+            Found::Lexeme(lexeme) => write!(f, "`{lexeme}`"),
+            Found::Kind(kind) => write!(f, "{}", kind_phrase(*kind)),
+            Found::End => write!(f, "the end of the text"),
+        }
+    }
+}
+
+/// The token in error after a noun.
+#[derive(Clone, Copy)]
+struct Named<'t>(Found<'t>);
+
+impl fmt::Display for Named<'_> {
+    ghost use Rattle.std.specs.Prelude.{Some};
+    ghost use Rattle.wat_modules.specs.Views.{named_of};
+
+    ghost output = { λ n. Some (named_of n.0) };
+
+    fn fmt<W: fmt::Write>(&self, f: &mut fmt::Formatter<W>) -> fmt::Result {
+        match self.0 {
+            Found::Lexeme(lexeme) => write!(f, " `{lexeme}`"),
+            Found::Kind(_) | Found::End => Ok(()),
+        }
+    }
+}
+
+/// A line and a column, both from 0. They are written from 1.
+#[derive(Clone, Copy)]
+struct Location((usize, usize));
+
+impl fmt::Display for Location {
+    ghost use Rattle.std.specs.Prelude.{Some};
+    ghost use Rattle.wat_modules.specs.Messages.{location};
+
+    ghost output = { λ l. Some (location l.0) };
+
+    fn fmt<W: fmt::Write>(&self, f: &mut fmt::Formatter<W>) -> fmt::Result {
+        let (line, column) = self.0;
+        write!(
+            f,
+            "line {}, column {}",
+            line as u128 + 1,
+            column as u128 + 1
+        )
+    }
+}
+
+/// The values of a range.
+#[derive(Clone, Copy)]
+struct Values(Range);
+
+impl fmt::Display for Values {
+    ghost use Rattle.std.specs.Prelude.{Some};
+    ghost use Rattle.wat_modules.specs.Messages.{range_phrase};
+
+    ghost output = { λ v. Some (range_phrase v.0) };
+
+    fn fmt<W: fmt::Write>(&self, f: &mut fmt::Formatter<W>) -> fmt::Result {
+        match self.0 {
+            Range::Unsigned(half) => {
+                write!(f, "0 to {}", (u128::from(half) * 2).saturating_sub(1))
+            }
+            Range::Signed(half) => write!(f, "-{half} to {}", half.saturating_sub(1)),
+            Range::Float32 => write!(f, "a 32-bit float"),
+            Range::Float64 => write!(f, "a 64-bit float"),
+        }
+    }
+}
+
+/// Returns a token by its kind.
+fn kind_phrase(kind: TokenKind) -> &'static str
+    ensures { result.now ≡ messages.kind_phrase kind }
+{
+    match kind {
+        TokenKind::String => "a string",
+        TokenKind::Id => "an identifier",
+        TokenKind::Keyword => "a keyword",
+        TokenKind::Integer(_) => "an integer",
+        TokenKind::Float(_) => "a float",
+        TokenKind::Reserved => "a reserved token",
+        TokenKind::Annotation => "an annotation",
+        _ => "a token",
+    }
+}
+
+/// Returns an item of an index space.
+fn noun(space: Space) -> &'static str
+    ensures { result.now ≡ messages.noun space }
+{
+    match space {
+        Space::Type => "type",
+        Space::Func => "function",
+        Space::Table => "table",
+        Space::Memory => "memory",
+        Space::Global => "global",
+        Space::Elem => "element segment",
+        Space::Data => "data segment",
+        Space::Local => "local",
+        Space::Label => "label",
+    }
+}
+
+/// Returns an index of an index space.
+fn index_phrase(space: Space) -> &'static str
+    ensures { result.now ≡ messages.index_phrase space }
+{
+    match space {
+        Space::Type => "a type index",
+        Space::Func => "a function index",
+        Space::Table => "a table index",
+        Space::Memory => "a memory index",
+        Space::Global => "a global index",
+        Space::Elem => "an element segment index",
+        Space::Data => "a data segment index",
+        Space::Local => "a local index",
+        Space::Label => "a label index",
+    }
+}
+
+/// Returns what the grammar accepts.
+fn phrase(expected: Expected) -> &'static str
+    ensures { result.now ≡ messages.phrase expected }
+{
+    match expected {
+        Expected::Close => "`)`",
+        Expected::OpenOrClose => "`(` or `)`",
+        Expected::End => "the end of the text",
+        Expected::Field => "a module field",
+        Expected::FieldOrClose => "a module field or `)`",
+        Expected::FieldOrEnd => "a module field or the end of the text",
+        Expected::Instruction => "an instruction",
+        Expected::InstructionOrClose => "an instruction or `)`",
+        Expected::InstructionOrEnd => "an instruction or `end`",
+        Expected::Then => "`(then`",
+        Expected::Else => "`else`",
+        Expected::ElseOrClose => "`(else` or `)`",
+        Expected::Expression => "an expression",
+        Expected::ValueType => "a value type",
+        Expected::ValueTypeOrClose => "a value type or `)`",
+        Expected::ReferenceType => "a reference type",
+        Expected::HeapType => "a heap type",
+        Expected::GlobalType => "a global type",
+        Expected::Mut => "`mut`",
+        Expected::FunctionType => "`(func`",
+        Expected::Limits => "limits",
+        Expected::Index(space) => index_phrase(space),
+        Expected::Unsigned => "an unsigned integer",
+        Expected::Integer => "an integer of at most 64 bits",
+        Expected::Number => "a number",
+        Expected::LaneIndex => "a lane index",
+        Expected::Shape => "a vector shape",
+        Expected::Text => "a string",
+        Expected::ItemKind => "`func`, `table`, `memory` or `global`",
+        Expected::ExportDescription => "an export description",
+        Expected::ImportDescription => "an import description",
+        Expected::Elem => "`(elem`",
+        Expected::ElementList => "a reference type or `func`",
+    }
+}
+
+/// Returns what an unknown keyword should be, without an article.
+fn word_noun(expected: Expected) -> &'static str
+    ensures { result.now ≡ messages.word_noun expected }
+{
+    match expected {
+        Expected::Field => "module field",
+        Expected::Instruction => "instruction",
+        Expected::ValueType => "value type",
+        Expected::ReferenceType => "reference type",
+        Expected::HeapType => "heap type",
+        Expected::Shape => "vector shape",
+        _ => "keyword",
+    }
+}
