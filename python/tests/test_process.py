@@ -43,9 +43,9 @@ def test_memory_does_not_grow_over_a_million_calls():
     assert int(done.stdout) < 1024
 
 
-def test_other_threads_run_during_a_call():
-    """The text is one token, so each call of the library takes as long as `tokens`. A thread that could not run during it would pause as long."""
-    text, times, pauses = b'"' + b"\\u{1}" * 20_000_000 + b'"', [], []
+def longest_pause(text):
+    """Returns the longest pause of this thread while another calls `tokens`, as a multiple of the time of the shortest call."""
+    times, pauses = [], []
 
     def call():
         for _ in range(3):
@@ -58,7 +58,16 @@ def test_other_threads_run_during_a_call():
     while other.is_alive():
         pauses.append(time.perf_counter() - last)
         last += pauses[-1]
-    assert max(pauses) < min(times) / 2, (max(pauses), times)
+    return max(pauses) / min(times)
+
+
+def test_other_threads_run_during_a_call():
+    """The text is one token, so each call of the library takes as long as `tokens`, and a thread that could not run during it would pause as long.
+    As other processes can interrupt the thread, it is a fault only if it pauses in each of ten tries."""
+    text, pauses = b'"' + b"\\u{1}" * 20_000_000 + b'"', []
+    while len(pauses) < 10 and min(pauses, default=1) >= 0.5:
+        pauses.append(longest_pause(text))
+    assert min(pauses) < 0.5, pauses
 
 
 def test_stubs_agree_with_the_package(tmp_path):

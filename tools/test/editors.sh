@@ -31,7 +31,7 @@ session() {
     local name=$1 beyond=$2 colours=$3
     shift 3
     printf '(module ;; é %s\n( data (; %sé ;) "open)\n( func nop ) )\n' "$beyond" "$beyond" > "$room/a.wat"
-    if (cd "$room" && HOME=$room SERVER=$server timeout 60 "$@" a.wat > said 2> errors) && diff <(wanted "$name" "$beyond" "$colours") "$room/said"; then
+    if (cd "$room" && HOME=$room SERVER=$server timeout 300 "$@" a.wat > said 2> errors) && diff <(wanted "$name" "$beyond" "$colours") "$room/said"; then
         echo "editors.sh: $name: as wanted"
     else
         faults=$((faults + 1))

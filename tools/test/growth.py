@@ -1,7 +1,8 @@
 #!/usr/bin/env python3
 """Finds texts for which time or memory of `wat_tokens module` grows faster than the text. Each kind of module, those of tools/test/cost/texts.py and
 those of MORE, is compiled with 6.25, 12.5, 25 and 50 MB. A time is the user and system time of a process, a memory its largest resident size, each
-the least of three runs. It is a fault if doubling the text multiplies one of them by more than 2.6, or if a process takes more than 120 s or 12 GB.
+the least of three runs. It is a fault if doubling the text multiplies one of them by more than 2.6, or if a process takes more than 120 s or 12 GB. As
+other processes disturb the times, a kind with a fault is measured again, at most ten times, and the least of all runs count.
 
 usage: growth.py PROGRAM [KIND..]     PROGRAM is wat_tokens, without KIND all kinds
 """
@@ -20,7 +21,7 @@ from texts import MODULES, body, lines
 
 SIZES = [6_250_000, 12_500_000, 25_000_000, 50_000_000]
 MOST = 2.6
-RUNS = 3
+RUNS, TRIES = 3, 10
 # Times below it are not compared, as they vary.
 SECONDS = 0.1
 MEGABYTES = 16
@@ -72,6 +73,17 @@ def measured(program, path):
     return process.returncode, usage.ru_utime + usage.ru_stime, usage.ru_maxrss / 1024
 
 
+def rows_of(program, path, text, before):
+    """Returns a row for each size of a kind: the size, a status, a time and a memory, with the least times and memories of these runs and of the rows
+    `before`."""
+    rows = []
+    for size, earlier in itertools.zip_longest(SIZES, before):
+        path.write_text(text(size))
+        statuses, times, memories = zip(*([earlier[1:]] if earlier else []), *(measured(program, path) for _ in range(RUNS)))
+        rows.append((size, max(statuses, key=abs), min(times), min(memories)))
+    return rows
+
+
 def faults_of(name, rows):
     """Yields a line for each fault of a kind. A row has a size, a status, a time and a memory."""
     for size, status, seconds, _ in rows:
@@ -91,13 +103,14 @@ def main():
     with tempfile.TemporaryDirectory() as folder:
         path = pathlib.Path(folder) / "text.wat"
         for name in names or kinds:
-            rows = []
-            for size in SIZES:
-                path.write_text(kinds[name](size))
-                statuses, times, memories = zip(*(measured(program, path) for _ in range(RUNS)))
-                rows.append((size, max(statuses, key=abs), min(times), min(memories)))
+            rows, found = [], [name]
+            for _ in range(TRIES):
+                rows = rows_of(program, path, kinds[name], rows)
+                found = list(faults_of(name, rows))
+                if not found:
+                    break
             print(f"{name:20} " + "  ".join(f"{seconds:6.2f} s {memory:6.0f} MB" for _, _, seconds, memory in rows), flush=True)
-            for fault in faults_of(name, rows):
+            for fault in found:
                 faults += 1
                 print(fault, flush=True)
     print(f"growth.py: {len(names or kinds)} kinds of module, {faults} faults")

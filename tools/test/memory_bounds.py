@@ -22,7 +22,7 @@ import tempfile
 
 TOOLS = pathlib.Path(__file__).resolve().parents[1]
 # Time limit of a run. A correct run is much faster; a run whose time is quadratic in the length of the text takes minutes.
-SECONDS = 20
+SECONDS, TRIES = 20, 3
 # The bytes that a run may allocate in addition to those in proportion to the text: for arguments, a report and one block of output.
 BESIDE = 200_000
 # The bytes that the runtime library of the program's compiler holds until the end.
@@ -58,19 +58,26 @@ class Room:
         (self.folder / name).write_bytes(text)
 
     def run(self, words, text=b"", **variables):
-        """Runs the program on a text, and returns its status, output, report and counts. Standard input is a file, so that reads are not short. The
-        variables are those of the library."""
-        counts, given = self.folder / "counts", self.folder / "given"
+        """Runs the program on a text, and returns its status, output, report and counts. The variables are those of the library. As other processes can
+        delay a run, one that does not end in time is repeated, at most `TRIES` times."""
+        given = self.folder / "given"
         given.write_bytes(text)
+        for _ in range(TRIES):
+            try:
+                return self.run_once(words, given, variables)
+            except subprocess.TimeoutExpired:
+                pass
+        return None, b"", b"", {}
+
+    def run_once(self, words, given, variables):
+        """Runs the program on a file as standard input, so that reads are not short. Raises `TimeoutExpired` after `SECONDS`."""
+        counts = self.folder / "counts"
         with open(counts, "wb") as counted, open(given, "rb") as source:
             os.set_inheritable(counted.fileno(), True)
             inside = {"LD_PRELOAD": str(self.library), "TELL": str(counted.fileno()), "PATH": os.environ["PATH"], **variables}
-            try:
-                done = subprocess.run(
-                    [self.program, *words], stdin=source, capture_output=True, cwd=self.folder, env=inside, timeout=SECONDS, pass_fds=[counted.fileno()]
-                )
-            except subprocess.TimeoutExpired:
-                return None, b"", b"", {}
+            done = subprocess.run(
+                [self.program, *words], stdin=source, capture_output=True, cwd=self.folder, env=inside, timeout=SECONDS, pass_fds=[counted.fileno()]
+            )
         numbers = {it: int(number) for it, number in re.findall(r"(\w+)=(\d+)", counts.read_text())}
         return done.returncode, done.stdout, done.stderr, numbers
 
@@ -81,7 +88,7 @@ class Room:
         size = len(text) if size is None else size
         say = lambda what: self.faults.append(f"{name}: {what}")
         if got is None:
-            say(f"did not end within {SECONDS} s")
+            say(f"did not end within {SECONDS} s, {TRIES} times")
             return written
         if got != status or (status == 0 and reported):
             say(f"status {got}, {reported[:200]!r}")

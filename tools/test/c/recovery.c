@@ -3,12 +3,13 @@
  * compared, and exits with status 1 at the first difference. */
 #include "wat.h"
 
+#include <float.h>
 #include <stdio.h>
 #include <stdlib.h>
 #include <string.h>
 #include <time.h>
 
-enum { SHORTEST = 3 << 18, LONGEST = 4 * SHORTEST };
+enum { SHORTEST = 3 << 18, LONGEST = 4 * SHORTEST, LEAST_TRIES = 3, MOST_TRIES = 10 };
 
 static uint8_t text[LONGEST];
 static unsigned steps_seen, texts_seen;
@@ -103,37 +104,43 @@ static void build(const struct shape *shape, size_t len) {
     }
 }
 
-/* Returns the least processor time of three loops over the text, in microseconds. */
+/* Returns the processor time of a loop over the text, in microseconds. */
 static double time_of(size_t len, size_t errors) {
-    double least = 0;
-    int run;
-    for (run = 0; run < 3; run++) {
-        clock_t start = clock();
-        size_t found = errors_of(len);
-        double taken = (double)(clock() - start) * 1e6 / CLOCKS_PER_SEC;
-        if (found != errors) {
-            printf("%lu errors in place of %lu\n", (unsigned long)found, (unsigned long)errors);
-            exit(1);
-        }
-        least = run == 0 || taken < least ? taken : least;
+    clock_t start = clock();
+    size_t found = errors_of(len);
+    double taken = (double)(clock() - start) * 1e6 / CLOCKS_PER_SEC;
+    if (found != errors) {
+        printf("%lu errors in place of %lu\n", (unsigned long)found, (unsigned long)errors);
+        exit(1);
     }
-    return least;
+    return taken;
 }
 
-/* Checks the number of errors in texts of n, 2n and 4n bytes, and that the last takes less than 9 times the time of the first. */
-static void measure(const struct shape *shape) {
-    double times[3];
+/* Checks the number of errors in texts of n, 2n and 4n bytes, and keeps the least time of each length in `times`. */
+static void measure_lengths(const struct shape *shape, double times[3]) {
     size_t len = SHORTEST, i;
     for (i = 0; i < 3; i++, len *= 2) {
+        double taken;
         build(shape, len);
-        times[i] = time_of(len, len / 24 * shape->per_24 + (size_t)shape->more);
+        taken = time_of(len, len / 24 * shape->per_24 + (size_t)shape->more);
+        times[i] = taken < times[i] ? taken : times[i];
+    }
+}
+
+/* Checks that the text of 4n bytes takes less than 9 times the time of n bytes: linear time is 4 times, quadratic time 16 times as long. As
+ * other processes can slow down any loop, the least times of all tries count, and there are more tries while these exceed the bound. */
+static void measure(const struct shape *shape) {
+    double times[3] = {DBL_MAX, DBL_MAX, DBL_MAX};
+    int tries;
+    for (tries = 0; tries < LEAST_TRIES || (times[2] > 9 * times[0] && tries < MOST_TRIES); tries++) {
+        measure_lengths(shape, times);
     }
     if (times[2] > 9 * times[0]) {
-        printf("%s: %.0f, %.0f and %.0f us for n, 2n and 4n bytes\n", shape->name, times[0], times[1], times[2]);
+        printf("%s: %.0f, %.0f and %.0f us for n, 2n and 4n bytes, at best of %d tries\n", shape->name, times[0], times[1], times[2], tries);
         exit(1);
     }
     if (getenv("TIMES") != NULL) {
-        printf("%s: %.0f, %.0f and %.0f us\n", shape->name, times[0], times[1], times[2]);
+        printf("%s: %.0f, %.0f and %.0f us, at best of %d tries\n", shape->name, times[0], times[1], times[2], tries);
     }
 }
 

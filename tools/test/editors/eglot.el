@@ -10,7 +10,7 @@
 
 (defun faults-are (count)
   "Wait until the buffer has COUNT faults."
-  (with-timeout (10 (error "No %d faults" count))
+  (with-timeout (60 (error "No %d faults" count))
     (while (/= (length (flymake-diagnostics)) count)
       (accept-process-output nil 0.01)
       (flymake-start))))

@@ -15,7 +15,7 @@
 
 (defun wait-until (what holds)
   "Wait until the function HOLDS returns non-nil, or fail with an error that names WHAT."
-  (with-timeout (10 (error "No %s" what))
+  (with-timeout (60 (error "No %s" what))
     (while (not (funcall holds))
       (accept-process-output nil 0.01))))
 

@@ -4,7 +4,7 @@
 local function say(...) io.stdout:write(table.concat({ ... }, ' '), '\n') end
 
 local function faults_are(count)
-  return vim.wait(10000, function() return #vim.diagnostic.get(0) == count end, 10)
+  return vim.wait(60000, function() return #vim.diagnostic.get(0) == count end, 10)
 end
 
 local function replace(text)
@@ -38,7 +38,7 @@ local function requests_in_module(client)
   say('hover', (ask(client, 'hover', params).contents.value:gsub('\n', '|')))
   say('completion', ask(client, 'completion', params)[1].label)
   vim.lsp.buf.definition()
-  vim.wait(10000, function() return vim.api.nvim_win_get_cursor(0)[2] ~= 45 end, 10)
+  vim.wait(60000, function() return vim.api.nvim_win_get_cursor(0)[2] ~= 45 end, 10)
   say('definition', vim.api.nvim_win_get_cursor(0)[2])
 end
 
