@@ -193,7 +193,7 @@ c_library() {
     fi
     env -u MAKEFLAGS make --silent install BY='' DESTDIR="$work" PREFIX=/installed CARGO='cargo --quiet'
     c_folder "$folder" "$(sed -n 's/^Libs.private: //p' "$installed/pkgconfig/wat.pc")"
-    cp tools/test/c/identifiers.c "$made/c/"
+    cp tools/test/c/identifiers.c tools/test/c/compile.c "$made/c/"
     one_object "$folder/lib/libwat.a" "$installed/libwat.a"
     install -m 755 "$(realpath "$installed/libwat.so")" "$folder/lib/"
     strip --strip-unneeded "$folder"/lib/libwat.so.*

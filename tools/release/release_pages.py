@@ -17,7 +17,14 @@ ROOT = pathlib.Path(__file__).resolve().parents[2]
 README = "docs/releasing.md"
 PAGE = "page/README.md"
 # Patterns of the paths in the release of files that have a different path in the repository, empty for a file that the release does not have.
-MOVED = {README: "README.md", "README.md": "", PAGE: "docs/page.md", "include/wat.h": "c/*/include/wat.h", "tools/test/c/identifiers.c": "c/identifiers.c"}
+MOVED = {
+    README: "README.md",
+    "README.md": "",
+    PAGE: "docs/page.md",
+    "include/wat.h": "c/*/include/wat.h",
+    "tools/test/c/compile.c": "c/compile.c",
+    "tools/test/c/identifiers.c": "c/identifiers.c",
+}
 GUIDES = ["cli", "formatter", "compatibility", "erasure", "verification"]
 IMAGES = ["page-light.png", "page-dark.png"]
 LINK = re.compile(r"(?P<image>!?)\[(?P<text>[^]]*)\]\((?!https?:)(?P<path>[^)#\s]*)(?P<anchor>#[^)\s]+)?\)")

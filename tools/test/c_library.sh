@@ -57,6 +57,18 @@ list() {
     cat "$1.stdout"
 }
 
+# split_modules: writes the texts of tests/modules.txt, and the result that the table has for each, to the files of two folders
+split_modules() {
+    local text result count=0
+    mkdir "$room/texts" "$room/results"
+    while IFS= read -r text && IFS= read -r result; do
+        text=${text//⏎/$'\n'}
+        printf '%s' "${text//␠/ }" > "$room/texts/$count"
+        echo "${result#    }" > "$room/results/$count"
+        count=$((count + 1))
+    done < <(grep -v '^#' tests/modules.txt)
+}
+
 # compare NAME PROGRAM WANTED: checks that the program prints for each golden text what the function WANTED prints
 compare() {
     local compared=0 text
@@ -84,12 +96,25 @@ read_all() {
     said_by "$compiler -std=c99 -g -O1 -fsanitize=address,undefined -fno-sanitize-recover=all" "$name" tokens "$@"
 }
 
+# check_modules NAME COMPILER LIBRARY..: compiles, checks and formats golden texts and mutations of them, under the sanitizers
+check_modules() {
+    local name=$1 compiler=$2 said
+    shift 2
+    "$compiler" -std=c99 -g -O1 -fsanitize=address,undefined -fno-sanitize-recover=all "${strict[@]}" -o "$room/modules" tools/test/c/modules.c "$@"
+    said=$("$room/modules" check $((mutants / 50)) "$room"/texts/*) || fail "$name: $said"
+    say "$name, $compiler with sanitizers: $said"
+}
+
 # watch NAME LIBRARY..: runs the functions under valgrind: each byte that they read must be initialized and readable
 watch() {
     local name=$1 said
     shift
     "$c" -std=c99 -g -O1 "${strict[@]}" -o "$room/readers" tools/test/c/readers.c "$@"
     said=$(stored | xargs valgrind --quiet --error-exitcode=9 "$room/readers" 0 2> "$room/errors") || { cat "$room/errors"; fail "$name, valgrind: $said"; }
+    say "$name, valgrind: $said"
+    "$c" -std=c99 -g -O1 "${strict[@]}" -o "$room/modules" tools/test/c/modules.c "$@"
+    said=$(valgrind --quiet --error-exitcode=9 "$room/modules" check 0 "$room"/texts/*[05] 2> "$room/errors") \
+        || { cat "$room/errors"; fail "$name, valgrind: $said"; }
     say "$name, valgrind: $said"
 }
 
@@ -124,6 +149,66 @@ refuse() {
     say "$name: $calls calls, each of their $refused requests for memory refused, which each answers"
 }
 
+# compare_table NAME: compares the results of `modules` for the texts of tests/modules.txt with those of the table
+compare_table() {
+    local text
+    for text in "$room"/texts/*; do
+        "$room/modules" binary < "$text" | cmp - "$room/results/${text##*/}" || fail "$1: another result for $(cat "$text")"
+    done
+    say "$1: the binaries and errors of the $(find "$room/texts" -type f | wc -l) texts of tests/modules.txt"
+}
+
+# compare_program NAME TEXT..: compares binaries with a name section, printed errors and formatted texts with those of the program. For an error without
+# the source line, only the message is compared.
+compare_program() {
+    local name=$1 text status wanted
+    shift
+    for text in "$@"; do
+        status=0 wanted=0
+        "$wat_tokens" module < "$text" > "$room/wanted" 2> "$room/wanted errors" || wanted=$?
+        "$room/compile" < "$text" > "$room/output" 2> "$room/errors" || status=$?
+        if [ "$status" != "$wanted" ] || ! cmp "$room/wanted" "$room/output"; then
+            fail "$name: compile.c: another binary of $text"
+        fi
+        sed -i 's/ at byte offset .*//; t end; b; :end q' "$room/wanted errors"
+        head -c "$(stat -c %s "$room/wanted errors")" "$room/errors" | cmp - "$room/wanted errors" || fail "$name: compile.c: another error of $text"
+        "$wat_tokens" fmt < "$text" > "$room/wanted" 2> /dev/null || true
+        "$room/modules" format < "$text" > "$room/output" || true
+        cmp "$room/wanted" "$room/output" || fail "$name: another formatted text of $text"
+    done
+    say "$name, as wat_tokens: binaries, errors and formatted texts of $# texts"
+}
+
+# hold NAME: compares the memory that many calls hold at a time, and at the end, with that of few calls
+hold() {
+    local calls most held few=
+    for calls in 18 1000000; do
+        LD_PRELOAD="$room/refuse.so" TELL=9 "$room/modules" repeat "$calls" 9> "$room/counts" > /dev/null
+        # shellcheck disable=SC1091
+        . "$room/counts"
+        if [ "$held" != 0 ] || [ "$most" != "${few:=$most}" ]; then
+            fail "$1: $calls calls hold $held of $most bytes, 18 calls $few"
+        fi
+    done
+    say "$1: $calls calls of the compiler and the formatter hold at most $most bytes at a time, and none at the end"
+}
+
+# modules NAME LIBRARY..: compares what a library compiles and formats with golden results and with the program
+modules() {
+    local name=$1 golden
+    shift
+    "$c" -std=c99 -O2 "${strict[@]}" -o "$room/modules" tools/test/c/modules.c "$@"
+    "$c" -std=c99 -O2 "${strict[@]}" -o "$room/compile" tools/test/c/compile.c "$@"
+    compare_table "$name"
+    hold "$name"
+    if [ -n "$wat_tokens" ]; then
+        mapfile -t golden < <(stored)
+        compare_program "$name" "$room"/texts/* "${golden[@]}"
+    else
+        say "$name: the comparison with wat_tokens is left out, as cargo does not build it here"
+    fi
+}
+
 # said_by COMPILER NAME PROGRAM LIBRARY..: runs a program of tools/test/c over a library, built by a compiler with its options, and prints its output
 said_by() {
     local compiler name=$2 program=$3 said
@@ -134,29 +219,40 @@ said_by() {
     say "$name, ${compiler[*]}: $said"
 }
 
-# extract_example: writes the example program of the header, and the output that the header states, to files
-extract_example() {
-    sed -n '/^ \* Example/,/^ \* Output/{/^ \* [^ ]/!s/^ \*\( \{5\}\)\{0,1\}//p;}' include/wat.h > "$room/example.c"
-    sed -n '/^ \* Output/,/^ \* [^ ]/s/^ \* \{5\}//p' include/wat.h > "$room/example.wanted"
-    if [ ! -s "$room/example.c" ] || [ ! -s "$room/example.wanted" ]; then
-        fail 'the header has no example with its output'
-    fi
-    cp "$room/example.c" "$room/example.cc"
+# extract_examples: writes the example programs of the header, and the outputs that the header states, to numbered files
+extract_examples() {
+    local number
+    mkdir "$room/examples"
+    awk -v folder="$room/examples" '
+        /^ \* Example/ { number++; kind = "c"; next }
+        /^ \* Output/ { kind = "wanted"; next }
+        /^ \* [^ ]/ { if (kind == "wanted") kind = ""; next }
+        kind == "wanted" && NF == 1 { next }
+        kind { sub(/^ \*(     )?/, ""); print > (folder "/" number "." kind) }
+        END { print number > (folder "/count") }' include/wat.h
+    examples=$(cat "$room/examples/count")
+    for ((number = 1; number <= examples; number++)); do
+        if [ ! -s "$room/examples/$number.c" ] || [ ! -s "$room/examples/$number.wanted" ]; then
+            fail "example $number of the header has no program or no output"
+        fi
+        cp "$room/examples/$number.c" "$room/examples/$number.cc"
+    done
+    [ "$examples" = 2 ] || fail "the header has $examples examples"
 }
 
-# run_example NAME LIBRARY..: compiles the example of the header as C11 and as C++17, and compares what it prints with what the header states
+# run_example NAME NUMBER LIBRARY..: compiles an example of the header as C11 and as C++17, and compares what it prints with what the header states
 run_example() {
-    local name=$1 compiler
-    shift
+    local name=$1 example=$room/examples/$2 compiler
+    shift 2
     for compiler in "${compilers[@]}"; do
-        "$compiler" -std=c11 "${strict[@]}" -o "$room/example" "$room/example.c" "$@"
-        "$room/example" | diff "$room/example.wanted" - || fail "$name, $compiler: the example of the header prints something else"
+        "$compiler" -std=c11 "${strict[@]}" -o "$room/example" "$example.c" "$@"
+        "$room/example" | diff "$example.wanted" - || fail "$name, $compiler: an example of the header prints something else"
     done
     if has "$cpp"; then
-        "$cpp" -std=c++17 "${strict[@]}" -o "$room/example" "$room/example.cc" "$@"
-        "$room/example" | diff "$room/example.wanted" - || fail "$name, $cpp: the example of the header prints something else"
+        "$cpp" -std=c++17 "${strict[@]}" -o "$room/example" "$example.cc" "$@"
+        "$room/example" | diff "$example.wanted" - || fail "$name, $cpp: an example of the header prints something else"
     fi
-    say "$name: the example of the header prints the $(wc -l < "$room/example.wanted") lines that the header states"
+    say "$name: an example of the header prints the $(wc -l < "$example.wanted") lines that the header states"
 }
 
 # compare_bits NAME LIBRARY..: compares the bits of floats with those of `strtof` and `strtod`
@@ -171,10 +267,12 @@ compare_bits() {
 
 # suite NAME LIBRARY..: runs all tests of tools/test/c over a library
 suite() {
-    local name=$1 compiler level
+    local name=$1 compiler level number
     shift
     libraries+=("$name")
-    run_example "$name" "$@"
+    for ((number = 1; number <= examples; number++)); do
+        run_example "$name" "$number" "$@"
+    done
     for compiler in "${compilers[@]}"; do
         for level in -O0 -O2; do
             said_by "$compiler -std=c99 $level" "$name" answers "$@"
@@ -183,6 +281,7 @@ suite() {
         said_by "$compiler -std=c99 -O2" "$name" recovery "$@"
         if sanitizes "$compiler"; then
             read_all "$name" "$compiler" "$@"
+            check_modules "$name" "$compiler" "$@"
         else
             say "$name: the functions on mutants are left out, as $compiler has no sanitizers here"
         fi
@@ -192,6 +291,7 @@ suite() {
     "$c" -std=c99 -O2 "${strict[@]}" -o "$room/identifiers" tools/test/c/identifiers.c "$@"
     compare "$name: identifiers.c" "$room/identifiers" identifiers
     compare_bits "$name" "$@"
+    modules "$name" "$@"
     refuse "$name" "$@"
     if has valgrind; then
         watch "$name" "$@"
@@ -247,8 +347,17 @@ by_cargo_with_sanitizer() {
     for compiler in "${compilers[@]}"; do
         if sanitizes "$compiler"; then
             read_all 'cargo, with the address sanitizer' "$compiler" "$room/checked/$target/release/libwat_c.a" "${private[@]}"
+            check_modules 'cargo, with the address sanitizer' "$compiler" "$room/checked/$target/release/libwat_c.a" "${private[@]}"
         fi
     done
+}
+
+# program: builds the program with cargo, which compiles and formats texts too
+program() {
+    local options
+    mapfile -t options < "$room/options"
+    (cd rust && CARGO_TARGET_DIR=$room/target cargo --quiet "${options[@]}" build --locked --release --package wat-tokens)
+    wat_tokens=$room/target/release/wat_tokens
 }
 
 # floats: compares floats as wat-parser and as C read them
@@ -262,7 +371,7 @@ floats() {
 }
 
 tools/lint/compare_declarations.py
-compilers=() libraries=()
+compilers=() libraries=() wat_tokens=
 for compiler in "${CC:-cc}" gcc clang; do
     # Keeps each compiler once, even if it has several names.
     found=$(realpath "$(command -v "$compiler")" 2> /dev/null) || continue
@@ -275,7 +384,8 @@ fi
 c=${compilers[0]}
 printf '#include "wat.h"\n' > "$room/alone.c"
 "$c" -std=c99 "${strict[@]}" -c -o "$room/alone.o" "$room/alone.c"
-extract_example
+extract_examples
+split_modules
 has "$cpp" || say "the header as C++ is left out, as no C++ compiler $cpp is here"
 "$c" -O1 -fPIC -shared -nostdlib -o "$room/refuse.so" tools/lib/fail_allocations.c
 
@@ -284,6 +394,7 @@ if ! has cargo || ! has make; then
 elif ! with_crates > "$room/options"; then
     say 'the library by cargo is left out, as CRATES_FOLDER names no folder and no registry is at hand'
 else
+    program
     by_cargo
     by_cargo_with_sanitizer
     floats

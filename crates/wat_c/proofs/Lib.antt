@@ -1,9 +1,12 @@
 mod Answering
 mod Bits
+mod Checks
 mod CommentLaws
+mod Compilation
 mod FloatBytes
 mod FloatRanges
 mod FloatSplits
+mod FormattedTexts
 mod IntegerRows
 mod Joined
 mod MessageBytes

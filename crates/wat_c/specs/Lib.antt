@@ -1,9 +1,11 @@
 pub mod Answers
 pub mod ByRow
 pub mod CommentPlaces
+pub mod Compiling
 pub mod FaultMessages
 pub mod FloatBits
 pub mod FloatSpans
+pub mod Formatting
 pub mod Numbers
 pub mod Printing
 pub mod Readings

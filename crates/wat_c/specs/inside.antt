@@ -1,1 +1,2 @@
+pub mod CompilerErrors
 pub mod SplitFloats

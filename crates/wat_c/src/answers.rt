@@ -1,8 +1,9 @@
-//! Results of readers, and their copies into a buffer of the caller. The fields of `Answer` are
-//! private, so that only this module constructs it, and so that it reports an allocation failure
-//! only if there was an `AllocError`.
+//! Results of readers, and their copies into a buffer of the caller. The fields of `Answer` and of
+//! `Checked` are private, so that only this module constructs them, and so that they report an
+//! allocation failure only if there was an `AllocError`.
 ghost use Rattle.std.specs.Prelude.{◌≡◌, length, Ok, Err};
 ghost use Rattle.wat_c.specs.Answers.{answer_of, left_of, put, status_of};
+ghost use Rattle.wat_c.specs.Compiling.{checked_of};
 
 use std::alloc::AllocError;
 use wat_c_records::rows::fault_code;
@@ -16,9 +17,54 @@ pub struct Answer {
     /// written. It is 0 if `status` is not 0.
     needed: usize,
     /// 0 if there is a result, even if the buffer is too small. Otherwise 1 if the token or error
-    /// to read is not there, 2 after an allocation failure, 3 if the number lacks the part or the
-    /// name is valid, or the code of the error in a name.
+    /// to read is not there, the text is not a module, or the formatted text is too long, 2 after
+    /// an allocation failure, 3 if the number lacks the part or the name is valid, or the code of a
+    /// lexical error or of the error in a name.
     status: u32,
+}
+
+/// Result of `wat_check`: the error of a text, and the status of its message.
+#[repr(C)]
+#[derive(Clone, Copy, Debug, PartialEq)]
+pub struct Checked {
+    /// Byte offset of the error. It is 0 if `status` is not 0.
+    offset: usize,
+    /// Length in bytes of the token at `offset`. It is 0 if no token begins there, and for a
+    /// lexical error.
+    len: usize,
+    /// Length of the message in bytes. If it is greater than the length of the buffer, nothing was
+    /// written. It is 0 if `status` is not 0.
+    needed: usize,
+    /// 0 if the text has an error, even if the buffer is too small. Otherwise 3 if it has none, or
+    /// 2 after an allocation failure.
+    status: u32,
+}
+
+impl Checked {
+    /// Returns the result for an error at `offset` of `len` bytes, whose message was written with
+    /// the result `message`.
+    pub(crate) fn at(offset: usize, len: usize, message: Answer) -> Checked
+        ensures { result ≡ record {
+          offset = offset;
+          len = len;
+          needed = message.needed;
+          status = message.status;
+        } }
+    {
+        Checked {
+            offset,
+            len,
+            needed: message.needed,
+            status: message.status,
+        }
+    }
+
+    /// Returns the result without an error, for this reason.
+    pub(crate) fn without(reason: Refusal) -> Checked
+        ensures { result ≡ checked_of (Err reason) }
+    {
+        Checked::at(0, 0, reason.answer())
+    }
 }
 
 impl Answer {
@@ -33,13 +79,14 @@ impl Answer {
 /// Reason why a reader has no result.
 #[derive(Clone, Copy, Debug, PartialEq)]
 pub enum Refusal {
-    /// The token or the error to read is not there.
+    /// The token or the error to read is not there, the text is not a module, or the formatted text
+    /// is too long.
     Other,
     /// An allocation failure.
     Memory(AllocError),
-    /// The number lacks the part, or the name is valid.
+    /// The number lacks the part, or the name or the text is valid.
     Absent,
-    /// The name is invalid.
+    /// The name is invalid, or the text has a lexical error.
     Fault(LexError),
 }
 

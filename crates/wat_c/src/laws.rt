@@ -1,6 +1,6 @@
 //! Theorems about the results of the readers. The functions have no effect; the contract of each is
 //! a theorem.
-ghost use Rattle.std.specs.Prelude.{ℕ, List};
+ghost use Rattle.std.specs.Prelude.{ℕ, Bool, List};
 ghost use Rattle.std.specs.Float.Ieee.{Format};
 ghost use Rattle.wat_lex.specs.tokens.Setting.{Setting};
 ghost use Rattle.wat_lex.specs.declared.lexer.kinds.Token.{Token};
@@ -8,9 +8,11 @@ ghost use Rattle.wat_c_records.specs.declared.counting.Row.{Row};
 ghost use Rattle.wat_c.specs.Answers.{OneAnswer};
 ghost use Rattle.wat_c.specs.ByRow.{FindsOf};
 ghost use Rattle.wat_c.specs.CommentPlaces.{CommentsAreOne, CommentsAreParsers};
+ghost use Rattle.wat_c.specs.Compiling.{Compiles, OneCheck};
 ghost use Rattle.wat_c.specs.FaultMessages.{FaultsAreKnown};
 ghost use Rattle.wat_c.specs.FloatBits.{FindsBits, OneBits, TellsBits};
 ghost use Rattle.wat_c.specs.FloatSpans.{OneParts};
+ghost use Rattle.wat_c.specs.Formatting.{Formats};
 ghost use Rattle.wat_c.specs.Printing.{Prints};
 ghost use Rattle.wat_c.specs.Readings.{
   Finds,
@@ -107,3 +109,32 @@ pub fn one_print()
     ensures { (text message file : List ℕ) (offset : ℕ) (old : List ℕ) →
         OneAnswer (Prints text offset message file) old }
 {}
+
+/// Theorem: the binary of a text is unique, unless an allocation fails: the status, the length and
+/// the contents of the buffer.
+pub fn one_binary()
+    ensures { (has_names : Bool) (text : List ℕ) (old : List ℕ) →
+        OneAnswer (Compiles has_names text) old }
+{
+    wat_lex::laws::one_tiling();
+    wat_lexer_parser::laws::all_shown();
+}
+
+/// Theorem: the error of a text is unique, unless an allocation fails: its offset, its length, its
+/// message and the contents of the buffer.
+pub fn one_check()
+    ensures { (has_names : Bool) (text : List ℕ) (old : List ℕ) → OneCheck has_names text old }
+{
+    wat_lex::laws::one_answer();
+    wat_lex::laws::one_tiling();
+    wat_lexer_parser::laws::all_shown();
+}
+
+/// Theorem: the formatted text of a text is unique, unless an allocation fails: the status, the
+/// length and the contents of the buffer.
+pub fn one_formatted()
+    ensures { (s : Setting) (old : List ℕ) → OneAnswer (Formats s) old }
+{
+    wat_format::laws::one_answer();
+    wat_lex::laws::one_tiling();
+}

@@ -1,4 +1,5 @@
-//! Lexer of the WebAssembly text format as a static library for programs in C and Rust.
+//! Lexer, compiler and formatter of the WebAssembly text format as a static library for programs in
+//! C and Rust.
 //! `include/wat.h` documents the preconditions and the results of each function for C.
 #![tactic(auto)]
 
@@ -27,8 +28,10 @@ pub mod answers;
 mod by_place;
 pub mod by_row;
 pub mod comments;
+pub mod compiling;
 pub mod float_bits;
 pub mod float_parts;
+pub mod formatting;
 mod laws;
 pub mod looks;
 pub mod messages;

@@ -1,5 +1,5 @@
-//! The functions of `include/wat.h`, for C and C++: a lexer of the WebAssembly text format, readers of the values of tokens, and peeks at the
-//! tokens that are visible to a parser.
+//! The functions of `include/wat.h`, for C and C++: a lexer of the WebAssembly text format, readers of the values of tokens, peeks at the tokens that
+//! are visible to a parser, a compiler of modules, and a formatter.
 //!
 //! Both modules are generated from verified sources by `tools/erase`. The header documents the preconditions for callers in C. The `requires` clauses
 //! of each function state the same preconditions for the slices that it builds from its arguments.

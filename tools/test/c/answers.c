@@ -359,6 +359,57 @@ static void messages(void) {
     expect(wat_version() == WAT_VERSION, "wat_version", WAT_VERSION_TEXT);
 }
 
+static struct wat_checked checked(const char *text) {
+    uint8_t out[CAPACITY] = {0};
+    return wat_check(bytes_of(text), strlen(text), true, out, CAPACITY);
+}
+
+/* Checks binaries, and the offset and the length of errors. tools/test/c_library.sh compares the messages with those of tests/modules.txt. */
+static void modules(void) {
+    static const uint8_t binary[] = "\0asm\1\0\0\0\0\011\004name\0\002\001m";
+    static const char named[] = "(module $m)";
+    static const struct {
+        const char *text;
+        size_t offset, len;
+    } errors[] = {{"(module (func frob))", 14, 4}, {"(module", 7, 0}, {"(module \"\\q\")", 10, 0}, {"(module) $\"x\"", 9, 4}, {"(module (@a", 9, 2}};
+    uint8_t out[CAPACITY] = {0};
+    struct wat_answer given = wat_compile(bytes_of(named), 11, true, out, CAPACITY);
+    size_t i;
+    expect(given.status == WAT_GIVEN && given.needed == 19 && memcmp(out, binary, 19) == 0, "wat_compile", named);
+    out[8] = '#';
+    given = wat_compile(bytes_of(named), 11, false, out, CAPACITY);
+    expect(given.status == WAT_GIVEN && given.needed == 8 && memcmp(out, binary, 8) == 0 && out[8] == '#', "wat_compile", named);
+    expect(checked(named).status == WAT_ABSENT && checked("").status == WAT_ABSENT, "wat_check", named);
+    expect(checked("(module) ;; \xe2\x80\xae").status == WAT_ABSENT, "wat_check", "U+202E");
+    for (i = 0; i < sizeof errors / sizeof *errors; i++) {
+        const char *text = errors[i].text;
+        struct wat_checked error = checked(text);
+        given = wat_compile(bytes_of(text), strlen(text), true, out, CAPACITY);
+        expect(given.status == WAT_OTHER && given.needed == 0, "wat_compile", text);
+        expect(error.status == WAT_GIVEN && error.offset == errors[i].offset && error.len == errors[i].len, "wat_check", text);
+    }
+}
+
+/* Checks that a text has this formatted text, or this lexical error if `wanted` is null. */
+static void formats(const char *text, bool allow, bool strict, const char *wanted, uint32_t status) {
+    uint8_t out[CAPACITY] = {0};
+    size_t len = wanted == NULL ? 0 : strlen(wanted);
+    struct wat_answer given = wat_format(bytes_of(text), strlen(text), allow, strict, out, CAPACITY);
+    expect(given.status == status && given.needed == len, "wat_format", text);
+    expect(wanted == NULL || memcmp(out, wanted, len) == 0, "wat_format", text);
+}
+
+static void formatted(void) {
+    formats("( module\n(func $f ;; a\n) )", false, false, "(module\n  (func $f ;; a\n  ))\n", WAT_GIVEN);
+    formats("", false, false, "", WAT_GIVEN);
+    formats(") x", false, false, ") x\n", WAT_GIVEN);
+    formats("a \"\\q\"", false, false, NULL, WAT_INVALID_STRING_ESCAPE);
+    formats(";; \xe2\x80\xae", false, false, NULL, WAT_CONFUSING_UNICODE);
+    formats(";; \xe2\x80\xae", true, false, ";; \xe2\x80\xae\n", WAT_GIVEN);
+    formats("\"\\u{6__1}\"", false, true, NULL, WAT_LONE_UNDERSCORE);
+    formats("\"\\u{6__1}\"", false, false, "\"\\u{6__1}\"\n", WAT_GIVEN);
+}
+
 /* Checks that each kind and each error has its name, and that no other number has one. */
 static void names(void) {
     static const char *const kinds[UINT8_MAX + 1] = {
@@ -403,6 +454,8 @@ int main(void) {
     bits();
     parts();
     messages();
+    modules();
+    formatted();
     names();
     types();
     printf("answers: %u results compared, %u wrong\n", compared, wrong);

@@ -15,7 +15,9 @@ int main() {
     const wat_look look = wat_shown(text, sizeof text, rows, filled.count, filled.why, 0, text, 0, &position.line, 0);
     uint8_t out[8] = {};
     const wat_answer digits = wat_digits_of(text, sizeof text, &rows[1], out, sizeof out);
+    const wat_checked error = wat_check(text, sizeof text, false, out, sizeof out);
     const bool is_right = filled.count == 2 && found.token.len == 2 && kind.code == WAT_ID && name.start == 1 && name.len == 1
-        && comment.status == WAT_ABSENT && number.value == 1 && position.column == 3 && look.row == 0 && digits.needed == 1;
+        && comment.status == WAT_ABSENT && number.value == 1 && position.column == 3 && look.row == 0 && digits.needed == 1
+        && error.offset == 0 && error.len == 2;
     return is_right ? 0 : 1;
 }

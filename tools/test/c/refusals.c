@@ -55,6 +55,14 @@ static const struct call calls[] = {
     {"wat_float_parts", "-1_0.5e+7", false},
     {"wat_word", "$\"a b\"", false},
     {"wat_comment", " ;;a", false},
+    {"wat_compile", "(module $m (func (export \"a\") (param $x i32) (local.get $x)))", true},
+    {"wat_compile", "(module (func $f (call $g)))", true},
+    {"wat_check", "(module (func $f (call $g)))", true},
+    {"wat_check", "(module (@a", true},
+    {"wat_check", "(module \"\\q\")", true},
+    {"wat_check", "(module (memory 1) (data \"a\\62\"))", true},
+    {"wat_format", "(module (func $f (call $g)))", true},
+    {"wat_format", "(module \"\\q\")", true},
 };
 
 static bool is_call(const char *function, const char *name) {
@@ -156,12 +164,31 @@ static struct wat_answer print(const char *f, const uint8_t *text, size_t len, u
     return wat_print(text, len, 0, (const uint8_t *)"expected a keyword", 18, (const uint8_t *)file, strlen(file), out, CAPACITY);
 }
 
+/* Returns the result of the compiler or the formatter. With an error of `wat_check`, its offset is added to the length of its message. */
+static struct wat_answer read_module(const char *f, const uint8_t *text, size_t len, uint8_t *out) {
+    struct wat_answer answer;
+    struct wat_checked error;
+    if (is_call(f, "wat_compile")) {
+        return wat_compile(text, len, true, out, CAPACITY);
+    }
+    if (is_call(f, "wat_format")) {
+        return wat_format(text, len, false, false, out, CAPACITY);
+    }
+    error = wat_check(text, len, true, out, CAPACITY);
+    answer.needed = error.needed + error.offset + error.len;
+    answer.status = error.status;
+    return answer;
+}
+
 static struct wat_answer make(const struct call *call, uint8_t *out) {
     const char *f = call->function;
     const uint8_t *text = (const uint8_t *)call->text;
     size_t len = strlen(call->text);
     struct wat_row rows[8];
     struct wat_filled filled = rows_of(text, len, rows, 8);
+    if (is_call(f, "wat_compile") || is_call(f, "wat_check") || is_call(f, "wat_format")) {
+        return read_module(f, text, len, out);
+    }
     if (is_call(f, "wat_shown") || is_call(f, "wat_integer_of") || is_call(f, "wat_word") || is_call(f, "wat_comment")) {
         return without_buffer(f, text, len, rows, filled);
     }

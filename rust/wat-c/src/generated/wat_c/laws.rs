@@ -118,3 +118,44 @@ pub fn comments_are_parsers() {
 /// OneAnswer (Prints text offset message file) old }
 /// ```
 pub fn one_print() {}
+
+/// Theorem: the binary of a text is unique, unless an allocation fails: the status, the length and
+/// the contents of the buffer.
+///
+/// # Proved
+///
+/// ```text
+/// ensures { (has_names : Bool) (text : List ℕ) (old : List ℕ) →
+/// OneAnswer (Compiles has_names text) old }
+/// ```
+pub fn one_binary() {
+    wat_lex::proved::laws::one_tiling();
+    wat_parser::proved::laws::all_shown();
+}
+
+/// Theorem: the error of a text is unique, unless an allocation fails: its offset, its length, its
+/// message and the contents of the buffer.
+///
+/// # Proved
+///
+/// ```text
+/// ensures { (has_names : Bool) (text : List ℕ) (old : List ℕ) → OneCheck has_names text old }
+/// ```
+pub fn one_check() {
+    wat_lex::proved::laws::one_answer();
+    wat_lex::proved::laws::one_tiling();
+    wat_parser::proved::laws::all_shown();
+}
+
+/// Theorem: the formatted text of a text is unique, unless an allocation fails: the status, the
+/// length and the contents of the buffer.
+///
+/// # Proved
+///
+/// ```text
+/// ensures { (s : Setting) (old : List ℕ) → OneAnswer (Formats s) old }
+/// ```
+pub fn one_formatted() {
+    wat_format::proved::laws::one_answer();
+    wat_lex::proved::laws::one_tiling();
+}
