@@ -235,7 +235,7 @@ take_proofs() {
 rattle_libraries() {
     [ "${BY:-}" = rattle ] || { skip "archives by Rattle's compilers" 'BY=rattle was not given' && return; }
     has rt || { skip "archives by Rattle's compilers" 'no rt' && return; }
-    take_proofs wat_lex wat_words wat_lexer_parser wat_c_records wat_c
+    take_proofs wat_{lex,words,floats,lexer_parser,modules,tokens_io,format,c_records,c} wat_module_{tokens,lexer,ast,instructions,parser,encoder}
     by_rattle rattle-x86_64-v2-linux x86_64-unknown-linux-gnu x86-64-v2 '' heap processor
     check_answers 'C, by Rattle for x86-64-v2' "$made/c/rattle-x86_64-v2-linux/lib/libwat.a"
     if has aarch64-linux-gnu-gcc; then
