@@ -1,5 +1,5 @@
 #!/usr/bin/env python3
-"""Lexes many WebAssembly texts with Dask's distributed scheduler, and writes a table with a row for each text.
+"""Compiles many WebAssembly texts with Dask's distributed scheduler, and writes a table with a row for each text.
 
 usage: scale.py [--out FILE] [--workers N | --scheduler ADDRESS] [--batch N] [--most-bytes N] [--memory N] SOURCE
 
@@ -13,16 +13,17 @@ runs on workers of this machine. Workers on other machines need the package wat_
   --most-bytes N       a text of more bytes is not read; default: 67,108,864
   --memory N           a worker allocates at most this many bytes more than at its start; default: 1,073,741,824
 
-A row has the URL, the number of bytes, and the outcome: `ok`, `lexical error`, `not UTF-8`, `too long`, `memory` (an allocation failed), `unreadable`, or
-`worker died` (each of several workers that read it). Then come the kind of the error, its message, offset, line and column, the number of tokens and of
-significant tokens, and the frequency of each keyword before the error. The rows have the order of the URLs, and do not depend on the workers. A task
-whose worker dies is run by another one.
+A row has the URL, the number of bytes, and the outcome: `ok`, `lexical error`, `syntax error`, `not UTF-8`, `too long`, `memory` (an allocation
+failed), `unreadable`, or `worker died` (each of several workers that read it). Then come the kind of the error, its message, offset, line and column,
+the number of bytes of the binary, of tokens and of significant tokens, and the frequency of each keyword before the lexical error. The rows have the
+order of the URLs, and do not depend on the workers. A task whose worker dies is run by another one.
 """
 import argparse
 import collections
 import contextlib
 import csv
 import pathlib
+import re
 import resource
 import sys
 import urllib.request
@@ -30,7 +31,9 @@ import urllib.request
 import wat_lex
 from distributed import Client, KilledWorker, LocalCluster, WorkerPlugin
 
-COLUMNS = ["url", "bytes", "outcome", "error", "message", "offset", "line", "column", "tokens", "significant", "keywords"]
+COLUMNS = ["url", "bytes", "outcome", "error", "message", "offset", "line", "column", "binary", "tokens", "significant", "keywords"]
+# The settings of the compiler.
+SETTINGS = {"allow_confusing": True, "strict_underscores": True}
 SECONDS = 60
 
 
@@ -63,14 +66,28 @@ def keywords_of(text, rows):
     return " ".join(f"{word}:{count}" for word, count in sorted(counts.items(), key=lambda item: (-item[1], item[0])))
 
 
-def lexed(text):
+def columns_of(text):
     """Returns the columns of a text from `outcome` on."""
     try:
-        rows, row = wat_lex.tokens(text), {"outcome": "ok"}
+        rows, row = wat_lex.tokens(text, **SETTINGS), compiled(text)
     except wat_lex.LexError as error:
-        rows, row = wat_lex.tokens(text, partial=True), error_row("lexical error", error.fault.name, error)
+        rows, row = wat_lex.tokens(text, partial=True, **SETTINGS), error_row("lexical error", error.fault.name, error)
     significant = rows[rows["kind"] > wat_lex.Kind.WHITESPACE]
     return row | {"tokens": len(rows), "significant": len(significant), "keywords": keywords_of(text, significant)}
+
+
+def compiled(text):
+    """Returns the outcome of the compiler for a text without a lexical error, with the size of the binary or the error."""
+    try:
+        return {"outcome": "ok", "binary": len(wat_lex.compile(text))}
+    except wat_lex.CompileError as error:
+        return error_row("syntax error", kind_of(error.message), error)
+
+
+def kind_of(message):
+    """Returns the kind of a syntax error: its message without what was found, for example `unknown function`."""
+    kind = re.split("[,:] ", message)[0]
+    return kind if kind.startswith("expected") else kind.split(" `")[0]
 
 
 def error_row(outcome, kind, error):
@@ -85,7 +102,7 @@ def row_of(url, most_bytes):
         with urllib.request.urlopen(url, timeout=SECONDS) as source:
             text = source.read(most_bytes + 1)
         row["bytes"] = min(len(text), most_bytes)
-        return row | (lexed(text) if len(text) <= most_bytes else {"outcome": "too long"})
+        return row | (columns_of(text) if len(text) <= most_bytes else {"outcome": "too long"})
     except UnicodeDecodeError as error:
         return row | {"outcome": "not UTF-8", "error": error.reason, "offset": error.start}
     except MemoryError:

@@ -23,6 +23,7 @@ TEXTS = {
     "d.wat": (b"(" * (MOST_BYTES - 1), ("memory", "", "", "")),
     "e.wat": (b" " * (MOST_BYTES + 1), ("too long", "", "", "")),
     "f.wat": (b"", ("ok", "", "", "0")),
+    "g.wat": (b"(module (func frob))", ("syntax error", "unknown instruction", "14", "9")),
 }
 
 
@@ -97,14 +98,24 @@ def test_each_outcome_on_one_machine_and_by_the_address_of_a_scheduler(texts, se
     assert [(row["outcome"], row["error"]) for row in rows[len(TEXTS) :]] == [
         ("ok", ""), ("unreadable", "HTTPError"), ("unreadable", "URLError"), ("unreadable", "URLError"), ("unreadable", "ValueError"),
     ]  # fmt: skip
-    assert rows[0]["keywords"] == "func:1 module:1" and (rows[1]["line"], rows[1]["column"]) == ("2", "2")
+    assert rows[0]["keywords"] == "func:1 module:1" and int(rows[0]["binary"]) > 8 and (rows[1]["line"], rows[1]["column"]) == ("2", "2")
+
+
+@pytest.mark.parametrize("message, kind", [
+    ("duplicate type `$\"a, b\"`, first defined at line 1, column 15", "duplicate type"),
+    ("expected a module field or `)`, found `frob`", "expected a module field or `)`"),
+    ("number out of range: expected 0 to 255, found `256`", "number out of range"),
+    ("unknown function `$f`", "unknown function"),
+])  # fmt: skip
+def test_kinds_of_syntax_errors(message, kind):
+    assert scale.kind_of(message) == kind
 
 
 def test_a_killed_worker_loses_nothing(server, cluster):
     urls = [f"{server}/many/{number}.txt" for number in range(400)]
     with Client(cluster) as client:
         wanted = list(scale.table(client, urls, 5, MOST_BYTES))
-        assert len({row["outcome"] for row in wanted}) == 2 and len(wanted) == len(urls)
+        assert len({row["outcome"] for row in wanted}) == 3 and len(wanted) == len(urls)
         workers = client.run(os.getpid)
         rows, found = scale.table(client, urls[::-1], 5, MOST_BYTES), []
         found += [next(rows) for _ in range(len(urls) // 2)]

@@ -2,6 +2,7 @@
 import os
 import pathlib
 import random
+import re
 
 import pytest
 
@@ -28,6 +29,24 @@ def golden():
     paths = sorted(path for path in AGREEMENT.iterdir() if path.suffix not in (".stdout", ".args"))
     tests = [Golden(path) for path in paths]
     return [test for test in tests if set(test.words) <= OPTIONS.keys()]
+
+
+SIGNS = {"⏎": "\n", "␍": "\r", "␉": "\t", "␟": "\x1f", "␡": "\x7f", "␠": " "}
+
+
+def decoded(line):
+    """Returns a text of a table, whose notation tests/README.md describes."""
+    line = re.sub(r"‹(\d+)×([^›]*)›", lambda match: match[2] * int(match[1]), line)
+    line = re.sub(r"‹([0-9a-f]+)›", lambda match: chr(int(match[1], 16)), line)
+    return "".join(SIGNS.get(sign, sign) for sign in line)
+
+
+def golden_pairs(name):
+    """Returns the texts of a table, each with its expected result."""
+    lines = (TOP / "tests" / name).read_text(encoding="utf-8").removesuffix("\n").split("\n")
+    lines = [line for line in lines if not line.startswith("#")]
+    pairs = [(text, wanted) for text, wanted in zip(lines, lines[1:]) if wanted.startswith("    ") and not text.startswith("    ")]
+    return [(decoded(text), "" if wanted == "    nothing" else decoded(wanted[4:])) for text, wanted in pairs]
 
 
 def is_text(data):
@@ -62,6 +81,14 @@ def mutants(golden_tests):
     texts = [test.text.decode("utf-8") for test in golden_tests if is_text(test.text) and len(test.text) < 3000]
     rng = random.Random(73)
     return [mutant(rng, rng.choice(texts), rng.choice(texts)) for _ in range(int(os.environ.get("WAT_MUTANTS", "20000")))]
+
+
+@pytest.fixture(scope="session")
+def modules(mutants):
+    """Returns golden modules, and mutants of them, half as many as of the golden texts."""
+    texts = [text for text, _ in golden_pairs("modules.txt")]
+    rng = random.Random(74)
+    return texts + [mutant(rng, rng.choice(texts), rng.choice(texts)) for _ in range(len(mutants) // 2)]
 
 
 @pytest.fixture(scope="session")

@@ -10,7 +10,7 @@ import time
 import pytest
 import wat_lex
 
-# Makes 1,000,000 calls, and prints by how many kilobytes the peak of the process's memory grows after the first 80,000.
+# Makes 1,000,000 calls, and prints by how many kilobytes the peak of the process's memory grows after the first 140,000.
 CALLS = """
 import resource, wat_lex
 
@@ -27,6 +27,7 @@ def calls():
     wat_lex.tokens(TEXT), wat_lex.tokens(DATA), wat_lex.significant(DATA), wat_lex.line_col(TEXT, [0, 9])
     rejected(wat_lex.tokens, WRONG), rejected(wat_lex.significant, WRONG), rejected(wat_lex.tokens, b"\\xff")
     [error.excerpt for error in wat_lex.errors(WRONG)]
+    wat_lex.compile(DATA), wat_lex.format(TEXT), wat_lex.check(DATA), wat_lex.check(WRONG), rejected(wat_lex.compile, "(a)"), rejected(wat_lex.format, WRONG)
 
 def peak(times):
     for _ in range(times):
@@ -34,7 +35,7 @@ def peak(times):
     return resource.getrusage(resource.RUSAGE_SELF).ru_maxrss
 
 first = peak(10_000)
-print(peak(115_000) - first)
+print(peak(75_000) - first)
 """
 
 

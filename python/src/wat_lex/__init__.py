@@ -1,8 +1,8 @@
-"""A verified lexer of the WebAssembly text format, with tokens as NumPy arrays.
+"""A verified lexer, compiler and formatter of the WebAssembly text format, with tokens as NumPy arrays.
 
 A text is `str` or `bytes`; all offsets and lengths are in bytes of its UTF-8 encoding. `bytes` that are not UTF-8 raise `UnicodeDecodeError`, a text
-of more than 4,294,967,295 bytes raises `ValueError`, and a failed allocation raises `MemoryError`. The functions keep no state, and release the global
-interpreter lock while the library reads a text, so that threads run in parallel.
+of more than 4,294,967,295 bytes raises `ValueError`, and a failed allocation raises `MemoryError`. The functions keep no state, and release the
+global interpreter lock while the library reads a text, so that threads run in parallel.
 
 `allow_confusing` accepts, in comments and strings, nine characters that change the direction or the shaping of displayed text. `strict_underscores`
 rejects two adjacent underscores in the escape `\\u{..}`.
@@ -11,10 +11,11 @@ import enum
 
 import numpy
 
-from wat_lex._errors import Fault, LexError, WatError, error_at, find_errors, lex_errors
-from wat_lex._library import TYPES, Text, elements, filled, lib
+from wat_lex._errors import CompileError, Fault, LexError, WatError, compile_error, error_at, find_errors, lex_errors
+from wat_lex._library import TYPES, Text, called, elements, filled, lib
 
-__all__ = ["KIND_NAMES", "ROW", "TOKEN", "Fault", "Kind", "LexError", "WatError", "errors", "line_col", "significant", "tokens"]
+__all__ = ["KIND_NAMES", "ROW", "TOKEN", "CompileError", "Fault", "Kind", "LexError", "WatError", "check", "compile", "errors", "format", "line_col",
+           "significant", "tokens"]  # fmt: skip
 
 TOKEN = TYPES["struct wat_token"]
 ROW = TYPES["struct wat_row"]
@@ -85,3 +86,30 @@ def line_col(text, offsets):
     if asked.size and (asked.min() < 0 or asked.max() > read.length):
         raise IndexError(f"an offset is not between 0 and {read.length}")
     return read.positions(asked.astype(numpy.intp))
+
+
+def compile(text, *, names=True):
+    """Returns the binary of a module of WebAssembly 2.0, which is not validated. If `names` is true, it has a section of the module's names. Raises
+    `CompileError` if the text is not a module. Confusing characters are always allowed, and underscores are always strict."""
+    read = Text(text)
+    result, binary = called(lib.wat_compile, read.pointer, read.length, bool(names), capacity=read.length + 256)
+    if result.status != lib.WAT_GIVEN:
+        raise compile_error(read, bool(names))
+    return binary
+
+
+def check(text, *, names=True):
+    """Returns the `CompileError` that `compile` raises for a text, or `None` if it is a module."""
+    return compile_error(Text(text), bool(names))
+
+
+def format(text, *, allow_confusing=False, strict_underscores=False):
+    """Returns the formatted text, as `str` if the text is `str`, otherwise as `bytes`. Only the whitespace between tokens differs. Raises
+    `LexError` at a lexical error, and `ValueError` if the formatted text has more than 4,294,967,295 bytes."""
+    read, settings = Text(text), (bool(allow_confusing), bool(strict_underscores))
+    result, formatted = called(lib.wat_format, read.pointer, read.length, *settings, capacity=read.length + read.length // 4 + 256)
+    if result.status == lib.WAT_OTHER:
+        raise ValueError("the formatted text is too long")
+    if result.status != lib.WAT_GIVEN:
+        raise error_at(read, filled(lib.wat_fill, "struct wat_token", read, settings)[1], settings)
+    return formatted.decode("utf-8") if isinstance(text, str) else formatted

@@ -1,10 +1,13 @@
 import enum
-from typing import Any, Final
+from typing import Any, Final, TypeVar
 
 import numpy
 import numpy.typing
 
-__all__ = ["KIND_NAMES", "ROW", "TOKEN", "Fault", "Kind", "LexError", "WatError", "errors", "line_col", "significant", "tokens"]
+__all__ = ["KIND_NAMES", "ROW", "TOKEN", "CompileError", "Fault", "Kind", "LexError", "WatError", "check", "compile", "errors", "format", "line_col",
+           "significant", "tokens"]  # fmt: skip
+
+_Text = TypeVar("_Text", str, bytes)
 
 TOKEN: Final[numpy.dtype[numpy.void]]
 ROW: Final[numpy.dtype[numpy.void]]
@@ -55,6 +58,10 @@ class LexError(WatError):
     fault: Fault
     def __init__(self, message: str, offset: int, line: int, column: int, fault: Fault, text: Any) -> None: ...
 
+class CompileError(WatError):
+    length: int
+    def __init__(self, message: str, offset: int, line: int, column: int, length: int, text: Any) -> None: ...
+
 def tokens(
     text: str | bytes, *, allow_confusing: bool = False, strict_underscores: bool = False, partial: bool = False
 ) -> numpy.ndarray[Any, numpy.dtype[numpy.void]]: ...
@@ -65,3 +72,6 @@ def errors(text: str | bytes, *, allow_confusing: bool = False, strict_underscor
 def line_col(
     text: str | bytes, offsets: numpy.typing.ArrayLike
 ) -> tuple[numpy.typing.NDArray[numpy.intp], numpy.typing.NDArray[numpy.intp]]: ...
+def compile(text: str | bytes, *, names: bool = True) -> bytes: ...
+def check(text: str | bytes, *, names: bool = True) -> CompileError | None: ...
+def format(text: _Text, *, allow_confusing: bool = False, strict_underscores: bool = False) -> _Text: ...

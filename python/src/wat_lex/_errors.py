@@ -3,7 +3,7 @@ import enum
 
 import numpy
 
-from wat_lex._library import ffi, lib, written
+from wat_lex._library import called, ffi, lib, written
 
 
 class Fault(enum.IntEnum):
@@ -50,6 +50,24 @@ class LexError(WatError):
         super().__init__(message, offset, line, column, text)
         self.args = message, offset, line, column, fault, text
         self.fault = fault
+
+
+class CompileError(WatError):
+    """The error of a text that is not a module: a lexical error, or a syntax error at a token of `length` bytes, or at the end of the text."""
+
+    def __init__(self, message, offset, line, column, length, text):
+        super().__init__(message, offset, line, column, text)
+        self.args = message, offset, line, column, length, text
+        self.length = length
+
+
+def compile_error(text, names):
+    """Returns the error of a text that is not a module, or `None` if it is one."""
+    result, message = called(lib.wat_check, text.pointer, text.length, names)
+    if result.status == lib.WAT_ABSENT:
+        return None
+    line, column = text.positions(numpy.intp(result.offset))
+    return CompileError(message.decode("utf-8"), result.offset, int(line), int(column), result.len, text)
 
 
 def lex_errors(text, found):

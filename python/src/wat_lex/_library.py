@@ -76,18 +76,24 @@ class Text:
         return written(lib.wat_print, self.pointer, self.length, offset, ffi.from_buffer("uint8_t[]", data), len(data), file, 0).decode("utf-8")
 
 
-def written(function, *arguments):
-    """Returns the bytes that a function of the library writes. Raises `MemoryError` if an allocation fails, and `ValueError` if there is no result."""
-    capacity, result = 256, None
-    while result is None or result.needed > capacity:
-        capacity = max(capacity, result.needed if result else 0)
-        out = ffi.new("uint8_t[]", capacity)
-        result = function(*arguments, out, capacity)
+def called(function, *arguments, capacity=256):
+    """Returns the result of a function that writes bytes, and these bytes. The function is called again if the buffer of the first call, of a given
+    capacity, is too small. Raises `MemoryError` if an allocation fails."""
+    result = None
+    while result is None or result.needed > len(out):
+        out = numpy.zeros(result.needed if result else capacity, numpy.uint8)
+        result = function(*arguments, elements(out, "uint8_t"), len(out))
     if result.status == lib.WAT_NO_MEMORY:
         raise MemoryError
+    return result, out[: result.needed].tobytes()
+
+
+def written(function, *arguments):
+    """Returns the bytes that a function writes. Raises `ValueError` if there is no result, and `MemoryError` if an allocation fails."""
+    result, data = called(function, *arguments)
     if result.status != lib.WAT_GIVEN:
         raise ValueError(f"the library has no result: status {result.status}")
-    return ffi.buffer(out, result.needed)[:]
+    return data
 
 
 def filled(function, struct, text, settings):
