@@ -7,6 +7,7 @@ import wat_lex
 from conftest import TOP, is_text
 from wat_lex import Kind
 
+CALLS = [wat_lex.tokens, wat_lex.significant, wat_lex.errors, wat_lex.compile, wat_lex.check, wat_lex.format]
 FLOATS = {Kind.INF: "inf", Kind.NAN: "nan", Kind.NAN_PAYLOAD: "nan"}
 
 
@@ -44,18 +45,19 @@ def test_text_of_each_type_has_the_same_tokens():
 
 
 @pytest.mark.parametrize("text", [5, None, bytearray(b"a"), memoryview(b"a"), ["a"]])
-@pytest.mark.parametrize("call", [wat_lex.tokens, wat_lex.significant, wat_lex.errors, lambda text: wat_lex.line_col(text, [0])])
+@pytest.mark.parametrize("call", [*CALLS, lambda text: wat_lex.line_col(text, [0])])
 def test_other_types_are_rejected(call, text):
     with pytest.raises(TypeError):
         call(text)
 
 
-def test_bytes_must_be_utf_8():
+@pytest.mark.parametrize("call", CALLS)
+def test_bytes_must_be_utf_8(call):
     with pytest.raises(UnicodeDecodeError) as caught:
-        wat_lex.tokens(b"(a \xff)")
+        call(b"(a \xff)")
     assert caught.value.start == 3
     with pytest.raises(UnicodeEncodeError):
-        wat_lex.tokens("\ud800")
+        call("\ud800")
 
 
 def test_arrays_share_the_memory_that_the_library_wrote():

@@ -3,9 +3,10 @@
 program wat_tokens, and wat2wasm if it is installed. The texts are real ones, of a folder, and generated modules. Prints the load and a table for
 docs/scale.md. The tables that the job writes must be equal.
 
-usage: benchmark_scale.py [--texts N] [--in-loop N] [--real FOLDER] WORK     default: 100,000 texts, of which the loops read 2,000
+usage: benchmark_scale.py [--prepare] [--texts N] [--in-loop N] [--real FOLDER] WORK     default: 100,000 texts, of which the loops read 2,000
 
-WORK gets the texts, which are not generated again. PYTHONPATH has the package wat_lex, as `make wheel` builds it; cargo builds the program.
+WORK gets the texts, which are not generated again; with --prepare nothing is measured. PYTHONPATH has the package wat_lex, as `make wheel` builds it;
+cargo builds the program.
 """
 import argparse
 import itertools
@@ -87,12 +88,15 @@ def commands():
 
 def main():
     arguments = argparse.ArgumentParser()
+    arguments.add_argument("--prepare", action="store_true")
     arguments.add_argument("--texts", type=int, default=100_000)
     arguments.add_argument("--in-loop", type=int, default=2000)
     arguments.add_argument("--real", type=pathlib.Path)
     arguments.add_argument("work", type=pathlib.Path)
     given = arguments.parse_args()
     paths = texts(given.work.resolve() / "texts", given.texts, given.real)
+    if given.prepare:
+        return 0
     urls, tables = [path.as_uri() for path in paths], []
     print(f"{len(paths):,} texts, {sum(path.stat().st_size for path in paths):,} bytes; load {os.getloadavg()[0]:.1f}, {os.cpu_count()} processors")
     print("| reader | texts | texts for each second | processor time of a text, ms |\n|---|---|---|---|")

@@ -244,7 +244,7 @@ completed() {
 
 # python_project: installs the wheel in an empty virtual environment, with cffi and numpy of the system, and runs a program
 python_project() {
-    local said=$'[0 1 5 6] LParen\ninvalid string escape \'q\': line 1 column 9'
+    local said=$'[0 1 5 6] LParen\n8 (module)\ninvalid string escape \'q\': line 1 column 9'
     python3 -m venv --system-site-packages environment
     timed 'Python: pip install' 60 environment/bin/pip install --quiet --no-index "$release"/python/wat_lex-*.whl
     cat > main.py << 'PYTHON'
@@ -252,6 +252,7 @@ import wat_lex
 
 rows = wat_lex.tokens("(func $f)")[:4]
 print(rows["offset"], wat_lex.KIND_NAMES[rows["kind"][0]])
+print(len(wat_lex.compile("(module)")), wat_lex.format("( module )").strip())
 try:
     wat_lex.tokens('(data "\\q")')
 except wat_lex.LexError as error:
