@@ -1,0 +1,37 @@
+//! Theorems about the definitions. Each function has no effect: its contract is the theorem.
+ghost use Rattle.std.specs.Prelude.{List};
+ghost use Rattle.wat_module_names_theorems.specs.BlockLabels.{LabelsAreListed};
+ghost use Rattle.wat_module_names_theorems.specs.Bodies.{BodiesHaveStructure};
+ghost use Rattle.wat_module_names_theorems.specs.Examples.{Examples};
+ghost use Rattle.wat_module_names_theorems.specs.NameMaps.{AssociationsAreNameMap};
+ghost use Rattle.wat_module_names_theorems.specs.Repetitions.{FirstIsRepeated};
+ghost use Rattle.wat_module_tokens.specs.Terminals.{Label};
+
+/// Theorem: the labels of which the name section lists the names are those of the structured
+/// control instructions of a body, in the order of the binary format.
+pub fn labels_are_listed()
+    ensures { LabelsAreListed }
+{}
+
+/// Theorem: the tokens of each body in the grammar have a structure, and its structured control
+/// instructions have the opcodes of those of the body, in the same order.
+pub fn bodies_have_structure()
+    ensures { BodiesHaveStructure }
+{}
+
+/// Theorem: the structured control instructions and the labels of three texts.
+pub fn examples()
+    ensures { Examples }
+{}
+
+/// Theorem: the associations of an index and an identifier that the name section has for items are
+/// their name map: its indices increase, and it has exactly the items with an identifier.
+pub fn associations_are_name_map()
+    ensures { AssociationsAreNameMap }
+{}
+
+/// Theorem: a first repetition of an identifier is the one that errors report, and there is none if
+/// the identifiers are distinct.
+pub fn first_is_repeated()
+    ensures { (labels : List Label) → FirstIsRepeated labels }
+{}
