@@ -1,6 +1,7 @@
 mod BlockLabels
 mod Derivations
 mod Examples
+mod IndirectNameMaps
 mod Keywords
 mod NameMaps
 mod Opaque

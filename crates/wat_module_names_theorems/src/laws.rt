@@ -3,6 +3,7 @@ ghost use Rattle.std.specs.Prelude.{List};
 ghost use Rattle.wat_module_names_theorems.specs.BlockLabels.{LabelsAreListed};
 ghost use Rattle.wat_module_names_theorems.specs.Bodies.{BodiesHaveStructure};
 ghost use Rattle.wat_module_names_theorems.specs.Examples.{Examples};
+ghost use Rattle.wat_module_names_theorems.specs.IndirectNameMaps.{IndirectAssociationsAreNameMap};
 ghost use Rattle.wat_module_names_theorems.specs.NameMaps.{AssociationsAreNameMap};
 ghost use Rattle.wat_module_names_theorems.specs.Repetitions.{FirstIsRepeated};
 ghost use Rattle.wat_module_tokens.specs.Terminals.{Label};
@@ -28,6 +29,12 @@ pub fn examples()
 /// their name map: its indices increase, and it has exactly the items with an identifier.
 pub fn associations_are_name_map()
     ensures { AssociationsAreNameMap }
+{}
+
+/// Theorem: the associations of a function and a name map that the name section has for functions
+/// are their indirect name map: its indices increase, and it has exactly the functions with a name.
+pub fn indirect_associations_are_name_map()
+    ensures { IndirectAssociationsAreNameMap }
 {}
 
 /// Theorem: a first repetition of an identifier is the one that errors report, and there is none if
