@@ -7,12 +7,17 @@ use Rattle.std.specs.Prelude.{bytes_eq, codes, not}
 use Rattle.wat_module_ast.specs.declared.instruction.Argument.{Argument}
 use Rattle.wat_module_ast.specs.declared.instruction.Instruction.{Instruction}
 use Rattle.wat_module_ast.specs.declared.instruction.Opcode.TheVariants.{Byte}
+use Rattle.wat_module_ast.specs.Fields.{label_associations}
 use Rattle.wat_module_ast.specs.Grammar as grammar
 use Rattle.wat_module_ast.specs.Grammar.{Context, Instructions, end, instruction, label_of, otherwise, structured}
 use Rattle.wat_module_names_theorems.specs.BlockLabels as blocks
-use Rattle.wat_module_names_theorems.specs.BlockLabels.{Structure, Structured, labelled, opcode_in}
+use Rattle.wat_module_names_theorems.specs.BlockLabels.{Structure, Structured, label_in, labelled, opcode_in}
 use Rattle.wat_module_names_theorems.specs.Bodies.{BodiesHaveStructure, opcodes_in, structured_opcode}
+use Rattle.wat_module_ast.specs.Names.{associations}
+use Rattle.wat_module_names_theorems.specs.NameMaps.{IsNameMap}
+use Rattle.wat_module_names_theorems.proofs.BlockLabels.{labels_are_listed}
 use Rattle.wat_module_names_theorems.proofs.Keywords.{opcode}
+use Rattle.wat_module_names_theorems.proofs.NameMaps.{are_name_map}
 use Rattle.wat_module_names_theorems.proofs.Opaque.{block_passes, end_rest, is_plain}
 use Rattle.wat_module_tokens.specs.Terminals.{Terminal, Open, Close, Word, Label}
 
@@ -115,5 +120,9 @@ found context _ _ _ _ r (grammar.by_folded_if_else {ls = ls} {folded = folded} {
           (both b.all (c.all ++ f.all) body (otherwise ∷ (other ++ (end ∷ is))) b.opcodes (both c.all f.all other (end ∷ is) c.opcodes f.opcodes)));
     }
 
+names : (ts r : List Terminal) (xs : List Structured) → Structure ts xs (Close ∷ r) → IsNameMap 0 (map label_in xs) (label_associations ts)
+names ts r xs h = subst (λ ls. IsNameMap 0 (map label_in xs) (associations 0 ls)) (sym (labels_are_listed.body ts r xs h)) (are_name_map 0 (map label_in xs))
+
 pub bodies_have_structure : BodiesHaveStructure
-bodies_have_structure context ts is r h = let f = found context (None ∷ []) false ts is (Close ∷ r) h in (f.all, f.structure, f.opcodes)
+bodies_have_structure context ts is r h =
+    let f = found context (None ∷ []) false ts is (Close ∷ r) h in (f.all, record { structure = f.structure; opcodes = f.opcodes; names = names ts r f.all f.structure })

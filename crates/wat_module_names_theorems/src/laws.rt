@@ -8,14 +8,14 @@ ghost use Rattle.wat_module_names_theorems.specs.NameMaps.{AssociationsAreNameMa
 ghost use Rattle.wat_module_names_theorems.specs.Repetitions.{FirstIsRepeated};
 ghost use Rattle.wat_module_tokens.specs.Terminals.{Label};
 
-/// Theorem: the labels of which the name section lists the names are those of the structured
-/// control instructions of a body, in the order of the binary format.
+/// Theorem: the labels of a body, from which the name section is made, are those of its structured
+/// control instructions, in the order of the binary format.
 pub fn labels_are_listed()
     ensures { LabelsAreListed }
 {}
 
-/// Theorem: the tokens of each body in the grammar have a structure, and its structured control
-/// instructions have the opcodes of those of the body, in the same order.
+/// Theorem: the tokens of each body in the grammar have structured control instructions, with the
+/// opcodes of those of the body, in their order. The name map of the body has the labels of these.
 pub fn bodies_have_structure()
     ensures { BodiesHaveStructure }
 {}
@@ -32,7 +32,8 @@ pub fn associations_are_name_map()
 {}
 
 /// Theorem: the associations of a function and a name map that the name section has for functions
-/// are their indirect name map: its indices increase, and it has exactly the functions with a name.
+/// are their indirect name map: its indices increase, and it has exactly the functions whose name
+/// map is not empty.
 pub fn indirect_associations_are_name_map()
     ensures { IndirectAssociationsAreNameMap }
 {}
