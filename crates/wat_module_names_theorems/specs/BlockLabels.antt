@@ -1,7 +1,8 @@
 -- WebAssembly 2.0, 6.5.1 (labels), 6.5.2 (control instructions), 6.5.10 (folded instructions), 5.4.1 (binary format of
 -- control instructions), and the extended-name-section proposal: the structured control instructions of a function body,
 -- each with the identifier of its label, in the order of the binary format. There an instruction follows its operands and
--- precedes the instructions inside it. Of other instructions, labels and block types only the parentheses count here.
+-- precedes the instructions inside it. Of other instructions and of types only the parentheses count here: each body that the
+-- grammar derives has a structure (`Bodies`), and so do other tokens.
 use Rattle.std.specs.Prelude.{◌≡◌, ℕ, Bool, true, false, not, ◌||◌, List, [], ◌∷◌, ◌++◌, map, is_some, Some}
 use Rattle.wat_module_ast.specs.Grammar.{is_else, is_end, is_if, is_then, label_of, structured}
 use Rattle.wat_module_ast.specs.Names.{block_labels, inside}
@@ -37,7 +38,7 @@ is_opaque t = true
 pub data Structure : List Terminal → List Structured → List Terminal → Type 0 where
   -- No token.
   by_none : {ts : List Terminal} → Structure ts [] ts
-  -- A token of a plain instruction.
+  -- A token of a plain instruction, or of a type in a group.
   by_token : {t : Terminal} {ts r : List Terminal} {xs : List Structured} → is_opaque t ≡ true → Structure ts xs r → Structure (t ∷ ts) xs r
   -- 6.5.10: `(plaininstr foldedinstr*)`, which has the structured instructions of its operands; or a group of a type use
   -- or of result types (6.6.3, 6.4.5), which has none.
