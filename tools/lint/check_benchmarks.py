@@ -1,9 +1,9 @@
 #!/usr/bin/env python3
 """Checks docs/speed/calls.txt. It must have a row for each public call of Rattle (tools/lint/public_names.txt, and the libraries' sources), of the
 Rust crates and of C, and each row must have a figure from the data of docs/speed, or the reason why there is none. The ratios in the first table
-of docs/benchmarks.md must occur in the data, those at worst be the least of kinds.tsv, and the page must name each kind of text that is lexed with more
-instructions than by `wast`. In kinds.tsv and modules.tsv each row with a ratio below the bound of tools/bench/benchmark_kinds.py and of
-tools/bench/benchmark_modules.py must have its reason.
+of docs/benchmarks.md must occur in the data, those at worst be the least of kinds.tsv, and the page must have the least by time, and name each kind of
+text that is lexed with more instructions than by `wast`. In kinds.tsv and modules.tsv each row with a ratio below the bound of
+tools/bench/benchmark_kinds.py and of tools/bench/benchmark_modules.py must have its reason.
 
 usage: tools/lint/check_benchmarks.py [--write | --self-test]
 
@@ -162,6 +162,15 @@ def wrong_worsts(page, found):
     return faults
 
 
+def wrong_times(page, table):
+    """Returns a fault if docs/benchmarks.md lacks the least ratios by time, in the table of kinds.tsv, of the calls of WORST, in the order of its rows."""
+    cells = [line.split("\t") for line in table.strip().split("\n") if not line.startswith("#")]
+    calls = [WORST[row] for row in sorted(WORST, key=page.find)]
+    *others, last = [min((cell[6] for cell in cells if cell[2] == call), key=float) for call in calls]
+    wanted = f"by time {', '.join(others)} and {last};"
+    return [] if wanted in page else [f"docs/benchmarks.md: at worst {wanted}"]
+
+
 def unexplained(table, tool=benchmark_kinds):
     """Returns a fault for each row of a table whose reason is not that of its tool, and for each reason without a row."""
     lines = table.strip().split("\n")
@@ -188,6 +197,8 @@ def self_test():
     all_calls = {f"kinds.tsv: kinds; a; {call}": "3 ms, 0.90" for call in WORST.values()}
     pages = ["".join(f"{row} | 1 | {least}: a |\n" for row in WORST) for least in ("0.90", "0.80")]
     missed += [page for page in pages if len(wrong_worsts(page, all_calls)) != ("0.80" in page) * len(WORST)]
+    table = "".join(f"kinds\ta\t{call}\t3\t4\t0.90\t{time}\n" for call in WORST.values() for time in ("1.20", "0.70"))
+    missed += [time for time in ("0.70", "1.20") if bool(wrong_times(f"by time {time}, {time}, {time} and {time};", table)) != (time == "1.20")]
     row = "kinds\ta\tLexer::parse\t3\t4\t1.40\t1.60"
     rows = {row: True, f"{row}\twhy": True, row.replace("1.40", "1.50"): False, row.replace("1.40", "1.50").replace("1.60", "1.40"): True}
     missed += [text for text, is_fault in rows.items() if any("a, Lexer::parse: no" in fault for fault in unexplained(text)) != is_fault]
@@ -195,7 +206,7 @@ def self_test():
     row = "modules\ta\tmodule, b\t3\t4\t1.40"
     rows = {row: True, f"{row}\twhy": True, row.replace("1.40", "1.50"): False, f"memory, {row}": False, f"instructions, {row}": True}
     missed += [text for text, is_fault in rows.items() if any("a, module, b: no" in fault for fault in unexplained(text, benchmark_modules)) != is_fault]
-    print("".join(f"not as wanted: {name}\n" for name in missed) + f"check_benchmarks.py --self-test: {len(planted) + 18} tables, {len(missed)} not as wanted")
+    print("".join(f"not as wanted: {name}\n" for name in missed) + f"check_benchmarks.py --self-test: {len(planted) + 20} tables, {len(missed)} not as wanted")
     return missed
 
 
@@ -209,7 +220,7 @@ def main():
         faults = checked(table, wanted, figures(DATA))[1]
     page = SPEED.read_text(encoding="utf-8")
     faults += unknown_ratios(page, figures(DATA)) + missing_kinds(page, figures(DATA))
-    faults += wrong_worsts(page, figures(DATA))
+    faults += wrong_worsts(page, figures(DATA)) + wrong_times(page, benchmark_kinds.DATA.read_text(encoding="utf-8"))
     for tool in (benchmark_kinds, benchmark_modules):
         faults += unexplained(tool.DATA.read_text(encoding="utf-8"), tool)
     measured = sum(" | not measured" not in line and " | " in line for line in table.split("\n"))
