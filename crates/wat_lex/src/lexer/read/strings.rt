@@ -1,17 +1,17 @@
 //! The values of strings and names.
-ghost use Rattle.std.specs.Prelude.{◌≡◌, ◌↔◌, ◌<◌, ◌++◌, ◌∷◌, ℕ, List, [], length};
-ghost use Rattle.std.specs.Prelude.{Some, IfOk, OnOk, IsOk, IfSome, IfNone, true};
+ghost use Rattle.std.specs.Prelude.{◌≡◌, ◌↔◌, ◌<◌, ◌+◌, ◌*◌, ◌++◌, ◌∷◌, ℕ, List, [], length};
+ghost use Rattle.std.specs.Prelude.{Some, IfOk, OnOk, IsOk, IfSome, IfNone, true, slice_index};
 ghost use Rattle.std.specs.Char.{digit_value};
 ghost use Rattle.memchr.specs.Find.{IsFirstByte, is_byte};
 ghost use Rattle.std.specs.Cow.{cow_str_bytes, IsBorrowedStr};
 ghost use Rattle.std.specs.Str.{chars, IsUtf8};
 ghost use Rattle.wat_lex.specs.grammar.Classes.{backslash, is_hex};
 ghost use Rattle.wat_lex.specs.values.Names.{Named, HasNone, HasNoEscape, IsQuoted, IsNamed};
-ghost use Rattle.wat_lex.specs.inside.ScannedStrings.{escape_bytes};
+ghost use Rattle.wat_lex.specs.inside.ScannedStrings.{escape_bytes, BeginsByteEscape};
 ghost use Rattle.wat_lex.specs.tokens.Setting.{lenient};
 ghost use Rattle.wat_lex.specs.grammar.Strings.{Element, Quoted};
 
-use crate::lexer::scan::strings::{EscapeValue, escape, is_byte_escape, letter};
+use crate::lexer::scan::strings::{EscapeValue, escape, letter};
 use crate::lexer::settings::Settings;
 use memchr::memchr;
 use std::alloc::{AllocError, Global};
@@ -22,6 +22,21 @@ const LENIENT: Settings = Settings {
     allow: true,
     strict: false,
 };
+
+/// The value of each byte as a hexadecimal digit, or 16 if it is not one.
+const DIGIT_VALUES: [u8; 256] = [
+    16, 16, 16, 16, 16, 16, 16, 16, 16, 16, 16, 16, 16, 16, 16, 16, 16, 16, 16, 16, 16, 16, 16, 16,
+    16, 16, 16, 16, 16, 16, 16, 16, 16, 16, 16, 16, 16, 16, 16, 16, 16, 16, 16, 16, 16, 16, 16, 16,
+    0, 1, 2, 3, 4, 5, 6, 7, 8, 9, 16, 16, 16, 16, 16, 16, 16, 10, 11, 12, 13, 14, 15, 16, 16, 16,
+    16, 16, 16, 16, 16, 16, 16, 16, 16, 16, 16, 16, 16, 16, 16, 16, 16, 16, 16, 16, 16, 16, 16, 10,
+    11, 12, 13, 14, 15, 16, 16, 16, 16, 16, 16, 16, 16, 16, 16, 16, 16, 16, 16, 16, 16, 16, 16, 16,
+    16, 16, 16, 16, 16, 16, 16, 16, 16, 16, 16, 16, 16, 16, 16, 16, 16, 16, 16, 16, 16, 16, 16, 16,
+    16, 16, 16, 16, 16, 16, 16, 16, 16, 16, 16, 16, 16, 16, 16, 16, 16, 16, 16, 16, 16, 16, 16, 16,
+    16, 16, 16, 16, 16, 16, 16, 16, 16, 16, 16, 16, 16, 16, 16, 16, 16, 16, 16, 16, 16, 16, 16, 16,
+    16, 16, 16, 16, 16, 16, 16, 16, 16, 16, 16, 16, 16, 16, 16, 16, 16, 16, 16, 16, 16, 16, 16, 16,
+    16, 16, 16, 16, 16, 16, 16, 16, 16, 16, 16, 16, 16, 16, 16, 16, 16, 16, 16, 16, 16, 16, 16, 16,
+    16, 16, 16, 16, 16, 16, 16, 16, 16, 16, 16, 16, 16, 16,
+];
 
 /// Returns the value of a string if it has no escape. `elements` is the rest of a string, with its
 /// closing quote.
@@ -52,16 +67,31 @@ fn append(value: &mut Vec<u8>, read: EscapeValue) -> Result<(), AllocError>
     Ok(())
 }
 
-/// Returns the value of a hexadecimal digit.
-// The lower four bits are the digit, or 9 less than it for a letter. A branch is avoided, since
-// digits are not predictable.
+/// Returns the value of a hexadecimal digit, or 16 if the byte is not one.
 #[inline(always)]
 fn digit(byte: u8) -> u8
-    requires { is_hex byte ≡ true }
-    ensures value { result ≡ digit_value byte }
-    ensures small { result < 16 }
+    ensures digit { result < 16 → is_hex byte ≡ true }
+    ensures value { is_hex byte ≡ true → result ≡ digit_value byte }
 {
-    (byte & 15) + 9 * (byte >> 6)
+    DIGIT_VALUES[byte as usize]
+}
+
+/// Returns the byte of an escape of two hexadecimal digits at the start.
+#[inline(always)]
+fn byte_of_digits(text: &[u8]) -> Option<u8>
+    ensures begins { IfSome result (λ _. BeginsByteEscape text.now) }
+    ensures value { IfSome result (λ byte.
+        byte ≡ 16 * digit_value (slice_index text.now 1) + digit_value (slice_index text.now 2)) }
+{
+    let [b'\\', first, second, ..] = text else {
+        return None;
+    };
+    let high = digit(*first);
+    let low = digit(*second);
+    if high < 16 && low < 16 {
+        return Some(16 * high + low);
+    }
+    None
 }
 
 /// Returns the byte of an escape of one letter at the start, and the text after it.
@@ -87,11 +117,8 @@ pub fn byte_escape(text: &str) -> Option<(u8, &str)>
     ensures utf8 { IfSome result (λ found. IsUtf8 found.1.now) }
     ensures shorter { IfSome result (λ found. length found.1.now < length text.now) }
 {
-    let bytes = text.as_bytes();
-    if !is_byte_escape(bytes) {
-        return None;
-    }
-    Some((16 * digit(bytes[1]) + digit(bytes[2]), &text[3..]))
+    let byte = byte_of_digits(text.as_bytes())?;
+    Some((byte, &text[3..]))
 }
 
 /// Returns the value of the escape at the start, and the elements after it. `elements` is the rest

@@ -274,9 +274,6 @@ fn element_len(text: &str, flags: Settings) -> Result<usize, LexFault>
     ensures ok { IfOk result (ElementTaken flags text.now) }
     ensures err { IfErr result (StringFaultFound flags text.now) }
 {
-    if is_letter_escape(text.as_bytes()) {
-        return Ok(2);
-    }
     let mut it = text.chars();
     let Some(c) = it.next() else {
         return fault_at(0, LexError::UnexpectedEof);
@@ -305,6 +302,7 @@ pub fn string_len(text: &str, flags: Settings) -> Result<usize, LexFault>
             rest if is_byte_escape(rest) => at += 3,
             [b'"', ..] => return Ok(at + 1),
             [first, ..] if is_plain(*first) => at += plain_len(&bytes[at..]),
+            rest if is_letter_escape(rest) => at += 2,
             _ => match element_len(&text[at..], flags) {
                 Ok(len) => at += len,
                 Err(fault) => return fault_at(at + fault.offset, fault.error),

@@ -2,11 +2,9 @@ use Rattle.std.proofs.Common.{sym, ap, ◌∙◌, subst, ◌≡◌, ◌≢◌, �
 use Rattle.std.specs.Str.Iter.{chars_rest}
 use Rattle.std.proofs.lemmas.Bool.{both_ways}
 use Rattle.std.proofs.lemmas.Str.{length-encode, len_utf8_bounds, byte_from_char}
-use Rattle.std.proofs.lemmas.Bool.Decides.{when_true}
-use Rattle.wat_lex.specs.inside.ScannedStrings.{BeginsLetterEscape}
 use lib.Utf8.{encode}
 use Rattle.wat_lex.proofs.inside.StringSteps.{Took, took, refused}
-use Rattle.wat_lex.proofs.inside.StringElements.{letter_taken, element_raw, element_escaped, element_missing, element_control, element_confusing, escape_fits, element_escape}
+use Rattle.wat_lex.proofs.inside.StringElements.{element_raw, element_escaped, element_missing, element_control, element_confusing, escape_fits, element_escape}
 use Rattle.wat_lex.proofs.lexer.scan.strings.element_len.Goals as goal
 use Rattle.wat_lex.proofs.lexer.scan.strings.element_len.Goals.{In-Some, then-c-eq92+in_default-escape, else-c-eq92+else-is_control+else-not-flags, else-not-flags-via-then-not-flags+else-is_confusing, else-not-flags-via-else-not-flags}
 
@@ -73,9 +71,3 @@ returns-clause-ok c =
             | else-not-flags-via-else-not-flags v ↦ absurd (both_ways c.args.flags.allow a (allowed _ v.if-not-flags.false))
           ]))
     ])
-
-pub returns-then-is_letter_escape-clause-ok : goal.returns-then-is_letter_escape-clause-ok
-returns-then-is_letter_escape-clause-ok c =
-    let text = c.args.text.now in
-    let begins = when_true (BeginsLetterEscape c.as_bytes.result.now) _ c.if-is_letter_escape.true c.is_letter_escape.ensures in
-    letter_taken c.args.flags text c.utf8.text (subst BeginsLetterEscape c.as_bytes.ensures.value begins)

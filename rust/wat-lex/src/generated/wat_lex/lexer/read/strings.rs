@@ -2,7 +2,7 @@
 //! The values of strings and names.
 
 use crate::shim::prelude::*;
-use crate::proved::lexer::scan::strings::{EscapeValue, escape, is_byte_escape, letter};
+use crate::proved::lexer::scan::strings::{EscapeValue, escape, letter};
 use crate::proved::lexer::settings::Settings;
 use memchr::memchr;
 use crate::shim::alloc::{AllocError, Global};
@@ -13,6 +13,21 @@ const LENIENT: Settings = Settings {
     allow: true,
     strict: false,
 };
+
+/// The value of each byte as a hexadecimal digit, or 16 if it is not one.
+const DIGIT_VALUES: [u8; 256] = [
+    16, 16, 16, 16, 16, 16, 16, 16, 16, 16, 16, 16, 16, 16, 16, 16, 16, 16, 16, 16, 16, 16, 16, 16,
+    16, 16, 16, 16, 16, 16, 16, 16, 16, 16, 16, 16, 16, 16, 16, 16, 16, 16, 16, 16, 16, 16, 16, 16,
+    0, 1, 2, 3, 4, 5, 6, 7, 8, 9, 16, 16, 16, 16, 16, 16, 16, 10, 11, 12, 13, 14, 15, 16, 16, 16,
+    16, 16, 16, 16, 16, 16, 16, 16, 16, 16, 16, 16, 16, 16, 16, 16, 16, 16, 16, 16, 16, 16, 16, 10,
+    11, 12, 13, 14, 15, 16, 16, 16, 16, 16, 16, 16, 16, 16, 16, 16, 16, 16, 16, 16, 16, 16, 16, 16,
+    16, 16, 16, 16, 16, 16, 16, 16, 16, 16, 16, 16, 16, 16, 16, 16, 16, 16, 16, 16, 16, 16, 16, 16,
+    16, 16, 16, 16, 16, 16, 16, 16, 16, 16, 16, 16, 16, 16, 16, 16, 16, 16, 16, 16, 16, 16, 16, 16,
+    16, 16, 16, 16, 16, 16, 16, 16, 16, 16, 16, 16, 16, 16, 16, 16, 16, 16, 16, 16, 16, 16, 16, 16,
+    16, 16, 16, 16, 16, 16, 16, 16, 16, 16, 16, 16, 16, 16, 16, 16, 16, 16, 16, 16, 16, 16, 16, 16,
+    16, 16, 16, 16, 16, 16, 16, 16, 16, 16, 16, 16, 16, 16, 16, 16, 16, 16, 16, 16, 16, 16, 16, 16,
+    16, 16, 16, 16, 16, 16, 16, 16, 16, 16, 16, 16, 16, 16,
+];
 
 /// Returns the value of a string if it has no escape. `elements` is the rest of a string, with its
 /// closing quote.
@@ -51,19 +66,39 @@ fn append(value: &mut Vec<u8>, read: EscapeValue) -> Result<(), AllocError> {
     Ok(())
 }
 
-/// Returns the value of a hexadecimal digit.
-// The lower four bits are the digit, or 9 less than it for a letter. A branch is avoided, since
-// digits are not predictable.
+/// Returns the value of a hexadecimal digit, or 16 if the byte is not one.
+///
 /// # Proved
 ///
 /// ```text
-/// requires { is_hex byte ≡ true }
-/// ensures value { result ≡ digit_value byte }
-/// ensures small { result < 16 }
+/// ensures digit { result < 16 → is_hex byte ≡ true }
+/// ensures value { is_hex byte ≡ true → result ≡ digit_value byte }
 /// ```
 #[inline(always)]
 fn digit(byte: u8) -> u8 {
-    (byte & 15) + 9 * (byte >> 6)
+    DIGIT_VALUES[byte as usize]
+}
+
+/// Returns the byte of an escape of two hexadecimal digits at the start.
+///
+/// # Proved
+///
+/// ```text
+/// ensures begins { IfSome result (λ _. BeginsByteEscape text.now) }
+/// ensures value { IfSome result (λ byte.
+///     byte ≡ 16 * digit_value (slice_index text.now 1) + digit_value (slice_index text.now 2)) }
+/// ```
+#[inline(always)]
+fn byte_of_digits(text: &[u8]) -> Option<u8> {
+    let [b'\\', first, second, ..] = text else {
+        return None;
+    };
+    let high = digit(*first);
+    let low = digit(*second);
+    if high < 16 && low < 16 {
+        return Some(16 * high + low);
+    }
+    None
 }
 
 /// Returns the byte of an escape of one letter at the start, and the text after it.
@@ -97,11 +132,8 @@ fn letter_escape(text: &str) -> Option<(u8, &str)> {
 /// ```
 #[inline]
 pub fn byte_escape(text: &str) -> Option<(u8, &str)> {
-    let bytes = text.as_bytes();
-    if !is_byte_escape(bytes) {
-        return None;
-    }
-    Some((16 * digit(bytes[1]) + digit(bytes[2]), &text[3..]))
+    let byte = byte_of_digits(text.as_bytes())?;
+    Some((byte, &text[3..]))
 }
 
 /// Returns the value of the escape at the start, and the elements after it. `elements` is the rest

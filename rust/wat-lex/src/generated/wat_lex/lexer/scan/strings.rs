@@ -327,9 +327,6 @@ fn fault_at(offset: usize, error: LexError) -> Result<usize, LexFault> {
 /// ensures err { IfErr result (StringFaultFound flags text.now) }
 /// ```
 fn element_len(text: &str, flags: Settings) -> Result<usize, LexFault> {
-    if is_letter_escape(text.as_bytes()) {
-        return Ok(2);
-    }
     let mut it = text.chars();
     let Some(c) = it.next() else {
         return fault_at(0, LexError::UnexpectedEof);
@@ -362,6 +359,7 @@ pub fn string_len(text: &str, flags: Settings) -> Result<usize, LexFault> {
             rest if is_byte_escape(rest) => at += 3,
             [b'"', ..] => return Ok(at + 1),
             [first, ..] if is_plain(*first) => at += plain_len(&bytes[at..]),
+            rest if is_letter_escape(rest) => at += 2,
             _ => match element_len(&text[at..], flags) {
                 Ok(len) => at += len,
                 Err(fault) => return fault_at(at + fault.offset, fault.error),
