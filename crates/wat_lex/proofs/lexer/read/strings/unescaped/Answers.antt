@@ -46,12 +46,12 @@ pub elements-preserved : goal.elements-preserved
 elements-preserved c =
     let rest = c.elements.rest.now in
     let done = c.elements.value.items in
-    let n = c.in-Some-memchr.before in
-    let first : IsFirstByte (is_byte 92) rest (Some n) = subst (λ x. IsFirstByte (is_byte 92) x (Some n)) c.as_bytes-in-elements.ensures.value c.in-Some-memchr.ensures in
-    let items = c.in_ok-extend_from_slice-in-Some-memchr.ensures.items ∙ ap (λ x. done ++ take n x) c.as_bytes-in-Some-memchr.ensures.value in
+    let n = c.in-Some-first_backslash.before in
+    let first : IsFirstByte (is_byte 92) rest (Some n) = subst (λ x. IsFirstByte (is_byte 92) x (Some n)) c.as_bytes-in-elements.ensures.value c.in-Some-first_backslash.ensures in
+    let items = c.in_ok-append_prefix-in-Some-first_backslash.ensures ∙ ap (λ x. done ++ take n x) c.as_bytes-in-Some-first_backslash.ensures.value in
     let h = reading_plain c.args.elements.now rest done n c.elements.invariant.1 first in (
       c.range_from-rest.utf8,
-      subst (λ x. Reading c.args.elements.now x c.extend_from_slice.new.self.items) (sym c.range_from-rest.ensures.value)
+      subst (λ x. Reading c.args.elements.now x c.append_prefix.new.value.items) (sym c.range_from-rest.ensures.value)
           (subst (Reading c.args.elements.now (drop n rest)) (sym items) h),
     )
 

@@ -2,6 +2,7 @@
 //! The values of strings and names.
 
 use crate::shim::prelude::*;
+use crate::proved::lexer::scan::blocks::{block_at, equal_to};
 use crate::proved::lexer::scan::strings::{EscapeValue, escape, letter};
 use crate::proved::lexer::settings::Settings;
 use memchr::memchr;
@@ -63,6 +64,44 @@ fn append(value: &mut Vec<u8>, read: EscapeValue) -> Result<(), AllocError> {
             value.extend_from_slice(c.encode_utf8(&mut buffer).as_bytes())?;
         }
     }
+    Ok(())
+}
+
+/// Returns the offset of the first backslash. The first 16 bytes are searched without a call.
+///
+/// # Proved
+///
+/// ```text
+/// ensures { IsFirstByte (is_byte 92) text.now result }
+/// ```
+#[inline(always)]
+fn first_backslash(text: &[u8]) -> Option<usize> {
+    if text.len() >= 16 {
+        let found = equal_to(block_at(text, 0), b'\\');
+        if found != 0 {
+            return Some(found.trailing_zeros() as usize);
+        }
+    }
+    memchr(b'\\', text)
+}
+
+/// Appends the first `len` bytes of a text. Copies a whole block without a call if `len` is at most
+/// 16, and removes the bytes after the first `len`.
+///
+/// # Proved
+///
+/// ```text
+/// requires { len ≤ length text.now }
+/// ensures { OnOk result (value.new.items ≡ value.old.items ++ take len text.now) }
+/// ```
+#[inline(always)]
+fn append_prefix(value: &mut Vec<u8>, text: &[u8], len: usize) -> Result<(), AllocError> {
+    if len > 16 || text.len() < 16 {
+        return value.extend_from_slice(&text[..len]);
+    }
+    let before = value.len();
+    value.extend_from_slice(&text[..16])?;
+    value.truncate(before + len);
     Ok(())
 }
 
@@ -183,14 +222,14 @@ pub fn unescaped(alloc: Global, elements: &str) -> Result<Vec<u8>, AllocError> {
             rest = after;
             continue 'elements;
         }
-        match memchr(b'\\', rest.as_bytes()) {
+        match first_backslash(rest.as_bytes()) {
             Some(0) => {
                 let (read, after) = first_escape(rest);
                 append(&mut value, read)?;
                 rest = after;
             }
             Some(before) => {
-                value.extend_from_slice(&rest.as_bytes()[..before])?;
+                append_prefix(&mut value, rest.as_bytes(), before)?;
                 rest = &rest[before..];
             }
             None => {
