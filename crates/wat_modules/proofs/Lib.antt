@@ -1,1 +1,5 @@
 pub mod Answering
+pub mod Distances
+pub mod EditLaws
+pub mod Nearness
+pub mod NearestLaws

@@ -1,3 +1,5 @@
+pub mod Edits
+pub mod Nearest
 pub mod Messages
 pub mod Views
 pub mod Compiling

@@ -15,6 +15,7 @@ use Rattle.wat_module_ast.specs.declared.error.Range.{Range}
 use Rattle.wat_module_ast.specs.declared.error.Range.TheVariants as range
 use Rattle.wat_module_ast.specs.declared.error.Space.{Space}
 use Rattle.wat_module_ast.specs.declared.error.Space.TheVariants as space
+use Rattle.wat_modules.specs.Nearest.{id_of, limit, names_in_scope, nearest}
 
 -- Offsets.
 
@@ -68,6 +69,23 @@ found text (Some t) = if is_short t then quoted (token_text text t) else kind_ph
 abbrev pub named : List ℕ → Option Token → List ℕ
 named text None = codes ""
 named text (Some t) = if is_short t then codes " " ++ quoted (token_text text t) else codes ""
+
+-- The identifier in scope that is nearest to an unknown one, which is the token at index `i`, if messages have its lexeme.
+abbrev pub nearest_to : List ℕ → Space → List Token → ℕ → Option Token → Option Token
+nearest_to text s ts i None = None
+nearest_to text s ts i (Some t) =
+    if is_short t then nearest text (limit (token_text text t)) (token_text text t) (names_in_scope text s ts i) else None
+
+-- The identifier that is nearest to the one in error, if this is unknown, from which on `left` tokens remain.
+abbrev pub suggestion : List ℕ → List Token → FaultKind → ℕ → Option Token
+suggestion text ts (UnknownName s) left = nearest_to text s ts (length ts - left) (id_of (token_at ts left))
+suggestion text ts k left = None
+
+-- This identifier after the unknown one, with its location.
+abbrev pub suggested : List ℕ → Option Token → List ℕ
+suggested text None = codes ""
+suggested text (Some t) =
+    codes "; did you mean `" ++ (token_text text t ++ (codes "` at " ++ (location (line_and_column text t.offset) ++ codes "?")))
 
 -- Phrases.
 
@@ -170,21 +188,21 @@ first_of (SecondStart left) = left
 first_of (LateImport left) = left
 first_of k = 0
 
--- The message of a syntax error by its kind, the token in error, this token as it follows a noun, and the location of
--- the first of two tokens.
-abbrev pub message_by : FaultKind → List ℕ → List ℕ → List ℕ → List ℕ
-message_by (Unexpected e) found named first = codes "expected " ++ (phrase e ++ (codes ", found " ++ found))
-message_by (UnknownWord e) found named first = codes "unknown " ++ (word_noun e ++ named)
-message_by (UnknownName s) found named first = codes "unknown " ++ (noun s ++ named)
-message_by WrongLabel found named first = codes "mismatching label" ++ named
-message_by (OutOfRange r) found named first = codes "number out of range: expected " ++ (range_phrase r ++ (codes ", found " ++ found))
-message_by NotUtf8 found named first = codes "name is not UTF-8"
-message_by (Duplicate s left) found named first = codes "duplicate " ++ (noun s ++ (named ++ (codes ", first defined at " ++ first)))
-message_by (SecondStart left) found named first = codes "duplicate start function, first defined at " ++ first
-message_by OtherType found named first = codes "parameters or results differ from those of type" ++ named
-message_by (LateImport left) found named first = codes "import after the first definition, which is at " ++ first
+-- The message of a syntax error by its kind, the token in error, this token as it follows a noun, the location of the
+-- first of two tokens, and the identifier that is nearest to an unknown one.
+abbrev pub message_by : FaultKind → List ℕ → List ℕ → List ℕ → List ℕ → List ℕ
+message_by (Unexpected e) found named first near = codes "expected " ++ (phrase e ++ (codes ", found " ++ found))
+message_by (UnknownWord e) found named first near = codes "unknown " ++ (word_noun e ++ named)
+message_by (UnknownName s) found named first near = codes "unknown " ++ (noun s ++ (named ++ near))
+message_by WrongLabel found named first near = codes "mismatching label" ++ named
+message_by (OutOfRange r) found named first near = codes "number out of range: expected " ++ (range_phrase r ++ (codes ", found " ++ found))
+message_by NotUtf8 found named first near = codes "name is not UTF-8"
+message_by (Duplicate s left) found named first near = codes "duplicate " ++ (noun s ++ (named ++ (codes ", first defined at " ++ first)))
+message_by (SecondStart left) found named first near = codes "duplicate start function, first defined at " ++ first
+message_by OtherType found named first near = codes "parameters or results differ from those of type" ++ named
+message_by (LateImport left) found named first near = codes "import after the first definition, which is at " ++ first
 
 -- The message of a syntax error at the token from which on `left` tokens remain.
 abbrev pub message : List ℕ → List Token → FaultKind → ℕ → List ℕ
 message text tokens k left =
-    message_by (kind_by (is_misplaced text (token_at tokens left)) k) (found text (token_at tokens left)) (named text (token_at tokens left)) (location (line_and_column text (place text tokens (first_of k))))
+    message_by (kind_by (is_misplaced text (token_at tokens left)) k) (found text (token_at tokens left)) (named text (token_at tokens left)) (location (line_and_column text (place text tokens (first_of k)))) (suggested text (suggestion text tokens k left))

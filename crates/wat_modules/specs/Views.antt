@@ -2,7 +2,9 @@
 use Rattle.std.specs.Prelude.{ℕ, ◌++◌, List, codes}
 use Rattle.wat_modules.specs.declared.messages.Found.{Found}
 use Rattle.wat_modules.specs.declared.messages.Found.TheVariants as declared
-use Rattle.wat_modules.specs.Messages.{kind_phrase, quoted}
+use Rattle.wat_modules.specs.declared.messages.Suggestion.{Suggestion}
+use Rattle.wat_modules.specs.declared.messages.Suggestion.TheVariants as suggestion
+use Rattle.wat_modules.specs.Messages.{kind_phrase, location, quoted}
 
 -- The token in error, or the end of the text.
 abbrev pub found_of : Found → List ℕ
@@ -15,3 +17,8 @@ abbrev pub named_of : Found → List ℕ
 named_of (declared.Lexeme w) = codes " " ++ quoted w.now
 named_of (declared.Kind k) = codes ""
 named_of declared.End = codes ""
+
+-- The identifier that is nearest to an unknown one, after it.
+abbrev pub suggestion_of : Suggestion → List ℕ
+suggestion_of (suggestion.Name w p) = codes "; did you mean `" ++ (w.now ++ (codes "` at " ++ (location p ++ codes "?")))
+suggestion_of suggestion.Absent = codes ""

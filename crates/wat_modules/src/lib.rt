@@ -25,10 +25,13 @@ ghost use Rattle.wat_module_ast.specs.Views.{fields_of};
 ghost use Rattle.wat_module_encoder.specs.Binary.{module_bytes};
 ghost use Rattle.wat_module_encoder.specs.NameSection.{name_section};
 
+mod edits;
 pub mod laws;
 mod messages;
+mod nearest;
 
-use messages::{Message, first_of, found_token, is_misplaced, kind_by};
+use messages::{Message, first_of, found_token, is_misplaced, kind_by, suggested};
+use nearest::suggestion;
 use std::alloc::{AllocError, Global};
 use wat_lexer_parser::Error;
 use wat_lexer_parser::lexer::Token;
@@ -255,9 +258,16 @@ fn error_of(alloc: Global, text: &str, tokens: &[Token], kind: FaultKind, left: 
     let offset = place(text, tokens, left);
     let first = Span::from_offset(place(text, tokens, first_of(kind))).linecol_in(text);
     let token = token_at(text, tokens, left);
+    let near = suggested(text, suggestion(text, tokens, kind, left));
     let kind = kind_by(is_misplaced(text, token), kind);
     let found = found_token(text, token);
-    match format!(in alloc; "{}", Message { kind, found, first }) {
+    let message = Message {
+        kind,
+        found,
+        first,
+        near,
+    };
+    match format!(in alloc; "{message}") {
         Ok(message) => Error::parse(alloc, Span::from_offset(offset), text, message),
         Err(refused) => Error::from(refused),
     }

@@ -2,10 +2,11 @@
 ghost use Rattle.std.specs.Prelude.{◌≡◌, IfSome};
 ghost use Rattle.wat_lex.specs.tokens.ReadableTokens.{IsTokenOf};
 ghost use Rattle.wat_modules.specs.Messages as messages;
-ghost use Rattle.wat_modules.specs.Views.{found_of, named_of};
+ghost use Rattle.wat_modules.specs.Views.{found_of, named_of, suggestion_of};
 
 use std::fmt;
 use wat_lexer_parser::lexer::{Token, TokenKind};
+use wat_lexer_parser::token::Span;
 use wat_module_ast::error::{Expected, FaultKind, Range, Space};
 
 /// Maximum length in bytes of a lexeme in a message.
@@ -20,6 +21,8 @@ pub(crate) struct Message<'t> {
     pub(crate) found: Found<'t>,
     /// Line and column, both from 0, of the first of two tokens, if the error has two.
     pub(crate) first: (usize, usize),
+    /// Identifier that is nearest to the token in error, if this is an unknown identifier.
+    pub(crate) near: Suggestion<'t>,
 }
 
 /// The token in error, as a message has it.
@@ -31,6 +34,15 @@ pub(crate) enum Found<'t> {
     Kind(TokenKind),
     /// The end of the text.
     End,
+}
+
+/// The identifier that is nearest to an unknown one, as a message has it.
+#[derive(Clone, Copy)]
+pub(crate) enum Suggestion<'t> {
+    /// The lexeme of the identifier, and its line and column, both from 0.
+    Name(&'t str, (usize, usize)),
+    /// No identifier is near, or none is unknown.
+    Absent,
 }
 
 /// Returns the token in error, as a message has it.
@@ -51,8 +63,22 @@ pub(crate) fn found_token<'t>(text: &'t str, token: Option<Token>) -> Found<'t>
     }
 }
 
+/// Returns an identifier that is nearest to an unknown one, as a message has it.
+pub(crate) fn suggested<'t>(text: &'t str, token: Option<Token>) -> Suggestion<'t>
+    requires { IfSome token (IsTokenOf text.now) }
+    ensures { suggestion_of result ≡ messages.suggested text.now token }
+{
+    match token {
+        Some(token) => {
+            let location = Span::from_offset(token.offset).linecol_in(text);
+            Suggestion::Name(token.src(text), location)
+        }
+        None => Suggestion::Absent,
+    }
+}
+
 /// Returns `true` if messages have the lexeme of a token.
-fn is_short(token: Token) -> bool
+pub(crate) fn is_short(token: Token) -> bool
     ensures { result ≡ messages.is_short token }
 {
     match token.kind {
@@ -120,10 +146,10 @@ pub(crate) fn first_of(kind: FaultKind) -> usize
 impl fmt::Display for Message<'_> {
     ghost use Rattle.std.specs.Prelude.{Some};
     ghost use Rattle.wat_modules.specs.Messages.{location, message_by};
-    ghost use Rattle.wat_modules.specs.Views.{found_of, named_of};
+    ghost use Rattle.wat_modules.specs.Views.{found_of, named_of, suggestion_of};
 
     ghost output = { λ m. Some (message_by m.kind (found_of m.found) (named_of m.found)
-        (location m.first)) };
+        (location m.first) (suggestion_of m.near)) };
 
     fn fmt<W: fmt::Write>(&self, f: &mut fmt::Formatter<W>) -> fmt::Result {
         let named = Named(self.found);
@@ -135,7 +161,9 @@ impl fmt::Display for Message<'_> {
             FaultKind::UnknownWord(expected) => {
                 write!(f, "unknown {}{named}", word_noun(expected))
             }
-            FaultKind::UnknownName(space) => write!(f, "unknown {}{named}", noun(space)),
+            FaultKind::UnknownName(space) => {
+                write!(f, "unknown {}{named}{}", noun(space), self.near)
+            }
             FaultKind::WrongLabel => write!(f, "mismatching label{named}"),
             FaultKind::OutOfRange(range) => {
                 let values = Values(range);
@@ -195,6 +223,23 @@ impl fmt::Display for Named<'_> {
         match self.0 {
             Found::Lexeme(lexeme) => write!(f, " `{lexeme}`"),
             Found::Kind(_) | Found::End => Ok(()),
+        }
+    }
+}
+
+impl fmt::Display for Suggestion<'_> {
+    ghost use Rattle.std.specs.Prelude.{Some};
+    ghost use Rattle.wat_modules.specs.Views.{suggestion_of};
+
+    ghost output = { λ s. Some (suggestion_of s) };
+
+    fn fmt<W: fmt::Write>(&self, f: &mut fmt::Formatter<W>) -> fmt::Result {
+        match self {
+            Suggestion::Name(lexeme, at) => {
+                let location = Location(*at);
+                write!(f, "; did you mean `{lexeme}` at {location}?")
+            }
+            Suggestion::Absent => Ok(()),
         }
     }
 }

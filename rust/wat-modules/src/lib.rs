@@ -94,7 +94,7 @@ pub type Result<T, E = Error> = core::result::Result<T, E>;
 ///
 /// - a lexical error, at its offset;
 /// - a syntax error at the first token that does not match the grammar; the message has this token and what the grammar accepts there, the index
-///   space of an unknown identifier, or the range of a number that is out of range;
+///   space of an unknown identifier and the nearest identifier in scope, or the range of a number that is out of range;
 /// - a duplicate identifier in an index space, or among the parameters and locals of a function, at the second of the two; the message has the
 ///   location of the first;
 /// - an import after a definition, or a second start function, at its keyword; the message has the location of the first definition or start function;

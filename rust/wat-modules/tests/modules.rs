@@ -184,10 +184,8 @@ fn a_label_is_found_at_any_depth() {
             numbered(depth - 1)
         );
         let error = parse_str(format!("(func block {closed})")).unwrap_err();
-        assert_eq!(
-            error.message(),
-            format!("unknown label `{}`", numbered(depth - 1))
-        );
+        let message = format!("unknown label `{}`", numbered(depth - 1));
+        assert!(error.message().starts_with(&message), "{error}");
     }
     for depth in [2_000, 100_000] {
         let half = nested(depth, unnamed, |open| (open - 1 - open / 2).to_string());

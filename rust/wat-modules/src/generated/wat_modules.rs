@@ -3,10 +3,13 @@
 //! encoding of the module from which the grammar derives the text.
 
 use wat_lex::shim::prelude::*;
+mod edits;
 pub mod laws;
 mod messages;
+mod nearest;
 
-use messages::{Message, first_of, found_token, is_misplaced, kind_by};
+use messages::{Message, first_of, found_token, is_misplaced, kind_by, suggested};
+use nearest::suggestion;
 use wat_lex::shim::alloc::{AllocError, Global};
 use wat_parser::proved::Error;
 use wat_parser::proved::lexer::Token;
@@ -273,9 +276,16 @@ fn error_of(alloc: Global, text: &str, tokens: &[Token], kind: FaultKind, left: 
     let offset = place(text, tokens, left);
     let first = Span::from_offset(place(text, tokens, first_of(kind))).linecol_in(text);
     let token = token_at(text, tokens, left);
+    let near = suggested(text, suggestion(text, tokens, kind, left));
     let kind = kind_by(is_misplaced(text, token), kind);
     let found = found_token(text, token);
-    match try_format!(alloc; "{}", Message { kind, found, first }) {
+    let message = Message {
+        kind,
+        found,
+        first,
+        near,
+    };
+    match try_format!(alloc; "{message}") {
         Ok(message) => Error::parse(alloc, Span::from_offset(offset), text, message),
         Err(refused) => Error::from(refused),
     }

