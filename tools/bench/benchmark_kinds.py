@@ -63,7 +63,7 @@ BELOW = {
 
 # The reasons of ratios that are below the bound by time alone, of a kind or of one of its calls.
 BY_TIME = {
-    "ParseBuffer::new": "a pass of 1,000 calls, 46 instructions each on every text, takes 10 µs: its least of 9 has not settled; of 40 it is 1.71 to 1.87",
+    "ParseBuffer::new": "a pass of 1,000 calls, 46 instructions each on every text, takes 10 µs: its least of 9 has not settled; of 40 it is 1.66 to 1.87",
     "parser::parse, rejected": "the first of the 100 calls of a pass finds its code in no cache and takes 12 µs, in `wast` 10; 1.55 to 1.61 with 1,000 calls",
     "Lexer::iter, collected": "both write the same pages of a vector, which the system clears: 184 to 2,872 page faults for 1 MB",
     "Token::string and so on": "the jump by a token's kind to its value is mispredicted: callgrind simulates 1.2 to 1.7 times our mispredictions for `wast`",

@@ -10,6 +10,7 @@ reason has no row.
 
 usage: benchmark_modules.py MODULE FOLDER [ENCODER] [--rounds N]     FOLDER gets the texts
        benchmark_modules.py --counts MODULE FOLDER ENCODER           measures only memory and instructions, which no load changes
+       benchmark_modules.py --instructions MODULE FOLDER ENCODER     measures only instructions, and compares the modules of those texts only
        benchmark_modules.py --times MODULE FOLDER ENCODER            measures only times
        benchmark_modules.py --reasons                                writes the reasons to docs/speed/modules.tsv
        benchmark_modules.py --check                                  checks the reasons in docs/speed/modules.tsv
@@ -40,13 +41,14 @@ WABT, ENCODER = "module, wat2wasm --no-check", "module, wast's encoder"
 
 # The reasons of ratios below the bound, of a kind in a suite or, with the call, of one of its ratios.
 AS_PACKED = "lexing and packing tokens take 56% of the instructions"
-ESCAPES = "a string is read twice: the scan for its end takes 29% to 55% of the instructions, the decoding 34% to 48%"
+ESCAPES = "a string is read twice: in data_letters the scan for its end takes 46% of the instructions, the decoding 38%"
 BELOW = {
     (TIMES, "locals"): f"{AS_PACKED}; the time is of a build before tokens were packed as the parser moves",
     (TIMES, "named_locals"): "names are inserted in a sorted map: 16% of the instructions",
     (INSTRUCTIONS, "named_locals"): "names are inserted in a sorted map: 16% of the instructions",
     (TIMES, "vectors"): f"lanes are tokens of few bytes: {AS_PACKED}",
     (INSTRUCTIONS, "vectors"): f"lanes are tokens of few bytes: {AS_PACKED}",
+    (INSTRUCTIONS, "elements"): "names are found in a sorted map: 25% of the instructions",
     (INSTRUCTIONS, "data"): ESCAPES,
     (INSTRUCTIONS, "data_letters"): ESCAPES,
 }
@@ -187,13 +189,19 @@ def times_of(text, jobs, rounds):
     return rows_of(TIMES, text, {name: statistics.median(times) * 1e3 for name, times in runs.items()}, 0)
 
 
-def counts_of(text, small, jobs, empty):
-    """Returns the rows of the memory for a text, and of the instructions for a smaller one."""
-    counts = {}
-    for name, words in jobs.items():
-        more, less = (instructions([counted if word == text else word for word in words], counted) for counted in (small, empty))
-        counts[name] = (more - less) / 1e6
-    return [*rows_of(MEMORY, text, {name: peak(words, text) for name, words in jobs.items()}, 1), *rows_of(INSTRUCTIONS, text, counts, 1)]
+def memory_of(text, jobs):
+    """Returns the rows of the memory for a text."""
+    return rows_of(MEMORY, text, {name: peak(words, text) for name, words in jobs.items()}, 1)
+
+
+def counts_of(text, given):
+    """Returns the instructions of each program for a text, by its name."""
+    return {name: instructions(words, text) for name, words in jobs_of(text, given).items()}
+
+
+def instructions_of(text, less, given):
+    """Returns the rows of the instructions for a text, without those for an empty module."""
+    return rows_of(INSTRUCTIONS, text, {name: (count - less[name]) / 1e6 for name, count in counts_of(text, given).items()}, 1)
 
 
 def head(rounds):
@@ -206,23 +214,35 @@ def head(rounds):
     yield "# suite\ttext\tcall\tours\tother\tratio\treason if a ratio of times or instructions is below 1.5"
 
 
+def jobs_of(text, given):
+    """Returns the commands of the programs for a text, by name."""
+    jobs = {"module": [given.module], "wat2wasm --no-check": ["wat2wasm", "--no-check", text, "-o", "/dev/null"]}
+    return {**jobs, "wast's encoder": [given.encoder, "once"]} if given.encoder else jobs
+
+
+def rows_for(text, small, less, given):
+    """Returns the rows that the options ask for, of a text and of the smaller one with its name. `less` has the instructions for an empty module."""
+    compared = small if given.instructions else text
+    jobs = jobs_of(compared, given)
+    if not is_same(compared, jobs, given.folder):
+        sys.exit(f"{compared}: the modules differ")
+    rows = [] if given.counts or given.instructions else times_of(text, jobs, given.rounds)
+    rows += [] if given.times or given.instructions else memory_of(text, jobs)
+    return rows + ([] if given.times else instructions_of(small, less, given))
+
+
 def measured(given):
-    """Yields the lines of the table. What is not measured is as in the table that DATA has; with `--counts`, so is the head."""
-    before = lines_of(DATA)
-    yield from (line for line in before if line[0] == "#") if given.counts else head(given.rounds)
-    empty = given.folder / "empty"
-    files = texts(given.folder)
+    """Returns the lines of the table. What is not measured is as in the table that DATA has; without times, so is the head."""
+    before, rows = lines_of(DATA), []
+    lines = [line for line in before if line[0] == "#"] if given.counts or given.instructions else list(head(given.rounds))
+    files, empty = texts(given.folder), given.folder / "empty"
     empty.write_text("(module)\n", encoding="utf-8")
+    less = {} if given.times else counts_of(empty, given)
     for text, small in files:
-        of_text = [line for line in before if line.split("\t")[1:2] == [text.stem]]
-        of_times = [line for line in of_text if line.split("\t")[0] == TIMES]
-        jobs = {"module": [given.module], "wat2wasm --no-check": ["wat2wasm", "--no-check", text, "-o", "/dev/null"]}
-        if given.encoder:
-            jobs["wast's encoder"] = [given.encoder, "once"]
-        if not is_same(text, jobs, given.folder):
-            sys.exit(f"{text}: the modules differ")
-        yield from of_times if given.counts else times_of(text, jobs, given.rounds)
-        yield from (line for line in of_text if line not in of_times) if given.times else counts_of(text, small, jobs, empty)
+        rows += rows_for(text, small, less, given)
+        print("\n".join(rows[-6:]), flush=True)
+    cell = {tuple(line.split("\t")[:3]): line for line in [*before, *rows] if line[0] != "#"}
+    return lines + [cell[key] for key in sorted(cell, key=lambda key: key[1])]
 
 
 def with_reasons(table):
@@ -258,14 +278,11 @@ def main():
     reads.add_argument("folder", nargs="?", type=pathlib.Path)
     reads.add_argument("encoder", nargs="?", type=os.path.realpath)
     reads.add_argument("--rounds", type=int, default=5)
-    for option in ("--counts", "--times", "--reasons", "--check"):
+    for option in ("--counts", "--instructions", "--times", "--reasons", "--check"):
         reads.add_argument(option, action="store_true")
     given = reads.parse_args()
     if not given.check:
-        table = lines_of(DATA) if given.reasons else []
-        for line in () if given.reasons else measured(given):
-            print(line, flush=True)
-            table.append(line)
+        table = lines_of(DATA) if given.reasons else measured(given)
         DATA.write_text("\n".join(with_reasons(table)[0]) + "\n", encoding="utf-8")
     report(lines_of(DATA))
 
