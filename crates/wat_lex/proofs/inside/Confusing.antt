@@ -54,7 +54,7 @@ set_leads (d ∷ s) c t h e =
       | inr q ↦ set_leads s c t h.1 q
     ]
 
-leads : (c : ℕ) (t : List ℕ) → is_confusing c ≡ true → leads_at (encode c ++ t) 0 ≡ true
+pub leads : (c : ℕ) (t : List ℕ) → is_confusing c ≡ true → leads_at (encode c ++ t) 0 ≡ true
 unfolding encode
 leads c t = set_leads (0x202A ∷ 0x202B ∷ 0x202D ∷ 0x202E ∷ 0x2066 ∷ 0x2067 ∷ 0x2068 ∷ 0x2069 ∷ 0x206C ∷ []) c t (refl, (refl, (refl, (refl, (refl, (refl, (refl, (refl, (refl, tt)))))))))
 

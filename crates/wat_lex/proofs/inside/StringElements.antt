@@ -1,27 +1,29 @@
 -- The elements of a string, each at its offset in the text.
-use Rattle.std.proofs.Common.{◌≡◌, ◌≢◌, ◌≤◌, ◌<◌, ◌+◌, ◌-◌, ◌*◌, ℕ, List, [], ◌∷◌, ◌++◌, length, take, drop, get_or, refl, arith, ap, sym, ◌∙◌, subst, true, false, not, ◌&&◌, length-append, inl, inr, lit<}
+use Rattle.std.proofs.Common.{◌≡◌, ◌≢◌, ◌≤◌, ◌<◌, ◌+◌, ◌-◌, ◌*◌, ◌/◌, ℕ, List, [], ◌∷◌, ◌++◌, length, take, drop, get_or, refl, arith, ap, sym, ◌∙◌, subst, Bool, true, false, cond, not, ◌&&◌, length-append, inl, inr, lit<}
 use Rattle.std.specs.Prelude.{encode_utf8, slice_index, ◌==◌, Option, Some, None, is_some}
 use Rattle.std.specs.List.{prefix_len}
 use Rattle.std.specs.Char.{digit_value}
 use Rattle.std.specs.Str.{chars, IsUtf8, IsCharBoundary}
-use Rattle.std.proofs.lemmas.Bool.{cases_Bool, both_ways, false≢true}
+use Rattle.std.proofs.lemmas.Bool.{cases_Bool, cases_lt, both_ways, false≢true}
 use Rattle.std.proofs.lemmas.Bool.Decides.{nat_tests}
 use Rattle.std.proofs.lemmas.List.{drop-drop, drop_at, take-append-drop, get_or-append-add, get_or_append_left, get_or-take, length-drop, length-take}
 use Rattle.std.proofs.lemmas.List.Sums.{prefix_len-le-length, prefix_len_passes, prefix_len_stops}
 use Rattle.std.proofs.lemmas.Str.{encodes-chars, encodes-append, chars-append, IsUtf8-take, IsUtf8-drop, IsCharBoundary-at_seam, encode_ascii}
-use lib.Utf8.{encode, encodes}
+use lib.Dec.{T, ltb, ltb→lt, lt→ltb}
+use lib.Utf8.{encode, encodes, next}
 use Rattle.wat_lex.specs.grammar.Classes.{size, Each, is_hex, is_confusing}
 use Rattle.wat_lex.specs.grammar.Strings.{Element, raw, letter, byte, letter_value, Quoted, ends, more, is_raw, is_control}
 use Rattle.wat_lex.specs.tokens.StringFaults.{StringFault, later, no_quote, control, confusing}
-use Rattle.wat_lex.specs.inside.ScannedStrings.{Escaped, Breaks, BeginsByteEscape, BeginsLetterEscape, ElementTaken, StringTaken, StringFaultFound, is_plain}
+use Rattle.wat_lex.specs.inside.ScannedStrings.{Escaped, Breaks, BeginsByteEscape, BeginsLetterEscape, BeginsPunctuation, ElementTaken, StringTaken, StringFaultFound, is_plain}
 use Rattle.wat_lex.specs.declared.lexer.scan.strings.Broken.{Broken}
 use Rattle.wat_lex.specs.declared.lexer.faults.LexError.{LexError}
 use Rattle.wat_lex.specs.declared.lexer.faults.LexError.TheVariants.{InvalidStringElement, UnexpectedEof, ConfusingUnicode}
 use Rattle.wat_lex.specs.declared.lexer.settings.Settings.{Settings}
 use Rattle.wat_lex.proofs.grammar.AsciiPrefixes.{led}
 use Rattle.wat_lex.proofs.grammar.Remainders.{element_taken, string_fault_fits}
-use Rattle.wat_lex.proofs.inside.Confusing.{lead, encode_some}
-use Rattle.wat_lex.proofs.inside.StringSteps.{Took, at_end, raw_char}
+use Rattle.wat_lex.specs.inside.Blocks.{leads_at}
+use Rattle.wat_lex.proofs.inside.Confusing.{lead, leads, encode_some}
+use Rattle.wat_lex.proofs.inside.StringSteps.{Took, took, at_end, raw_char}
 
 -- ---- one element
 
@@ -130,6 +132,48 @@ letter_taken flags text u h = by (letter_value (get_or text 1 0)) refl
     by (Some v) e =
         let l = letter_escaped flags text v u h.long h.mark e in
         record { value = v ∷ []; element = l.element; utf8 = IsUtf8-drop text 2 u l.boundary; some = omega arith; range = h.long }
+
+-- the bytes of a character, by whether it is below the least ones of two, three and four bytes
+abbrev bytes_by : Bool → Bool → Bool → ℕ → List ℕ
+bytes_by x y z c = cond x (c ∷ []) (cond y ((192 + c / 64) ∷ next c ∷ []) (cond z ((224 + c / 4096) ∷ next (c / 64) ∷ next c ∷ []) ((240 + c / 262144) ∷ next (c / 4096) ∷ next (c / 64) ∷ next c ∷ [])))
+
+-- the character whose first byte is 0xE2 has three bytes
+three_of : (x y z : Bool) (c : ℕ) → get_or (bytes_by x y z c) 0 0 ≡ 0xE2 → (T x → c < 128) → (T y → c < 2048) → (x ≡ false) × (length (bytes_by x y z c) ≡ 3)
+three_of true y z c h a b = absurd (omega (arith, h, a tt))
+three_of false true z c h a b = absurd (omega (arith, h, b tt))
+three_of false false true c h a b = (refl, refl)
+three_of false false false c h a b = absurd (omega (arith, h))
+
+three_bytes : (c : ℕ) → get_or (encode c) 0 0 ≡ 0xE2 → (128 ≤ c) × (length (encode c) ≡ 3)
+unfolding encode
+three_bytes c h =
+    let t = three_of (ltb c 128) (ltb c 2048) (ltb c 65536) c h (ltb→lt c 128) (ltb→lt c 2048) in
+    (elim (cases_lt c 128) [ inl l ↦ absurd (subst T t.0 (lt→ltb c 128 l)) | inr g ↦ g ], t.1)
+
+high_control : (c : ℕ) → 128 ≤ c → is_control c ≡ false
+high_control c l = grind (arith, nat_tests)
+
+pub punctuation_taken : (flags : Settings) (text : List ℕ) → IsUtf8 text → BeginsPunctuation text → ElementTaken flags text 3
+punctuation_taken flags text u h = by (chars text) (encodes-chars text u)
+  where
+    by : (cs : List ℕ) → encodes cs ≡ text → ElementTaken flags text 3
+    by [] e = absurd (omega (arith, h.long, ap length e))
+    by (c ∷ cs) e =
+        let rest = encodes cs in
+        let first : get_or (encode c) 0 0 ≡ 0xE2 = sym (get_or_append_left (encode c) rest 0 0 (encode_some c)) ∙ ap (λ x. get_or x 0 0) e ∙ h.lead in
+        let three = three_bytes c first in
+        let t = took text rest c u (sym e) in
+        let long : length text ≡ 3 + length rest = ap length (sym e) ∙ length-append (encode c) rest ∙ ap (λ x. x + length rest) three.1 in
+        let clear : is_confusing c ≡ false = elim (cases_Bool (is_confusing c)) [
+          | inl t ↦ absurd (both_ways (leads_at text 0) h.clear (ap (λ x. leads_at x 0) (sym e) ∙ leads c rest t))
+          | inr f ↦ f
+        ] in
+        let high = three.0 in
+        subst (ElementTaken flags text) (omega (arith, long))
+        (element_raw flags text rest c u t (omega (arith, long)) (λ a. absurd (omega (arith, high, a))) (λ a. absurd (omega (arith, high, a))) (high_control c high) (λ _. clear))
+
+    high_control : (c : ℕ) → 128 ≤ c → is_control c ≡ false
+    high_control c l = grind (arith, nat_tests)
 
 -- ---- elements up to an offset
 

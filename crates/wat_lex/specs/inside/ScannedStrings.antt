@@ -4,6 +4,7 @@ use Rattle.std.specs.Str.{chars, IsUtf8}
 use lib.Utf8.{scalar}
 use Rattle.wat_lex.specs.grammar.Classes.{size, quote, backslash, close_brace, is_hex}
 use Rattle.wat_lex.specs.grammar.Strings.{Element, Quoted, is_control, letter_value}
+use Rattle.wat_lex.specs.inside.Blocks.{leads_at}
 use Rattle.wat_lex.specs.tokens.StringFaults.{StringFault}
 use Rattle.wat_lex.specs.declared.lexer.settings.Settings.{Settings}
 use Rattle.wat_lex.specs.declared.lexer.scan.strings.Broken.{Broken}
@@ -48,6 +49,13 @@ pub record BeginsLetterEscape (text : List ℕ) : Type 0 where
   pub long : 2 ≤ length text
   pub mark : slice_index text 0 ≡ backslash
   pub letter : is_some (letter_value (slice_index text 1)) ≡ true
+
+-- The text begins with the byte 0xE2, with which a character of three bytes begins, and not with the bytes of a
+-- confusing character.
+pub record BeginsPunctuation (text : List ℕ) : Type 0 where
+  pub long : 3 ≤ length text
+  pub lead : slice_index text 0 ≡ 0xE2
+  pub clear : leads_at text 0 ≡ false
 
 -- `IsRowValue n underscore last value`: the result for the number `n` of an escape `\u{..}`. It is the error
 -- `LoneUnderscore` if the number ends in an underscore, the error `InvalidUnicodeValue` if it is not a scalar value,

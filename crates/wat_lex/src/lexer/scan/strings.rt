@@ -10,7 +10,7 @@ ghost use Rattle.wat_lex.specs.grammar.Classes.{is_hex};
 ghost use Rattle.wat_lex.specs.grammar.Strings.{letter_value, is_control};
 ghost use Rattle.wat_lex.specs.inside.ScannedStrings.{Escaped, escape_bytes, Breaks, IsRowValue};
 ghost use Rattle.wat_lex.specs.inside.ScannedStrings.{Ends, BeginsByteEscape, ElementTaken};
-ghost use Rattle.wat_lex.specs.inside.ScannedStrings.{BeginsLetterEscape};
+ghost use Rattle.wat_lex.specs.inside.ScannedStrings.{BeginsLetterEscape, BeginsPunctuation};
 ghost use Rattle.wat_lex.specs.inside.ScannedStrings.{StringTaken, StringFaultFound};
 
 use crate::lexer::faults::{LexError, LexFault};
@@ -260,6 +260,19 @@ fn is_letter_escape(text: &[u8]) -> bool
     }
 }
 
+/// Returns `true` if a character of three bytes is at the start that begins with 0xE2, as general
+/// punctuation does, and that has other bytes than the confusing characters.
+fn is_punctuation(text: &[u8]) -> bool
+    ensures { MatchBool result (BeginsPunctuation text.now) (BeginsPunctuation text.now → ⊥) }
+{
+    match text {
+        [0xe2, second, third, ..] => {
+            !(matches!(*second, 0x80 | 0x81) && matches!(*third, 0xa6..=0xae))
+        }
+        _ => false,
+    }
+}
+
 /// Returns a lexical error at an offset from the start of the scanned text.
 fn fault_at(offset: usize, error: LexError) -> Result<usize, LexFault>
     ensures { result ≡ Err (record { offset = offset; error = error }) }
@@ -303,6 +316,7 @@ pub fn string_len(text: &str, flags: Settings) -> Result<usize, LexFault>
             [b'"', ..] => return Ok(at + 1),
             [first, ..] if is_plain(*first) => at += plain_len(&bytes[at..]),
             rest if is_letter_escape(rest) => at += 2,
+            rest if is_punctuation(rest) => at += 3,
             _ => match element_len(&text[at..], flags) {
                 Ok(len) => at += len,
                 Err(fault) => return fault_at(at + fault.offset, fault.error),

@@ -2,8 +2,8 @@ use Rattle.std.proofs.Common.{sym, ap, ◌∙◌, subst, ◌≡◌, ◌≤◌, �
 use Rattle.std.proofs.lemmas.Bool.Decides.{when_true}
 use Rattle.std.proofs.lemmas.List.{take_rest, length-drop}
 use Rattle.std.specs.List.{prefix_len}
-use Rattle.wat_lex.specs.inside.ScannedStrings.{ElementTaken, BeginsByteEscape, BeginsLetterEscape, is_plain}
-use Rattle.wat_lex.proofs.inside.StringElements.{Continues, element_more, byte_taken, letter_taken, closed, plain_more}
+use Rattle.wat_lex.specs.inside.ScannedStrings.{ElementTaken, BeginsByteEscape, BeginsLetterEscape, BeginsPunctuation, is_plain}
+use Rattle.wat_lex.proofs.inside.StringElements.{Continues, element_more, byte_taken, letter_taken, punctuation_taken, closed, plain_more}
 use Rattle.wat_lex.proofs.lexer.scan.strings.string_len.Goals as goal
 use Rattle.wat_lex.proofs.lexer.scan.strings.string_len.Goals.{After-plain_len-at}
 
@@ -46,6 +46,14 @@ elements-preserved-then-is_letter_escape c =
     let h = when_true (BeginsLetterEscape (take (length bs - c.elements.at) (drop c.elements.at bs))) _ c.if-is_letter_escape.true c.is_letter_escape.ensures in
     element_more c.args.flags text c.elements.at 2 c.elements.invariant
     (letter_taken c.args.flags (drop c.elements.at text) (let i = c.elements.invariant in i.utf8) (subst BeginsLetterEscape (rest_is text bs c.elements.at c.as_bytes-bytes.ensures.value) h))
+
+pub elements-preserved-then-is_punctuation : goal.elements-preserved-then-is_punctuation
+elements-preserved-then-is_punctuation c =
+    let text = c.args.text.now in
+    let bs = c.as_bytes-bytes.result.now in
+    let h = when_true (BeginsPunctuation (take (length bs - c.elements.at) (drop c.elements.at bs))) _ c.if-is_punctuation.true c.is_punctuation.ensures in
+    element_more c.args.flags text c.elements.at 3 c.elements.invariant
+    (punctuation_taken c.args.flags (drop c.elements.at text) (let i = c.elements.invariant in i.utf8) (subst BeginsPunctuation (rest_is text bs c.elements.at c.as_bytes-bytes.ensures.value) h))
 
 pub elements-preserved : goal.elements-preserved
 elements-preserved c =

@@ -15,6 +15,10 @@ const LENIENT: Settings = Settings {
     strict: false,
 };
 
+/// The room that is asked for at once for a value, in bytes. A longer value grows by doubling, since
+/// it can have a third of the bytes of its escapes.
+const FIRST_CAPACITY: usize = 64;
+
 /// The value of each byte as a hexadecimal digit, or 16 if it is not one.
 const DIGIT_VALUES: [u8; 256] = [
     16, 16, 16, 16, 16, 16, 16, 16, 16, 16, 16, 16, 16, 16, 16, 16, 16, 16, 16, 16, 16, 16, 16, 16,
@@ -206,7 +210,7 @@ pub fn first_escape(elements: &str) -> (EscapeValue, &str) {
 /// ensures { IfOk result (λ value. Quoted lenient (chars elements.now) value.items []) }
 /// ```
 pub fn unescaped(alloc: Global, elements: &str) -> Result<Vec<u8>, AllocError> {
-    let mut value = Vec::new(alloc);
+    let mut value = Vec::with_capacity(alloc, elements.len().min(FIRST_CAPACITY))?;
     let mut rest = elements;
     'elements: loop {
         if let Some((byte, after)) = byte_escape(rest) {
