@@ -179,90 +179,72 @@ fn plain_len_in_line(text: &[u8]) -> usize
     near + plain_by_four_blocks(&text[near..])
 }
 
-/// Returns two bit masks of the 16 bytes from index `i` on: those at which `(;` begins, and those
-/// at which `;)` begins. The lowest bit is the first byte's.
+/// Returns a bit mask of the 16 bytes from index `i` on at which `(;` or `;)` begins. The lowest bit
+/// is the first byte's.
 #[inline(always)]
-fn delimiters(text: &[u8], i: usize) -> (u64, u64)
+fn delimiters(text: &[u8], i: usize) -> u64
     requires { i + 17 ≤ length text.now }
-    ensures opens { result.0 ≡ passing (opens_at text.now) i 16 }
-    ensures closes { result.1 ≡ passing (closes_at text.now) i 16 }
+    ensures { result ≡ passing (delimits text.now) i 16 }
 {
     let here = block_at(text, i);
     let next = block_at(text, i + 1);
     let opens = equal_to(here, b'(') & equal_to(next, b';');
     let closes = equal_to(here, b';') & equal_to(next, b')');
-    (opens, closes)
+    opens | closes
 }
 
-/// Returns an index from `from` on before which neither `(;` nor `;)` begins: that of the first of
-/// them, or one within 16 bytes of the end of the text.
+/// Reads the delimiters that begin in the 16 bytes from index `from` on, whose mask is `mask`, where
+/// `opened` comments are open. Returns the number of comments that are open after them, and an
+/// index after these bytes. If all are closed, returns 0 and the index after the last one.
 #[inline(always)]
-fn next_delimiter(text: &[u8], from: usize) -> usize
-    requires { from ≤ length text.now }
-    ensures on { from ≤ result }
-    ensures range { result ≤ length text.now }
-    ensures short { from < length text.now → result < length text.now }
-    ensures none { (k : ℕ) → from ≤ k → k < result → delimits text.now k ≡ false }
-{
-    let mut i = from;
-    while text.len() - i > 16 {
-        let (opens, closes) = delimiters(text, i);
-        let found = opens | closes;
-        if found != 0 {
-            return i + found.trailing_zeros() as usize;
-        }
-        i += 16;
-    }
-    i
-}
-
-/// Skips blocks inside nested comments, of which `opened` must be open at index `place`. Returns
-/// the number of comments that are open at a later index, and that index. Stops if at most 16 are
-/// open, which a block might close, at a block with `(;)`, of whose two delimiters only the first
-/// counts, or within 16 bytes of the end of the text.
-#[inline(never)]
-fn past_blocks(text: &[u8], place: usize, opened: usize) -> (usize, usize)
+fn past_delimiters(text: &[u8], from: usize, opened: usize, mask: u64) -> (usize, usize)
     requires some { 0 < opened }
-    requires few { opened ≤ place + 1 }
-    requires range { place ≤ length text.now }
-    requires reaches { Reaches text.now opened (drop place text.now) }
-    ensures some { 0 < result.0 }
+    requires few { opened ≤ from + 1 }
+    requires range { from + 17 ≤ length text.now }
+    requires mask { mask ≡ passing (delimits text.now) from 16 }
+    requires reaches { Reaches text.now opened (drop from text.now) }
     ensures few { result.0 ≤ result.1 + 1 }
-    ensures on { place ≤ result.1 }
+    ensures on { from < result.1 }
     ensures range { result.1 ≤ length text.now }
     ensures reaches { Reaches text.now result.0 (drop result.1 text.now) }
 {
     let mut level = opened;
-    let mut i = place;
-    while level > 16 && text.len() - i > 16 {
-        let (opens, closes) = delimiters(text, i);
-        if opens & (closes >> 1) != 0 {
-            return (level, i);
+    let mut i = from;
+    let mut found = mask;
+    while found != 0 {
+        let skipped = found.trailing_zeros();
+        i += skipped as usize;
+        if text[i] == b'(' {
+            level += 1;
+        } else {
+            level -= 1;
         }
-        level += opens.count_ones() as usize;
-        level -= closes.count_ones() as usize;
-        i += 16 + ((opens | closes) >> 15) as usize;
+        i += 2;
+        if level == 0 {
+            return (0, i);
+        }
+        found = found >> skipped >> 2;
     }
-    (level, i)
+    (level, i.max(from + 16))
 }
 
 /// Returns the length in bytes of a block comment after its `(;`, including its `;)`, or `None` if
-/// it is unterminated.
-fn closing_len(text: &[u8]) -> Option<usize>
+/// it is unterminated. The number of comments that are open at index `from` is `opened`.
+fn closing_len_by_byte(text: &[u8], from: usize, opened: usize) -> Option<usize>
+    requires some { 0 < opened }
+    requires few { opened ≤ from + 1 }
+    requires range { from ≤ length text.now }
+    requires reaches { Reaches text.now opened (drop from text.now) }
     ensures range { IfSome result (λ n. n ≤ length text.now) }
     ensures found { IfSome result (λ n. Closes text.now (drop n text.now)) }
     ensures none { IfNone result ((r : List ℕ) → Closes text.now r → ⊥) }
 {
-    let mut level = 1usize;
-    let mut i = 0usize;
+    let mut level = opened;
+    let mut i = from;
     while i < text.len() {
-        i = next_delimiter(text, i);
         if i + 1 < text.len() && text[i] == b'(' && text[i + 1] == b';' {
             level += 1;
             i += 2;
-            if level > 16 {
-                (level, i) = past_blocks(text, i, level);
-            }
         } else if i + 1 < text.len() && text[i] == b';' && text[i + 1] == b')' {
             level -= 1;
             i += 2;
@@ -274,6 +256,29 @@ fn closing_len(text: &[u8]) -> Option<usize>
         }
     }
     None
+}
+
+/// Returns the length in bytes of a block comment after its `(;`, including its `;)`, or `None` if
+/// it is unterminated.
+fn closing_len(text: &[u8]) -> Option<usize>
+    ensures range { IfSome result (λ n. n ≤ length text.now) }
+    ensures found { IfSome result (λ n. Closes text.now (drop n text.now)) }
+    ensures none { IfNone result ((r : List ℕ) → Closes text.now r → ⊥) }
+{
+    let mut level = 1usize;
+    let mut i = 0usize;
+    while text.len() - i > 16 {
+        let found = delimiters(text, i);
+        if found == 0 {
+            i += 16;
+        } else {
+            (level, i) = past_delimiters(text, i, level, found);
+            if level == 0 {
+                return Some(i);
+            }
+        }
+    }
+    closing_len_by_byte(text, i, level)
 }
 
 /// Returns the length in bytes of the comment at the start, or an error if it has a confusing

@@ -1,4 +1,4 @@
-use Rattle.std.proofs.Common.{sym, ap, ap₂, ◌∙◌, subst, ◌≡◌, ◌<◌, ◌==◌, ◌∷◌, [], ℕ, Bool, List, true, false, not, map, length, get_or, refl, arith}
+use Rattle.std.proofs.Common.{sym, ap, ap₂, ◌∙◌, subst, ◌≡◌, ◌<◌, ◌==◌, ◌∷◌, [], ℕ, Bool, List, true, false, not, map, get_or, refl, arith}
 use Rattle.std.proofs.lemmas.Bool.{both_ways}
 use Rattle.std.proofs.lemmas.List.Sums.{prefix_len_passes, prefix_len_stops}
 use Rattle.std.specs.List.{prefix_len}
