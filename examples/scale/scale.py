@@ -22,6 +22,7 @@ import argparse
 import collections
 import contextlib
 import csv
+import io
 import pathlib
 import re
 import resource
@@ -51,29 +52,44 @@ class Limit(WorkerPlugin):
         resource.setrlimit(resource.RLIMIT_AS, (pages * resource.getpagesize() + self.memory, hard))
 
 
+class Part:
+    """The rows of some texts as CSV, the number of texts for each outcome and error, and the frequencies of all keywords."""
+
+    def __init__(self, rows):
+        self.outcomes, self.keywords = collections.Counter(), collections.Counter()
+        lines = io.StringIO()
+        writer = csv.DictWriter(lines, COLUMNS, lineterminator="\n")
+        for row, keywords in rows:
+            writer.writerow(row)
+            self.outcomes[row["outcome"], row.get("error", "")] += 1
+            self.keywords.update(keywords)
+        self.lines = lines.getvalue()
+
+
 def urls_of(source):
     """Returns the URLs of the texts of a folder, or those that a file lists."""
     if source.is_dir():
-        return [path.resolve().as_uri() for path in sorted(source.rglob("*.wa*t")) if path.suffix in (".wat", ".wast") and path.is_file()]
+        return [path.as_uri() for path in sorted(source.resolve().rglob("*.wa*t")) if path.suffix in (".wat", ".wast") and path.is_file()]
     return [line.strip() for line in source.read_text(encoding="utf-8").split("\n") if line.strip()]
 
 
 def keywords_of(text, rows):
-    """Returns the frequencies of the keywords of a text, the most frequent first."""
+    """Returns the frequencies of the keywords of a text."""
     rows = rows[rows["kind"] == wat_lex.Kind.KEYWORD]
     offsets, ends = rows["offset"].tolist(), (rows["offset"] + rows["length"]).tolist()
-    counts = collections.Counter(text[offset:end].decode() for offset, end in zip(offsets, ends))
-    return " ".join(f"{word}:{count}" for word, count in sorted(counts.items(), key=lambda item: (-item[1], item[0])))
+    return collections.Counter(text[offset:end].decode() for offset, end in zip(offsets, ends))
 
 
 def columns_of(text):
-    """Returns the columns of a text from `outcome` on."""
+    """Returns the columns of a text from `outcome` on, and the frequencies of its keywords."""
     try:
         rows, row = wat_lex.tokens(text, **SETTINGS), compiled(text)
     except wat_lex.LexError as error:
         rows, row = wat_lex.tokens(text, partial=True, **SETTINGS), error_row("lexical error", error.fault.name, error)
     significant = rows[rows["kind"] > wat_lex.Kind.WHITESPACE]
-    return row | {"tokens": len(rows), "significant": len(significant), "keywords": keywords_of(text, significant)}
+    keywords = keywords_of(text, significant)
+    listed = " ".join(f"{word}:{count}" for word, count in sorted(keywords.items(), key=lambda item: (-item[1], item[0])))
+    return row | {"tokens": len(rows), "significant": len(significant), "keywords": listed}, keywords
 
 
 def compiled(text):
@@ -96,56 +112,57 @@ def error_row(outcome, kind, error):
 
 
 def row_of(url, most_bytes):
-    """Returns the row of a text. Whatever happens when the text is read is its outcome."""
+    """Returns the row of a text, and the frequencies of its keywords. Whatever happens when the text is read is its outcome."""
     row = {"url": url}
     try:
         with urllib.request.urlopen(url, timeout=SECONDS) as source:
             text = source.read(most_bytes + 1)
         row["bytes"] = min(len(text), most_bytes)
-        return row | (columns_of(text) if len(text) <= most_bytes else {"outcome": "too long"})
+        columns, keywords = columns_of(text) if len(text) <= most_bytes else ({"outcome": "too long"}, {})
+        return row | columns, keywords
     except UnicodeDecodeError as error:
-        return row | {"outcome": "not UTF-8", "error": error.reason, "offset": error.start}
+        return row | {"outcome": "not UTF-8", "error": error.reason, "offset": error.start}, {}
     except MemoryError:
-        return row | {"outcome": "memory"}
+        return row | {"outcome": "memory"}, {}
     except (OSError, ValueError) as error:
-        return row | {"outcome": "unreadable", "error": type(error).__name__, "message": str(error)}
+        return row | {"outcome": "unreadable", "error": type(error).__name__, "message": str(error)}, {}
 
 
-def rows_of(urls, most_bytes):
-    """Returns the rows of a batch of texts."""
-    return [row_of(url, most_bytes) for url in urls]
+def part_of(urls, most_bytes):
+    """Returns the part of the table for a batch of texts. Workers make the lines, so that they do not wait for the client."""
+    return Part(row_of(url, most_bytes) for url in urls)
 
 
-def result_of(client, future, urls, most_bytes):
-    """Returns the rows of a batch. If several workers died that read it, its texts are read one after another, so that only the cause is blamed."""
+def parts_of(client, future, urls, most_bytes):
+    """Yields the parts of a batch: one. If several workers died that read it, its texts are read one after another, so that only the cause is blamed."""
     try:
-        return future.result()
+        yield future.result()
     except KilledWorker:
         if len(urls) == 1:
-            return [{"url": urls[0], "outcome": "worker died"}]
-        return [row for url in urls for row in result_of(client, client.submit(rows_of, [url], most_bytes), [url], most_bytes)]
+            yield Part([({"url": urls[0], "outcome": "worker died"}, {})])
+            return
+        for url in urls:
+            yield from parts_of(client, client.submit(part_of, [url], most_bytes), [url], most_bytes)
 
 
 def table(client, urls, batch, most_bytes):
-    """Yields the rows of the texts, in the order of the URLs."""
+    """Yields the parts of the table, in the order of the URLs."""
     batches = [urls[start : start + batch] for start in range(0, len(urls), batch)]
-    futures = client.map(rows_of, batches, most_bytes=most_bytes)
+    futures = client.map(part_of, batches, most_bytes=most_bytes)
     futures.reverse()
     for urls in batches:
-        yield from result_of(client, futures.pop(), urls, most_bytes)
+        yield from parts_of(client, futures.pop(), urls, most_bytes)
 
 
-def written(rows, path):
-    """Writes the rows as CSV, and returns the number of texts for each outcome and error, and the frequencies of all keywords."""
+def written(parts, path):
+    """Writes the table as CSV, and returns the number of texts for each outcome and error, and the frequencies of all keywords."""
     outcomes, keywords = collections.Counter(), collections.Counter()
     with open(path, "w", encoding="utf-8", newline="") as file:
-        writer = csv.DictWriter(file, COLUMNS, lineterminator="\n")
-        writer.writeheader()
-        for row in rows:
-            writer.writerow(row)
-            outcomes[row["outcome"], row.get("error", "")] += 1
-            for word, _, count in (part.rpartition(":") for part in row.get("keywords", "").split()):
-                keywords[word] += int(count)
+        file.write(",".join(COLUMNS) + "\n")
+        for part in parts:
+            file.write(part.lines)
+            outcomes.update(part.outcomes)
+            keywords.update(part.keywords)
     return outcomes, keywords
 
 

@@ -1,6 +1,7 @@
 """Tests of the job: each outcome, one table for each kind of cluster, and workers that die."""
 import csv
 import http.server
+import io
 import os
 import pathlib
 import signal
@@ -68,6 +69,11 @@ def table(path):
         return list(csv.DictReader(file))
 
 
+def rows_of(parts):
+    """Returns the rows of the parts of a table."""
+    return list(csv.DictReader(io.StringIO("".join(part.lines for part in parts), newline=""), scale.COLUMNS))
+
+
 def is_gone(process):
     """Returns `True` if a process ends in 60 seconds."""
     for _ in range(600):
@@ -114,14 +120,14 @@ def test_kinds_of_syntax_errors(message, kind):
 def test_a_killed_worker_loses_nothing(server, cluster):
     urls = [f"{server}/many/{number}.txt" for number in range(400)]
     with Client(cluster) as client:
-        wanted = list(scale.table(client, urls, 5, MOST_BYTES))
+        wanted = rows_of(scale.table(client, urls, 5, MOST_BYTES))
         assert len({row["outcome"] for row in wanted}) == 3 and len(wanted) == len(urls)
         workers = client.run(os.getpid)
-        rows, found = scale.table(client, urls[::-1], 5, MOST_BYTES), []
-        found += [next(rows) for _ in range(len(urls) // 2)]
+        parts = scale.table(client, urls[::-1], 5, MOST_BYTES)
+        found = [next(parts) for _ in range(len(urls) // 10)]
         os.kill(min(workers.values()), signal.SIGKILL)
-        found += rows
-        assert found == wanted[::-1] and is_gone(min(workers.values()))
+        found += parts
+        assert rows_of(found) == wanted[::-1] and is_gone(min(workers.values()))
 
 
 class Fragile:
@@ -138,11 +144,11 @@ class Fragile:
 
     def result(self):
         if self.deadly in self.urls:
-            raise KilledWorker("rows_of", None, 3)
-        return [{"url": url, "outcome": "ok"} for url in self.urls]
+            raise KilledWorker("part_of", None, 3)
+        return scale.Part(({"url": url, "outcome": "ok"}, {}) for url in self.urls)
 
 
 @pytest.mark.parametrize("batch", [1, 2, 3, 9])
 def test_a_text_whose_workers_die_is_a_row(batch):
-    rows = list(scale.table(Fragile("c"), list("abcde"), batch, MOST_BYTES))
+    rows = rows_of(scale.table(Fragile("c"), list("abcde"), batch, MOST_BYTES))
     assert [(row["url"], row["outcome"]) for row in rows] == [("a", "ok"), ("b", "ok"), ("c", "worker died"), ("d", "ok"), ("e", "ok")]
