@@ -97,8 +97,9 @@ def main():
     paths = texts(given.work.resolve() / "texts", given.texts, given.real)
     if given.prepare:
         return 0
-    urls, tables = [path.as_uri() for path in paths], []
-    print(f"{len(paths):,} texts, {sum(path.stat().st_size for path in paths):,} bytes; load {os.getloadavg()[0]:.1f}, {os.cpu_count()} processors")
+    # Reads each text once, so that every run finds them in memory.
+    urls, tables, size = [path.as_uri() for path in paths], [], sum(len(path.read_bytes()) for path in paths)
+    print(f"{len(paths):,} texts, {size:,} bytes; load {os.getloadavg()[0]:.1f}, {os.cpu_count()} processors")
     print("| reader | texts | texts for each second | processor time of a text, ms |\n|---|---|---|---|")
     for workers in WORKERS:
         tables.append(given.work / f"table-{workers}.csv")
