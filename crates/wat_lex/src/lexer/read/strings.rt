@@ -24,8 +24,8 @@ const LENIENT: Settings = Settings {
     strict: false,
 };
 
-/// The room that is asked for at once for a value, in bytes. A longer value grows by doubling, since
-/// it can have a third of the bytes of its escapes.
+/// The capacity in bytes that a value has at first, unless its text is shorter. A longer value
+/// grows by doubling, since it can have a third of the bytes of its escapes.
 const FIRST_CAPACITY: usize = 64;
 
 /// The value of each byte as a hexadecimal digit, or 16 if it is not one.

@@ -179,8 +179,8 @@ fn plain_len_in_line(text: &[u8]) -> usize
     near + plain_by_four_blocks(&text[near..])
 }
 
-/// Returns a bit mask of the 16 bytes from index `i` on at which `(;` or `;)` begins. The lowest bit
-/// is the first byte's.
+/// Returns a bit mask of the 16 bytes from index `i` on at which `(;` or `;)` begins. The lowest
+/// bit is the first byte's.
 #[inline(always)]
 fn delimiters(text: &[u8], i: usize) -> u64
     requires { i + 17 ≤ length text.now }
@@ -193,9 +193,9 @@ fn delimiters(text: &[u8], i: usize) -> u64
     opens | closes
 }
 
-/// Reads the delimiters that begin in the 16 bytes from index `from` on, whose mask is `mask`, where
-/// `opened` comments are open. Returns the number of comments that are open after them, and an
-/// index after these bytes. If all are closed, returns 0 and the index after the last one.
+/// Reads the delimiters that begin in the 16 bytes from index `from` on, whose mask is `mask`.
+/// `opened` comments are open before them. Returns the number of comments that are open after them,
+/// and an index after these bytes. If all are closed, returns 0 and the index after the last one.
 #[inline(always)]
 fn past_delimiters(text: &[u8], from: usize, opened: usize, mask: u64) -> (usize, usize)
     requires some { 0 < opened }

@@ -192,8 +192,8 @@ fn plain_len_in_line(text: &[u8]) -> usize {
     near + plain_by_four_blocks(&text[near..])
 }
 
-/// Returns a bit mask of the 16 bytes from index `i` on at which `(;` or `;)` begins. The lowest bit
-/// is the first byte's.
+/// Returns a bit mask of the 16 bytes from index `i` on at which `(;` or `;)` begins. The lowest
+/// bit is the first byte's.
 ///
 /// # Proved
 ///
@@ -210,9 +210,9 @@ fn delimiters(text: &[u8], i: usize) -> u64 {
     opens | closes
 }
 
-/// Reads the delimiters that begin in the 16 bytes from index `from` on, whose mask is `mask`, where
-/// `opened` comments are open. Returns the number of comments that are open after them, and an
-/// index after these bytes. If all are closed, returns 0 and the index after the last one.
+/// Reads the delimiters that begin in the 16 bytes from index `from` on, whose mask is `mask`.
+/// `opened` comments are open before them. Returns the number of comments that are open after them,
+/// and an index after these bytes. If all are closed, returns 0 and the index after the last one.
 ///
 /// # Proved
 ///
