@@ -54,7 +54,7 @@ BELOW = {
     ("line_20", "Lexer::iter, collected"): BY_32,
     "strings_typographic": "characters of general punctuation, among which are the bidirectional controls, are read one by one",
     "strings_u": "the digits of an escape are read one by one: half of the instructions",
-    "block_nests": "delimiters are few bytes apart, so that a search by 16 bytes advances by few",
+    "block_nests": "delimiters are few bytes apart, and the number of those of 16 bytes is mispredicted",
     "reserved": "runs of characters and strings in a lexeme are a call each, of few bytes",
     "integers_underscored": UNDERSCORES,
     "hex_underscored": UNDERSCORES,
@@ -204,7 +204,8 @@ def measure(work, rounds):
     if "KINDS" not in os.environ:
         return lines
     cell = {tuple(line.split("\t")[1:3]): line for line in lines if not line.startswith("#")}
-    return [cell.get(tuple(line.split("\t")[1:3]), line) for line in lines_of(DATA)]
+    old, note = lines_of(DATA), f"# {' '.join(chosen())}: {lines[0].removeprefix('# ').rstrip(',')}."
+    return [*(line for line in old if line.startswith("#")), note, *(cell.get(tuple(line.split("\t")[1:3]), line) for line in old if line[0] != "#")]
 
 
 def lines_of(data):
