@@ -155,6 +155,29 @@ fn what_is_plain_takes_no_memory() {
     assert_eq!(without_memory(|| parser::parse::<u32>(&buffer).unwrap()), 1);
 }
 
+/// Checks that a name is unregistered, and no earlier peek is kept, if the memory to defer its unregistration is refused.
+#[test]
+fn a_name_is_unregistered_without_memory() {
+    let text = "(@note) x";
+    let registers: Call = |parser| {
+        drop(parser.register_annotation("note"));
+        Ok(())
+    };
+    let peeks: Call = |parser| {
+        let registered = parser.register_annotation("note");
+        assert!(parser.peek::<LParen>()?);
+        drop(registered);
+        assert!(!parser.peek::<LParen>()?);
+        Ok(())
+    };
+    let most = asked(text, registers, usize::MAX).1;
+    for granted in [most, most - 1] {
+        let (answer, asked) = asked(text, peeks, granted);
+        assert!(answer.is_ok(), "{granted}");
+        assert_eq!(asked, most, "{granted}");
+    }
+}
+
 fn peeks<const N: usize>(parser: Parser<'_>) -> Result<()> {
     let _registered = parser.register_annotation("note");
     for _ in 0..N {
