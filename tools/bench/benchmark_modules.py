@@ -10,12 +10,15 @@ reason has no row.
 
 usage: benchmark_modules.py MODULE FOLDER [ENCODER] [--rounds N]     FOLDER gets the texts
        benchmark_modules.py --counts MODULE FOLDER ENCODER           measures only memory and instructions, which no load changes
-       benchmark_modules.py --instructions MODULE FOLDER ENCODER     measures only instructions, and compares the modules of those texts only
+       benchmark_modules.py --instructions MODULE FOLDER ENCODER [--jobs N]
+                                                                     measures only instructions, of N texts at a time, and compares the modules of
+                                                                     those texts only
        benchmark_modules.py --times MODULE FOLDER ENCODER            measures only times
        benchmark_modules.py --reasons                                writes the reasons to docs/speed/modules.tsv
        benchmark_modules.py --check                                  checks the reasons in docs/speed/modules.tsv
 """
 import argparse
+import concurrent.futures
 import datetime
 import os
 import pathlib
@@ -24,6 +27,7 @@ import re
 import statistics
 import subprocess
 import sys
+import tempfile
 
 sys.dont_write_bytecode = True
 sys.path.append(str(pathlib.Path(__file__).resolve().parents[1] / "differential"))
@@ -37,20 +41,38 @@ BOUND = 1.5
 # The number of parts of a text of which one is read to count instructions.
 PART = 10
 TIMES, MEMORY, INSTRUCTIONS = "modules", "memory, modules", "instructions, modules"
+# The line of the table with the commit at which instructions were counted, and that with the names of its columns.
+COUNTED = "# Instructions, in 10^6:"
+COLUMNS = "# suite\ttext\tcall\tours\tother\tratio\treason if a ratio of times or instructions is below 1.5"
 WABT, ENCODER = "module, wat2wasm --no-check", "module, wast's encoder"
 
-# The reasons of ratios below the bound, of a kind in a suite or, with the call, of one of its ratios.
-AS_PACKED = "lexing and packing tokens take 56% of the instructions"
-ESCAPES = "a string is read twice: in data_letters the scan for its end takes 46% of the instructions, the decoding 38%"
+# The reasons of ratios below the bound, of a kind in a suite or, with the call, of one of its ratios. Percentages are of our instructions.
+AS_PACKED = "lexing and packing tokens take {}%"
+IN_MAP = "names in a sorted map take {}%"
+IN_MEMORY = "copies and allocations of fields and vectors take {}%"
+SECTION = "the name section, which wat2wasm does not write, takes {}%"
+ESCAPES = "a string is read twice: the scan for its end takes {}%, the decoding {}%"
+SHORT_TOKENS = "tokens have few bytes: {}"
+
+
+def reason(parts):
+    """Returns a reason of parts, each with its percentage."""
+    return "; ".join(part.format(percentage) for part, percentage in parts.items())
+
+
 BELOW = {
-    (TIMES, "locals"): f"{AS_PACKED}; the time is of a build before tokens were packed as the parser moves",
-    (TIMES, "named_locals"): "names are inserted in a sorted map: 16% of the instructions",
-    (INSTRUCTIONS, "named_locals"): "names are inserted in a sorted map: 16% of the instructions",
-    (TIMES, "vectors"): f"lanes are tokens of few bytes: {AS_PACKED}",
-    (INSTRUCTIONS, "vectors"): f"lanes are tokens of few bytes: {AS_PACKED}",
-    (INSTRUCTIONS, "elements"): "names are found in a sorted map: 25% of the instructions",
-    (INSTRUCTIONS, "data"): ESCAPES,
-    (INSTRUCTIONS, "data_letters"): ESCAPES,
+    (TIMES, "locals"): f"{AS_PACKED.format(56)}; the time is of a build before tokens were packed as the parser moves",
+    (TIMES, "named_locals"): reason({IN_MAP: 16}),
+    (TIMES, "vectors"): SHORT_TOKENS.format(AS_PACKED.format(56)),
+    (INSTRUCTIONS, "calls", WABT): reason({IN_MEMORY: 24, IN_MAP: 21, AS_PACKED: 20, SECTION: 4}),
+    (INSTRUCTIONS, "data", WABT): ESCAPES.format(40, 46),
+    (INSTRUCTIONS, "data_letters", WABT): ESCAPES.format(46, 38),
+    (INSTRUCTIONS, "elements", ENCODER): reason({IN_MAP: 39, AS_PACKED: 35}),
+    (INSTRUCTIONS, "folded", ENCODER): SHORT_TOKENS.format(AS_PACKED.format(49)),
+    (INSTRUCTIONS, "globals", WABT): reason({AS_PACKED: 35, IN_MEMORY: 20, IN_MAP: 14, SECTION: 4}),
+    (INSTRUCTIONS, "imports", WABT): reason({AS_PACKED: 37, IN_MEMORY: 19, IN_MAP: 13, SECTION: 4}),
+    (INSTRUCTIONS, "named_locals", WABT): reason({AS_PACKED: 49, IN_MAP: 21, IN_MEMORY: 12, SECTION: 4}),
+    (INSTRUCTIONS, "vectors", WABT): SHORT_TOKENS.format(AS_PACKED.format(57)),
 }
 
 VALUES = ["i32", "i64", "f32", "f64"]
@@ -121,15 +143,17 @@ def kinds(rng, part):
     }
 
 
-def texts(folder):
-    """Writes all texts to the folder, and smaller ones to a folder in it, and returns the files of both: the second is the first for real texts."""
+def texts(folder, is_small):
+    """Writes the texts to the folder, unless only small ones are needed, and smaller ones to a folder in it. Returns both files of each text: a real
+    text has no smaller one."""
     small = folder / "small"
     small.mkdir(parents=True, exist_ok=True)
-    for place, part in ((folder, 1), (small, PART)):
+    for place, part in ([] if is_small else [(folder, 1)]) + [(small, PART)]:
         for name, text in kinds(random.Random(7), part).items():
             (place / f"{name}.wat").write_text(text, encoding="utf-8")
     linked(folder)
-    return [(text, small / text.name if (small / text.name).exists() else text) for text in sorted(folder.glob("*.wat"))]
+    written = {text.name: text for text in [*small.glob("*.wat"), *folder.glob("*.wat")]}
+    return [(text, small / name if (small / name).exists() else text) for name, text in sorted(written.items())]
 
 
 def run(words, text, out=subprocess.DEVNULL):
@@ -151,17 +175,16 @@ def peak(words, text):
     return int(said.stderr) * 1024 / 1e6
 
 
-def made(words, text, folder):
+def made(words, text):
     """Returns the bytes that a process writes for a text."""
-    out = folder / "made"
-    with open(out, "wb") as stream:
-        run([out if word == "/dev/null" else word for word in words], text, subprocess.DEVNULL if "/dev/null" in words else stream)
-    return out.read_bytes()
+    with tempfile.NamedTemporaryFile() as out:
+        run([out.name if word == "/dev/null" else word for word in words], text, subprocess.DEVNULL if "/dev/null" in words else out)
+        return pathlib.Path(out.name).read_bytes()
 
 
-def is_same(text, jobs, folder):
+def is_same(text, jobs):
     """Returns `True` if all programs write the same module, except for a section of names."""
-    ours, *others = (made(words, text, folder) for words in jobs.values())
+    ours, *others = (made(words, text) for words in jobs.values())
     return all(agreement(ours, other)[0] in ("the same bytes", "the same, spelled otherwise") for other in others)
 
 
@@ -204,14 +227,20 @@ def instructions_of(text, less, given):
     return rows_of(INSTRUCTIONS, text, {name: (count - less[name]) / 1e6 for name, count in counts_of(text, given).items()}, 1)
 
 
-def head(rounds):
-    """Yields the lines with the date, the commit, the machine and the versions of the programs."""
-    known = pathlib.Path("/proc/cpuinfo").read_text(encoding="utf-8").splitlines()
-    model = next(line.split(": ")[1].strip() for line in known if line.startswith("model name"))
-    commit = output("git", "rev-parse", "--short", "HEAD").strip()
-    yield f"# {datetime.date.today()}, commit {commit}, {model}, {os.cpu_count()} processors, load {os.getloadavg()[0]:.1f},"
-    yield f"# wabt {output('wat2wasm', '--version').strip()}, wast 222.0.0; {rounds} rounds in turn; medians; milliseconds, 10^6 bytes, 10^6 instructions"
-    yield "# suite\ttext\tcall\tours\tother\tratio\treason if a ratio of times or instructions is below 1.5"
+def head(given, before):
+    """Yields the lines with the date, the commit, the machine and the versions of the programs. Those of what is not measured are as in the table."""
+    today, commit = datetime.date.today(), output("git", "rev-parse", "--short", "HEAD").strip()
+    if given.counts or given.instructions:
+        yield from (line for line in before if line[0] == "#" and not line.startswith((COUNTED, COLUMNS)))
+    else:
+        known = pathlib.Path("/proc/cpuinfo").read_text(encoding="utf-8").splitlines()
+        model = next(line.split(": ")[1].strip() for line in known if line.startswith("model name"))
+        yield f"# Times and memory: {today}, commit {commit}, {model}, {os.cpu_count()} processors, load {os.getloadavg()[0]:.1f},"
+        yield f"# wabt {output('wat2wasm', '--version').strip()}, wast 222.0.0; {given.rounds} rounds in turn; medians; milliseconds, 10^6 bytes."
+    yield from (line for line in before if given.times and line.startswith(COUNTED))
+    if not given.times:
+        yield f"{COUNTED} {today}, commit {commit}."
+    yield COLUMNS
 
 
 def jobs_of(text, given):
@@ -224,7 +253,7 @@ def rows_for(text, small, less, given):
     """Returns the rows that the options ask for, of a text and of the smaller one with its name. `less` has the instructions for an empty module."""
     compared = small if given.instructions else text
     jobs = jobs_of(compared, given)
-    if not is_same(compared, jobs, given.folder):
+    if not is_same(compared, jobs):
         sys.exit(f"{compared}: the modules differ")
     rows = [] if given.counts or given.instructions else times_of(text, jobs, given.rounds)
     rows += [] if given.times or given.instructions else memory_of(text, jobs)
@@ -232,15 +261,16 @@ def rows_for(text, small, less, given):
 
 
 def measured(given):
-    """Returns the lines of the table. What is not measured is as in the table that DATA has; without times, so is the head."""
+    """Returns the lines of the table. What is not measured is as in the table that DATA has."""
     before, rows = lines_of(DATA), []
-    lines = [line for line in before if line[0] == "#"] if given.counts or given.instructions else list(head(given.rounds))
-    files, empty = texts(given.folder), given.folder / "empty"
+    lines = list(head(given, before))
+    files, empty = texts(given.folder, given.instructions), given.folder / "empty"
     empty.write_text("(module)\n", encoding="utf-8")
     less = {} if given.times else counts_of(empty, given)
-    for text, small in files:
-        rows += rows_for(text, small, less, given)
-        print("\n".join(rows[-6:]), flush=True)
+    with concurrent.futures.ThreadPoolExecutor(given.jobs if given.instructions else 1) as pool:
+        for found in pool.map(lambda pair: rows_for(*pair, less, given), files):
+            rows += found
+            print("\n".join(found), flush=True)
     cell = {tuple(line.split("\t")[:3]): line for line in [*before, *rows] if line[0] != "#"}
     return lines + [cell[key] for key in sorted(cell, key=lambda key: key[1])]
 
@@ -278,6 +308,7 @@ def main():
     reads.add_argument("folder", nargs="?", type=pathlib.Path)
     reads.add_argument("encoder", nargs="?", type=os.path.realpath)
     reads.add_argument("--rounds", type=int, default=5)
+    reads.add_argument("--jobs", type=int, default=1)
     for option in ("--counts", "--instructions", "--times", "--reasons", "--check"):
         reads.add_argument(option, action="store_true")
     given = reads.parse_args()
