@@ -183,9 +183,15 @@ fn a_label_is_found_at_any_depth() {
             begins.collect::<String>(),
             numbered(depth - 1)
         );
-        let error = parse_str(format!("(func block {closed})")).unwrap_err();
-        let message = format!("unknown label `{}`", numbered(depth - 1));
-        assert!(error.message().starts_with(&message), "{error}");
+        let text = format!("(func block {closed})");
+        // The label of the innermost open block differs in one digit.
+        let nearest = depth.checked_sub(2).map(numbered).map(|name| {
+            let column = text.find(&name).unwrap() + 1;
+            format!("; did you mean `{name}` at line 1, column {column}?")
+        });
+        let unknown = format!("unknown label `{}`", numbered(depth - 1));
+        let message = unknown + &nearest.unwrap_or_default();
+        assert_eq!(parse_str(text).unwrap_err().message(), message);
     }
     for depth in [2_000, 100_000] {
         let half = nested(depth, unnamed, |open| (open - 1 - open / 2).to_string());
