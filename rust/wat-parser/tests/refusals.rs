@@ -155,7 +155,7 @@ fn what_is_plain_takes_no_memory() {
     assert_eq!(without_memory(|| parser::parse::<u32>(&buffer).unwrap()), 1);
 }
 
-/// Checks that a name is unregistered, and no earlier peek is kept, if the memory to defer its unregistration is refused.
+/// Checks that a name is unregistered, and that no earlier peek is kept, if the allocation that defers its unregistration fails.
 #[test]
 fn a_name_is_unregistered_without_memory() {
     let text = "(@note) x";
