@@ -14,31 +14,16 @@
 /* UNTOUCHED is the value of each byte of a buffer before a call, and CANARY the number of bytes after a buffer. */
 enum { UNTOUCHED = '#', CANARY = 16, LARGEST = 1 << 20 };
 
-static unsigned long long texts, modules, errors, formatted, calls, wrong;
-static uint64_t seed = 88172645463325252u;
+#define PROGRAM "modules"
+#include "testing.h"
 
-static uint64_t next_random(void) {
-    seed ^= seed << 13;
-    seed ^= seed >> 7;
-    seed ^= seed << 17;
-    return seed;
-}
+static unsigned long long texts, modules, errors, formatted, calls, wrong;
 
 static void expect(bool holds, const char *what) {
     if (!holds) {
         printf("modules: %s\n", what);
         wrong++;
     }
-}
-
-static uint8_t *block_of(size_t bytes) {
-    uint8_t *block = malloc(bytes == 0 ? 1 : bytes);
-    if (block == NULL) {
-        fputs("modules: no memory\n", stderr);
-        exit(2);
-    }
-    memset(block, UNTOUCHED, bytes == 0 ? 1 : bytes);
-    return block;
 }
 
 /* A function and its arguments: wat_compile, wat_check and wat_format. `first` is `names` or `allow`, and `second` is `strict`. */

@@ -12,31 +12,16 @@
 /* UNTOUCHED is the value of each byte of a buffer before a call. It must also be valid as a `bool`. */
 enum { CAPACITY = 7, READERS = 9, UNTOUCHED = 1 };
 
-static unsigned long long texts, tokens_seen, faults_seen, values_seen, wrong;
-static uint64_t seed = 88172645463325252u;
+#define PROGRAM "readers"
+#include "testing.h"
 
-static uint64_t next_random(void) {
-    seed ^= seed << 13;
-    seed ^= seed >> 7;
-    seed ^= seed << 17;
-    return seed;
-}
+static unsigned long long texts, tokens_seen, faults_seen, values_seen, wrong;
 
 static void expect(bool holds, const char *what, size_t pos) {
     if (!holds) {
         fprintf(stderr, "readers: %s at %zu\n", what, pos);
         wrong++;
     }
-}
-
-static void *block_of(size_t bytes) {
-    void *block = malloc(bytes == 0 ? 1 : bytes);
-    if (block == NULL) {
-        fputs("readers: no memory\n", stderr);
-        exit(2);
-    }
-    memset(block, UNTOUCHED, bytes == 0 ? 1 : bytes);
-    return block;
 }
 
 /* A text, and the settings for lexing it. */
