@@ -99,7 +99,7 @@ position_more : (k : ℕ) (x : List ℕ) (ls : List Label) (l : Label) → posit
 position_more k x [] l = ap (λ n. if is_name x l then Some n else None) (omega arith)
 position_more k x (m ∷ ls) l = more_here (is_name x m) (is_name x l) k (suc k + length ls) (k + suc (length ls)) (position (suc k) x (ls ++ l ∷ [])) (position (suc k) x ls) (omega arith) (position_more (suc k) x ls l)
 
-position_unnamed : (x : List ℕ) (ls : List Label) → position 0 x (ls ++ None ∷ []) ≡ position 0 x ls
+pub position_unnamed : (x : List ℕ) (ls : List Label) → position 0 x (ls ++ None ∷ []) ≡ position 0 x ls
 position_unnamed x ls = position_more 0 x ls None ∙ or_none (position 0 x ls)
 
 pub absent : (o : Option ℕ) → is_some o ≡ false → o ≡ None
@@ -111,20 +111,11 @@ last_found : (x y : List ℕ) (ls : List Label) (b : Bool) → bytes_eq y x ≡ 
 last_found x y ls true e h = ap (λ o. found_or o (Some (0 + length ls))) (absent (position 0 x ls) (sym (has_is_found 0 x ls) ∙ ap (λ z. has_name z ls) (sym ((bytes_eq-Decides y x).0 e)) ∙ h)) ∙ ap (λ n. Some n) (omega arith)
 last_found x y ls false e h = or_none (position 0 x ls)
 
-position_named : (x y : List ℕ) (ls : List Label) → has_name y ls ≡ false → position 0 x (ls ++ Some y ∷ []) ≡ (if bytes_eq y x then Some (length ls) else position 0 x ls)
+pub position_named : (x y : List ℕ) (ls : List Label) → has_name y ls ≡ false → position 0 x (ls ++ Some y ∷ []) ≡ (if bytes_eq y x then Some (length ls) else position 0 x ls)
 position_named x y ls h = position_more 0 x ls (Some y) ∙ last_found x y ls (bytes_eq y x) refl h
 
 pub taken : (names : List Name) (i : ℕ) (d n : Name) → i < length names → get_or names i d ≡ n → map label (take (i + 1) names) ≡ map label (take i names) ++ label n ∷ []
 taken names i d n h e = ap (map label) (take_more names i d h) ∙ map-append label (take i names) (get_or names i d ∷ []) ∙ ap (λ m. map label (take i names) ++ label m ∷ []) e
-
--- a name that is found among those before it
-pub repeated_at : (names : List Name) (i : ℕ) (d : Name) (y : Bor (List ℕ)) → i < length names → get_or names i d ≡ Given y → is_some (position 0 y.now (map label (take i names))) ≡ true → are_distinct (map label names) ≡ false
-repeated_at names i d y h e f =
-    ap (λ ns. are_distinct (map label ns)) (sym (take-append-drop i names))
-    ∙ ap are_distinct (map-append label (take i names) (drop i names))
-    ∙ ap (λ ns. are_distinct (map label (take i names) ++ map label ns)) (drop_more names i d h)
-    ∙ ap (λ n. are_distinct (map label (take i names) ++ label n ∷ map label (drop (i + 1) names))) e
-    ∙ repeated y.now (map label (take i names)) (map label (drop (i + 1) names)) (has_is_found 0 y.now (map label (take i names)) ∙ f)
 
 -- An item without an identifier is skipped.
 pub passed : (names : List Name) (i : ℕ) (d : Name) (m n : BTreeMap (Bor (List ℕ)) ℕ) → n ≡ m → i < length names → get_or names i d ≡ Absent

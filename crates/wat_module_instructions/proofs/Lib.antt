@@ -6,7 +6,7 @@ pub mod Opens
 pub mod Digits
 pub mod Exponents
 pub mod Distinct
-pub mod Unnamed
+pub mod NameRuns
 pub mod Labels
 pub mod Listed
 pub mod Folding

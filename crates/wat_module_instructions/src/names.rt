@@ -1,8 +1,8 @@
 //! Identifiers and their indices.
 ghost use Rattle.std.specs.Prelude.{◌≡◌, ◌≤◌, ◌<◌, ◌^◌, ◌++◌, [], None, length, map, is_some};
-ghost use Rattle.std.specs.Prelude.{replicate, IfOk, IfSome};
+ghost use Rattle.std.specs.Prelude.{replicate, IfErr, IfOk, IfSome};
 ghost use Rattle.wat_module_ast.specs.Grammar.{position};
-ghost use Rattle.wat_module_instructions.specs.Indices.{AreIndices, IndicesOf};
+ghost use Rattle.wat_module_instructions.specs.Indices.{AreIndices, labels_of};
 ghost use Rattle.wat_module_ast.specs.Names.{are_distinct, has_name, repeated};
 ghost use Rattle.wat_module_tokens.specs.Terminals.{label};
 
@@ -11,30 +11,38 @@ use std::collections::BTreeMap;
 use std::marker::Model;
 use wat_module_tokens::token::Name;
 
+/// A run of items of an index space, by their identifiers.
+#[derive(Clone, Copy)]
+pub enum NameRun<'n> {
+    /// One item with this identifier, without `$`.
+    Given(&'n str),
+    /// This number of items without identifiers.
+    Absent(usize),
+}
+
 /// Identifiers of the items of an index space, in the order of their indices.
 #[derive(Drop)]
 pub struct IndexedNames<'n> {
-    /// Number of items before those of `names`. They have no identifiers.
-    unnamed: usize,
-    names: Vec<Name<'n>>,
-    /// Position in `names` of each identifier, if `names` has more than `FEW` items. Otherwise
-    /// empty.
+    /// The items by their identifiers. Any number of items without identifiers takes one run.
+    names: Vec<NameRun<'n>>,
+    /// Index of each identifier, if `names` has more than `FEW` runs. Otherwise empty.
     indices: BTreeMap<&'n str, usize>,
 }
 
 impl<'n> Model for IndexedNames<'n> {
-    ghost use Rattle.std.specs.Prelude.{◌<◌, ◌^◌, ◌++◌, List, None, map, replicate};
-    ghost use Rattle.wat_module_instructions.specs.Indices.{IndicesOf};
-    ghost use Rattle.wat_module_tokens.specs.Terminals.{Label, label};
+    ghost use Rattle.std.specs.Prelude.{◌<◌, ◌^◌, List, length};
+    ghost use Rattle.wat_module_instructions.specs.Indices.{IndicesOf, labels_of};
+    ghost use Rattle.wat_module_tokens.specs.Terminals.{Label};
 
     ghost Value = { List Label };
 
-    ghost view = { λ n. replicate n.unnamed None ++ map label n.names.items };
+    ghost view = { λ n. labels_of n.names.items };
 
-    ghost invariant = { λ n. IndicesOf n.indices (map label n.names.items) × n.unnamed < 2 ^ 63 };
+    ghost invariant = { λ n. IndicesOf n.indices n.names.items
+        × length (labels_of n.names.items) < 2 ^ 64 };
 }
 
-/// Maximum number of items whose identifiers are searched one by one.
+/// Maximum number of runs whose identifiers are searched one by one.
 const FEW: usize = 16;
 
 impl<'n> IndexedNames<'n> {
@@ -43,7 +51,6 @@ impl<'n> IndexedNames<'n> {
         ensures { result ≡ [] }
     {
         IndexedNames {
-            unnamed: 0,
             names: Vec::new(alloc),
             indices: BTreeMap::new(alloc),
         }
@@ -56,31 +63,27 @@ impl<'n> IndexedNames<'n> {
         ensures distinct { IfOk result (λ found. is_some found ≡
             are_distinct (map label names.entry.items)) }
     {
-        IndexedNames::after_unnamed(alloc, 0, names)
+        let runs = runs_of(alloc, &names)?;
+        IndexedNames::from_runs(alloc, runs)
     }
 
-    /// Indexes the identifiers of items that come after `unnamed` items without identifiers.
-    /// `unnamed` must be below 2^63. Returns `None` if two items have the same identifier.
-    pub fn after_unnamed(
+    /// Indexes the identifiers of items by runs of items. The number of items must be below 2^64.
+    /// Returns `None` if two items have the same identifier.
+    pub fn from_runs(
         alloc: Global,
-        unnamed: usize,
-        names: Vec<Name<'n>>,
+        names: Vec<NameRun<'n>>,
     ) -> Result<Option<IndexedNames<'n>>, AllocError>
-        requires { unnamed < 2 ^ 63 }
+        requires { length (labels_of names.items) < 2 ^ 64 }
         ensures these { IfOk result (λ found. IfSome found (λ these. these ≡
-            replicate unnamed None ++ map label names.entry.items)) }
+            labels_of names.entry.items)) }
         ensures distinct { IfOk result (λ found. is_some found ≡
-            are_distinct (map label names.entry.items)) }
+            are_distinct (labels_of names.entry.items)) }
     {
         if names.len() <= FEW {
-            return Ok(few(alloc, unnamed, names));
+            return Ok(few(alloc, names));
         }
         match indices(alloc, &names)? {
-            Some(indices) => Ok(Some(IndexedNames {
-                unnamed,
-                names,
-                indices,
-            })),
+            Some(indices) => Ok(Some(IndexedNames { names, indices })),
             None => Ok(None),
         }
     }
@@ -89,37 +92,57 @@ impl<'n> IndexedNames<'n> {
     pub fn position(&self, name: &str) -> Option<usize>
         ensures { result ≡ position 0 name.now self.now }
     {
-        match named(&self.names, &self.indices, name) {
-            Some(i) => Some(self.unnamed + i),
-            None => None,
+        if self.names.len() <= FEW {
+            return first(&self.names, name);
+        }
+        self.indices.get(name).copied()
+    }
+}
+
+/// Appends this number of items without identifiers to runs of items.
+pub fn push_unnamed(names: &mut Vec<NameRun<'_>>, count: usize) -> Result<(), AllocError>
+    ensures appended { IfOk result (λ _. labels_of names.new.items ≡
+        labels_of names.old.items ++ replicate count None) }
+    ensures kept { IfErr result (λ _. names.new.items ≡ names.old.items) }
+{
+    if count > 0 {
+        names.push(NameRun::Absent(count))?;
+    }
+    Ok(())
+}
+
+/// Returns the runs of items with these identifiers.
+fn runs_of<'n>(alloc: Global, names: &[Name<'n>]) -> Result<Vec<NameRun<'n>>, AllocError>
+    ensures { IfOk result (λ runs. labels_of runs.items ≡ map label names.now) }
+{
+    let mut runs = Vec::new(alloc);
+    let mut unnamed = 0;
+    for name in names {
+        match *name {
+            Name::Given(given) => {
+                push_unnamed(&mut runs, unnamed)?;
+                unnamed = 0;
+                runs.push(NameRun::Given(given))?;
+            }
+            Name::Absent => {
+                unnamed += 1;
+            }
         }
     }
+    push_unnamed(&mut runs, unnamed)?;
+    Ok(runs)
 }
 
-/// Returns the position in `names` of an identifier. The map is read only if there are more than
-/// `FEW` names.
-fn named<'n>(names: &[Name<'n>], indices: &BTreeMap<&'n str, usize>, name: &str) -> Option<usize>
-    requires { IndicesOf indices.now (map label names.now) }
-    ensures { result ≡ position 0 name.now (map label names.now) }
-{
-    if names.len() <= FEW {
-        return first(names, name);
-    }
-    indices.get(name).copied()
-}
-
-/// Returns the identifiers of at most `FEW` items that come after `unnamed` items without
-/// identifiers, or `None` if two items have the same one.
-fn few<'n>(alloc: Global, unnamed: usize, names: Vec<Name<'n>>) -> Option<IndexedNames<'n>>
+/// Returns the identifiers of items by at most `FEW` runs, or `None` if two items have the same
+/// one.
+fn few<'n>(alloc: Global, names: Vec<NameRun<'n>>) -> Option<IndexedNames<'n>>
     requires few { length names.items ≤ 16 }
-    requires small { unnamed < 2 ^ 63 }
-    ensures these { IfSome result (λ these. these ≡
-        replicate unnamed None ++ map label names.entry.items) }
-    ensures distinct { is_some result ≡ are_distinct (map label names.entry.items) }
+    requires small { length (labels_of names.items) < 2 ^ 64 }
+    ensures these { IfSome result (λ these. these ≡ labels_of names.entry.items) }
+    ensures distinct { is_some result ≡ are_distinct (labels_of names.entry.items) }
 {
     if are_distinct(&names) {
         return Some(IndexedNames {
-            unnamed,
             names,
             indices: BTreeMap::new(alloc),
         });
@@ -130,17 +153,25 @@ fn few<'n>(alloc: Global, unnamed: usize, names: Vec<Name<'n>>) -> Option<Indexe
 /// Returns a map from identifiers to indices, or `None` if two items have the same identifier.
 fn indices<'n>(
     alloc: Global,
-    names: &[Name<'n>],
+    names: &[NameRun<'n>],
 ) -> Result<Option<BTreeMap<&'n str, usize>>, AllocError>
+    requires { length (labels_of names.now) < 2 ^ 64 }
     ensures these { IfOk result (λ found. IfSome found (λ these. AreIndices these
-        (map label names.now))) }
-    ensures distinct { IfOk result (λ found. is_some found ≡ are_distinct (map label names.now)) }
+        (labels_of names.now))) }
+    ensures distinct { IfOk result (λ found. is_some found ≡ are_distinct (labels_of names.now)) }
 {
     let mut indices = BTreeMap::new(alloc);
-    for (i, name) in names.iter().enumerate() {
-        if let Name::Given(given) = *name {
-            if indices.insert(given, i)?.is_some() {
-                return Ok(None);
+    let mut index = 0;
+    for run in names {
+        match *run {
+            NameRun::Given(given) => {
+                if indices.insert(given, index)?.is_some() {
+                    return Ok(None);
+                }
+                index += 1;
+            }
+            NameRun::Absent(count) => {
+                index += count;
             }
         }
     }
@@ -166,35 +197,47 @@ pub fn repeated(alloc: Global, names: &[Name<'_>]) -> Result<Option<(usize, usiz
 }
 
 /// Returns the index of the first item with this identifier.
-fn first(names: &[Name<'_>], name: &str) -> Option<usize>
-    ensures { result ≡ position 0 name.now (map label names.now) }
+fn first(names: &[NameRun<'_>], name: &str) -> Option<usize>
+    requires { length (labels_of names.now) < 2 ^ 64 }
+    ensures { result ≡ position 0 name.now (labels_of names.now) }
 {
-    for (i, given) in names.iter().enumerate() {
-        if given.is(name) {
-            return Some(i);
+    let mut index = 0;
+    for run in names {
+        match *run {
+            NameRun::Given(given) => {
+                if given == name {
+                    return Some(index);
+                }
+                index += 1;
+            }
+            NameRun::Absent(count) => {
+                index += count;
+            }
         }
     }
     None
 }
 
 /// Returns `true` if an item has this identifier.
-fn has_name(names: &[Name<'_>], name: &str) -> bool
-    ensures { result ≡ has_name name.now (map label names.now) }
+fn has_name(names: &[NameRun<'_>], name: &str) -> bool
+    ensures { result ≡ has_name name.now (labels_of names.now) }
 {
-    for given in names {
-        if given.is(name) {
-            return true;
+    for run in names {
+        if let NameRun::Given(given) = *run {
+            if given == name {
+                return true;
+            }
         }
     }
     false
 }
 
 /// Returns `true` if no two items have the same identifier.
-fn are_distinct(names: &[Name<'_>]) -> bool
-    ensures { result ≡ are_distinct (map label names.now) }
+fn are_distinct(names: &[NameRun<'_>]) -> bool
+    ensures { result ≡ are_distinct (labels_of names.now) }
 {
-    for (i, name) in names.iter().enumerate() {
-        if let Name::Given(given) = *name {
+    for (i, run) in names.iter().enumerate() {
+        if let NameRun::Given(given) = *run {
             if has_name(&names[i + 1..], given) {
                 return false;
             }

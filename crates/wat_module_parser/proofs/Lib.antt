@@ -13,6 +13,7 @@ pub mod Utf8
 pub mod Unnamed
 pub mod Listing
 pub mod NameMaps
+pub mod VariableLists
 pub mod BlockLabels
 pub mod VariableNames
 pub mod FieldIndices

@@ -3,8 +3,6 @@ use Rattle.std.proofs.Common.{◌≡◌, ◌+◌, ℕ, suc, List, [], ◌∷◌,
 use Rattle.wat_module_ast.specs.declared.instruction.ValueType.{ValueType}
 use Rattle.wat_module_ast.specs.Fields.{Variable, name_of, unnamed}
 use Rattle.wat_module_ast.specs.Names.{association, associations}
-use Rattle.wat_module_parser.specs.Views.{variable_of}
-use Rattle.wat_module_parser.specs.declared.variables.Variable as declared_variable
 use Rattle.wat_module_tokens.specs.Terminals.{Label}
 
 pub append : (n m : ℕ) (xs ys : List Label) → m ≡ n + length xs → associations n (xs ++ ys) ≡ associations n xs ++ associations m ys
@@ -16,12 +14,12 @@ names_append : (vs ws : List Variable) → map name_of (vs ++ ws) ≡ map name_o
 names_append [] ws = refl
 names_append (v ∷ vs) ws = ap (λ ls. name_of v ∷ ls) (names_append vs ws)
 
-variables_length : (xs : List declared_variable.Variable) → length (map name_of (map variable_of xs)) ≡ length xs
-variables_length [] = refl
-variables_length (x ∷ xs) = ap suc (variables_length xs)
+names_length : (vs : List Variable) → length (map name_of vs) ≡ length vs
+names_length [] = refl
+names_length (v ∷ vs) = ap suc (names_length vs)
 
-pub listed : (xs : List declared_variable.Variable) (ls : List Variable) → associations 0 (map name_of (map variable_of xs ++ ls)) ≡ associations 0 (map name_of (map variable_of xs)) ++ associations (length xs) (map name_of ls)
-listed xs ls = let k = variables_length xs in ap (λ x. associations 0 x) (names_append (map variable_of xs) ls) ∙ append 0 (length xs) (map name_of (map variable_of xs)) (map name_of ls) (omega (arith, k))
+pub listed : (ps ls : List Variable) → associations 0 (map name_of (ps ++ ls)) ≡ associations 0 (map name_of ps) ++ associations (length ps) (map name_of ls)
+listed ps ls = let k = names_length ps in ap (λ x. associations 0 x) (names_append ps ls) ∙ append 0 (length ps) (map name_of ps) (map name_of ls) (omega (arith, k))
 
 indexed_from : (n m : ℕ) (ps : List ValueType) (ls : List Variable) → m ≡ n + length ps → associations n (map name_of (map unnamed ps ++ ls)) ≡ associations m (map name_of ls)
 indexed_from n m [] ls e = ap (λ k. associations k (map name_of ls)) (omega (arith, e))

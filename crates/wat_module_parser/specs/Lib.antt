@@ -4,3 +4,4 @@ pub mod Law
 pub mod Views
 pub mod Groups
 pub mod Labels
+pub mod NamedTypes

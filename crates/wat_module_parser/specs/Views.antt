@@ -13,25 +13,20 @@ use Rattle.wat_module_parser.specs.declared.names.Names as declared_names
 use Rattle.wat_module_parser.specs.declared.variables.ListedUse as declared_list
 use Rattle.wat_module_parser.specs.declared.variables.NamedUse as declared_use
 use Rattle.wat_module_parser.specs.declared.variables.NamedUse.TheVariants as uses
-use Rattle.wat_module_parser.specs.declared.variables.Variable as declared_variable
 use Rattle.wat_module_parser.specs.declared.places.Sought.{Sought}
 use Rattle.wat_module_parser.specs.declared.places.Sought.TheVariants as sought
 use Rattle.wat_module_ast.specs.Fields.{Field, is_definition, is_import}
 use Rattle.wat_module_parser.specs.Places.{is_start}
-use Rattle.wat_module_ast.specs.Fields.{Binding, NamedUse, Variable, binding, named_use, unnamed, variable}
+use Rattle.wat_module_ast.specs.Fields.{Binding, NamedUse, binding, named_use, unnamed}
 use Rattle.wat_module_parser.specs.Reading.{Item}
 
 -- An item of an index space of the code.
 abbrev pub binding_of : declared_binding.Binding → Binding
 binding_of h = binding h.space (label h.name)
 
--- A parameter, a result or a local of the code.
-abbrev pub variable_of : declared_variable.Variable → Variable
-variable_of v = variable (label v.name) v.of
-
 -- A type use of the code that lists its parameters and results.
 abbrev pub listed_use_of : declared_list.ListedUse → NamedUse
-listed_use_of u = named_use u.index (map variable_of u.params.items) (map variable_of u.results.items)
+listed_use_of u = named_use u.index u.params u.results
 
 -- A type use of the code, with the identifiers of its parameters.
 abbrev pub use_of : declared_use.NamedUse → NamedUse

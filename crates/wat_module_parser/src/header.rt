@@ -5,11 +5,11 @@ ghost use Rattle.std.specs.Str.{is_utf8};
 ghost use Rattle.wat_module_parser.specs.Groups.{AreListed, IsListed, NoneListed};
 ghost use Rattle.wat_module_parser.specs.Reading as reading;
 ghost use Rattle.wat_module_ast.specs.Views.{text_of};
-ghost use Rattle.wat_module_parser.specs.Views.{IsItem, ItemFaults, NoItem, variable_of};
+ghost use Rattle.wat_module_parser.specs.Views.{IsItem, ItemFaults, NoItem};
 ghost use Rattle.wat_module_tokens.specs.TokenCursor.{terminals_of};
 ghost use Rattle.wat_module_instructions.specs.Parts.{Faults, ReadsAs, ReadsExactly, SkipsExactly};
 
-use crate::variables::Variable;
+use crate::variables::Variables;
 use std::alloc::Global;
 use std::str;
 use wat_module_ast::error::{Expected, Fault, FaultKind, ParseFailure};
@@ -17,7 +17,7 @@ use wat_module_ast::instruction::ValueType;
 use wat_module_instructions::faults::{fault, unexpected};
 use wat_module_instructions::reading::{after, value_type};
 use wat_module_tokens::stream::TokenCursor;
-use wat_module_tokens::token::{DecodedToken, Name};
+use wat_module_tokens::token::DecodedToken;
 
 /// Parses inline exports `(export "name")` as long as one comes next. Returns their names.
 pub(crate) fn exports<'p, 'a>(
@@ -40,9 +40,6 @@ pub(crate) fn exports<'p, 'a>(
     }
 }
 
-/// Initial capacity of a list of variables that is not empty.
-const FEW: usize = 4;
-
 /// Parses groups of variables as long as one comes next. A group begins with an opening parenthesis
 /// and `word`, which is `param`, `result` or `local`. A variable may have an identifier only if
 /// `may_have_name`.
@@ -51,12 +48,12 @@ pub(crate) fn variables<'p, 'a>(
     word: &str,
     may_have_name: bool,
     cursor: TokenCursor<'p, 'a>,
-) -> Result<(Vec<Variable<'a>>, TokenCursor<'p, 'a>), ParseFailure<'p, 'a>>
-    ensures { ReadsAs (λ v. map variable_of v.items)
+) -> Result<(Variables<'a>, TokenCursor<'p, 'a>), ParseFailure<'p, 'a>>
+    ensures { ReadsAs (λ v. v)
         (reading.all (reading.group_item word.now may_have_name) (terminals_of cursor.entry))
         result }
 {
-    let mut found = Vec::new(alloc);
+    let mut found = Variables::none(alloc);
     let mut left = cursor;
     'groups: loop {
         match next_group(word, may_have_name, &mut found, left) {
@@ -72,12 +69,12 @@ pub(crate) fn variables<'p, 'a>(
 /// Parses value types as long as a keyword comes next, which must be that of a value type. Appends
 /// a variable of each type, without an identifier, to `found`.
 fn values<'p, 'a>(
-    found: &mut Vec<Variable<'a>>,
+    found: &mut Variables<'a>,
     cursor: TokenCursor<'p, 'a>,
 ) -> Result<TokenCursor<'p, 'a>, ParseFailure<'p, 'a>>
     ensures { MatchResult result
-        (λ l. AreListed (terminals_of cursor.entry) (map variable_of found.old.items)
-        (map variable_of found.new.items) (terminals_of l))
+        (λ l. AreListed (terminals_of cursor.entry) found.old
+        found.new (terminals_of l))
         (λ e. Faults (reading.all reading.value_item (terminals_of cursor.entry)) e) }
 {
     let mut left = cursor;
@@ -175,23 +172,20 @@ fn next_export<'p, 'a>(
 fn next_group<'p, 'a>(
     word: &str,
     may_have_name: bool,
-    found: &mut Vec<Variable<'a>>,
+    found: &mut Variables<'a>,
     left: TokenCursor<'p, 'a>,
 ) -> Result<Option<TokenCursor<'p, 'a>>, ParseFailure<'p, 'a>>
     ensures { MatchResult result
         (λ o. MatchOption o
         (NoItem (reading.group_item word.now may_have_name (terminals_of left.entry))
-        (map variable_of found.old.items) (map variable_of found.new.items))
+        found.old found.new)
         (λ l. IsItem (reading.group_item word.now may_have_name (terminals_of left.entry))
-        (map variable_of found.old.items) (map variable_of found.new.items)
+        found.old found.new
         (terminals_of l)))
         (λ e. ItemFaults (reading.group_item word.now may_have_name (terminals_of left.entry)) e) }
 {
     match after(word, left) {
         Some(rest) => {
-            if found.is_empty() {
-                found.reserve(FEW)?;
-            }
             let next = group(may_have_name, found, rest)?;
             Ok(Some(next))
         }
@@ -203,22 +197,21 @@ fn next_group<'p, 'a>(
 /// Returns the tokens after it, or `None` if no keyword comes next.
 #[tactic(auto, unfolding(crate::specs::Reading::value_item))]
 fn next_value<'p, 'a>(
-    found: &mut Vec<Variable<'a>>,
+    found: &mut Variables<'a>,
     left: TokenCursor<'p, 'a>,
 ) -> Result<Option<TokenCursor<'p, 'a>>, ParseFailure<'p, 'a>>
     ensures { MatchResult result
         (λ o. MatchOption o
-        (NoneListed (terminals_of left.entry) (map variable_of found.old.items)
-        (map variable_of found.new.items))
-        (λ l. IsListed (terminals_of left.entry) (map variable_of found.old.items)
-        (map variable_of found.new.items) (terminals_of l)))
+        (NoneListed (terminals_of left.entry) found.old
+        found.new)
+        (λ l. IsListed (terminals_of left.entry) found.old
+        found.new (terminals_of l)))
         (λ e. ItemFaults (reading.value_item (terminals_of left.entry)) e) }
 {
     match left.first() {
         Some((DecodedToken::Word(word), cursor)) => match value_type(word) {
             Some(of) => {
-                let name = Name::Absent;
-                found.push(Variable { name, of })?;
+                found.push(of)?;
                 Ok(Some(cursor))
             }
             None => {
@@ -235,12 +228,12 @@ fn next_value<'p, 'a>(
 #[tactic(auto, unfolding(crate::specs::Reading::group))]
 fn group<'p, 'a>(
     may_have_name: bool,
-    found: &mut Vec<Variable<'a>>,
+    found: &mut Variables<'a>,
     cursor: TokenCursor<'p, 'a>,
 ) -> Result<TokenCursor<'p, 'a>, ParseFailure<'p, 'a>>
     ensures { MatchResult result
         (λ l. IsItem (Some (reading.group may_have_name (terminals_of cursor.entry)))
-        (map variable_of found.old.items) (map variable_of found.new.items) (terminals_of l))
+        found.old found.new (terminals_of l))
         (λ e. Faults (reading.group may_have_name (terminals_of cursor.entry)) e) }
 {
     match cursor.first() {
@@ -259,12 +252,12 @@ fn group<'p, 'a>(
 /// closing parenthesis.
 fn named_group<'p, 'a>(
     name: &'a str,
-    found: &mut Vec<Variable<'a>>,
+    found: &mut Variables<'a>,
     cursor: TokenCursor<'p, 'a>,
 ) -> Result<TokenCursor<'p, 'a>, ParseFailure<'p, 'a>>
     ensures { MatchResult result
         (λ l. IsItem (Some (reading.named_group name.now (terminals_of cursor.entry)))
-        (map variable_of found.old.items) (map variable_of found.new.items) (terminals_of l))
+        found.old found.new (terminals_of l))
         (λ e. Faults (reading.named_group name.now (terminals_of cursor.entry)) e) }
 {
     match cursor.first() {
@@ -284,22 +277,21 @@ fn named_group<'p, 'a>(
 fn named_type<'p, 'a>(
     name: &'a str,
     of: ValueType,
-    found: &mut Vec<Variable<'a>>,
+    found: &mut Variables<'a>,
     cursor: TokenCursor<'p, 'a>,
 ) -> Result<TokenCursor<'p, 'a>, ParseFailure<'p, 'a>>
     ensures { MatchResult result
         (λ l. IsItem
         (Some (reading.named_type name.now (Some of) (terminals_of cursor.entry)
         (terminals_of cursor.entry)))
-        (map variable_of found.old.items) (map variable_of found.new.items) (terminals_of l))
+        found.old found.new (terminals_of l))
         (λ e. Faults
         (reading.named_type name.now (Some of) (terminals_of cursor.entry)
         (terminals_of cursor.entry))
         e) }
 {
     let rest = closed(cursor)?;
-    let name = Name::Given(name);
-    found.push(Variable { name, of })?;
+    found.push_named(name, of)?;
     Ok(rest)
 }
 
@@ -307,12 +299,12 @@ fn named_type<'p, 'a>(
 /// closing parenthesis.
 #[tactic(auto, using(crate::proofs::Listing::listed_is), unfolding(crate::specs::Reading::listed))]
 fn listed<'p, 'a>(
-    found: &mut Vec<Variable<'a>>,
+    found: &mut Variables<'a>,
     cursor: TokenCursor<'p, 'a>,
 ) -> Result<TokenCursor<'p, 'a>, ParseFailure<'p, 'a>>
     ensures { MatchResult result
         (λ l. IsItem (Some (reading.listed (terminals_of cursor.entry)))
-        (map variable_of found.old.items) (map variable_of found.new.items) (terminals_of l))
+        found.old found.new (terminals_of l))
         (λ e. Faults (reading.listed (terminals_of cursor.entry)) e) }
 {
     let rest = values(found, cursor)?;

@@ -13,7 +13,7 @@ use crate::names::{Names, variable_names};
 use crate::places::duplicate_variable;
 use crate::types::{global_type, limits, skip_two_closes, space_of, table_type};
 use crate::uses::type_use;
-use crate::variables::{NamedUse, without_names};
+use crate::variables::{NamedUse, Variables, without_names};
 use std::alloc::Global;
 use wat_module_ast::error::{Expected, Fault, ParseFailure};
 use wat_module_ast::fields::{ExternType, Field, Import, IndexSpace};
@@ -78,7 +78,7 @@ fn func_type<'p, 'a>(
         (reading.func_type (use_of uses.entry) (terminals_of all.entry) (terminals_of rest.entry))
         result }
 {
-    if variable_names(alloc, &uses, &[])?.is_none() {
+    if variable_names(alloc, &uses, &Variables::none(alloc))?.is_none() {
         return Err(ParseFailure::Text(duplicate_variable(alloc, all)?));
     }
     let uses = without_names(alloc, &uses)?;

@@ -20,7 +20,7 @@ ghost use Rattle.wat_module_ast.specs.Modules.{Module};
 ghost use Rattle.wat_module_parser.specs.Reading as reading;
 ghost use Rattle.wat_module_ast.specs.Views.{field_of, fields_of, text_of};
 ghost use Rattle.wat_module_parser.specs.Views.{IsItem, ItemFaults, NoItem, context_of, types_of};
-ghost use Rattle.wat_module_parser.specs.Views.{use_of, variable_of, with_names};
+ghost use Rattle.wat_module_parser.specs.Views.{use_of, with_names};
 ghost use Rattle.wat_module_ast.specs.Grammar.{label_of};
 ghost use Rattle.wat_module_tokens.specs.TokenCursor.{terminals_of};
 ghost use Rattle.wat_module_instructions.specs.Parts.{Faults, IsMemory, ReadsAs, ReadsExactly};
@@ -40,7 +40,7 @@ use crate::places::{duplicate_item, duplicate_variable, import_fault, start_faul
 use crate::segments::{memory_at, segment};
 use crate::types::{global_type, space_of};
 use crate::uses::{type_at, type_use};
-use crate::variables::{NamedUse, Variable, local_names, locals_of, without_names};
+use crate::variables::{NamedUse, Variables, local_names, locals_of, without_names};
 use std::alloc::Global;
 use wat_module_ast::error::{Expected, Fault, FaultKind, ParseFailure, Space};
 use wat_module_ast::fields::{Field, Function, GlobalVariable, IndexSpace};
@@ -470,7 +470,7 @@ fn func<'p, 'a>(
     let local_names = local_names(alloc, &uses, &locals)?;
     let label_names = label_names(alloc, start)?;
     let uses = without_names(alloc, &uses)?;
-    let locals = locals_of(alloc, &locals)?;
+    let locals = locals_of(alloc, locals.types())?;
     Ok((
         Field::Func(Function {
             name,
@@ -593,13 +593,13 @@ fn instructions<'p, 'a>(
     alloc: Global,
     names: &Names<'a>,
     uses: &NamedUse<'_, 'a>,
-    locals: &[Variable<'a>],
+    locals: &Variables<'a>,
     start: TokenCursor<'p, 'a>,
     cursor: TokenCursor<'p, 'a>,
 ) -> Result<(Vec<Instruction>, TokenCursor<'p, 'a>), ParseFailure<'p, 'a>>
     ensures { ReadsAs (λ v. v.items)
         (reading.instructions (context_of names.now) (use_of uses.now).params
-        (map variable_of locals.now) (terminals_of start.entry) (terminals_of cursor.entry))
+        locals.now (terminals_of start.entry) (terminals_of cursor.entry))
         result }
 {
     let Some(locals) = variable_names(alloc, uses, locals)? else {

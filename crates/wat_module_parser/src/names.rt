@@ -9,7 +9,7 @@ ghost use Rattle.wat_module_ast.specs.Fields.{name_of, names_in, names_of, unnam
 ghost use Rattle.wat_module_parser.specs.Reading as reading;
 ghost use Rattle.wat_module_ast.specs.Views.{definition_of};
 ghost use Rattle.wat_module_parser.specs.Views.{binding_of, context_of, types_of};
-ghost use Rattle.wat_module_parser.specs.Views.{use_of, variable_of};
+ghost use Rattle.wat_module_parser.specs.Views.{use_of};
 ghost use Rattle.wat_module_ast.specs.Grammar.{label_of};
 ghost use Rattle.wat_module_tokens.specs.TokenCursor.{terminals_of};
 ghost use Rattle.wat_module_ast.specs.Names.{are_distinct};
@@ -20,13 +20,13 @@ ghost use Rattle.wat_module_ast.specs.TypeViews.{type_of};
 use crate::header::exports;
 use crate::types::space_of;
 use crate::uses::type_at;
-use crate::variables::{NamedUse, Variable};
+use crate::variables::{NamedUse, Variables};
 use std::alloc::{AllocError, Global};
 use wat_module_ast::error::ParseFailure;
 use wat_module_ast::fields::{Definition, IndexSpace};
 use wat_module_ast::instruction::ValueType;
 use wat_module_ast::types::FunctionType;
-use wat_module_instructions::names::IndexedNames;
+use wat_module_instructions::names::{IndexedNames, push_unnamed};
 use wat_module_instructions::reading::{after, label};
 use wat_module_tokens::stream::TokenCursor;
 use wat_module_tokens::token::{DecodedToken, Name};
@@ -533,12 +533,12 @@ fn definition_after<'p, 'a>(
 pub(crate) fn variable_names<'a>(
     alloc: Global,
     uses: &NamedUse<'_, 'a>,
-    locals: &[Variable<'a>],
+    locals: &Variables<'a>,
 ) -> Result<Option<IndexedNames<'a>>, AllocError>
     ensures these { IfOk result (λ found. IfSome found (λ names. names ≡
-        map name_of ((use_of uses.now).params ++ map variable_of locals.now))) }
+        map name_of ((use_of uses.now).params ++ locals.now))) }
     ensures distinct { IfOk result (λ found. is_some found ≡
-        are_distinct (map name_of ((use_of uses.now).params ++ map variable_of locals.now))) }
+        are_distinct (map name_of ((use_of uses.now).params ++ locals.now))) }
 {
     match uses {
         NamedUse::Listed(listed) => listed_names(alloc, &listed.params, locals),
@@ -551,38 +551,33 @@ pub(crate) fn variable_names<'a>(
 fn names_after<'a>(
     alloc: Global,
     params: &[ValueType],
-    locals: &[Variable<'a>],
+    locals: &Variables<'a>,
 ) -> Result<Option<IndexedNames<'a>>, AllocError>
     ensures these { IfOk result (λ found. IfSome found (λ names. names ≡
-        map name_of (map unnamed params.now ++ map variable_of locals.now))) }
+        map name_of (map unnamed params.now ++ locals.now))) }
     ensures distinct { IfOk result (λ found. is_some found ≡
-        are_distinct (map name_of (map unnamed params.now ++ map variable_of locals.now))) }
+        are_distinct (map name_of (map unnamed params.now ++ locals.now))) }
 {
     let mut names = Vec::new(alloc);
-    for local in locals {
-        names.push(local.name)?;
-    }
-    IndexedNames::after_unnamed(alloc, params.len(), names)
+    push_unnamed(&mut names, params.len())?;
+    locals.append_names(&mut names)?;
+    IndexedNames::from_runs(alloc, names)
 }
 
 /// Returns the identifiers of parameters and locals, in the order of their indices, or `None` if
 /// two of them are equal.
 fn listed_names<'a>(
     alloc: Global,
-    params: &[Variable<'a>],
-    locals: &[Variable<'a>],
+    params: &Variables<'a>,
+    locals: &Variables<'a>,
 ) -> Result<Option<IndexedNames<'a>>, AllocError>
     ensures these { IfOk result (λ found. IfSome found (λ names. names ≡
-        map name_of (map variable_of params.now ++ map variable_of locals.now))) }
+        map name_of (params.now ++ locals.now))) }
     ensures distinct { IfOk result (λ found. is_some found ≡
-        are_distinct (map name_of (map variable_of params.now ++ map variable_of locals.now))) }
+        are_distinct (map name_of (params.now ++ locals.now))) }
 {
     let mut names = Vec::new(alloc);
-    for param in params {
-        names.push(param.name)?;
-    }
-    for local in locals {
-        names.push(local.name)?;
-    }
-    IndexedNames::new(alloc, names)
+    params.append_names(&mut names)?;
+    locals.append_names(&mut names)?;
+    IndexedNames::from_runs(alloc, names)
 }

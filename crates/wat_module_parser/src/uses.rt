@@ -2,7 +2,7 @@
 ghost use Rattle.std.specs.Prelude.{◌≡◌, Ok, Err, Some, None, slice_get, map};
 ghost use Rattle.wat_module_parser.specs.Reading as reading;
 ghost use Rattle.wat_module_ast.specs.Views.{definition_of};
-ghost use Rattle.wat_module_parser.specs.Views.{types_of, use_of, variable_of};
+ghost use Rattle.wat_module_parser.specs.Views.{types_of, use_of};
 ghost use Rattle.wat_module_tokens.specs.TokenCursor.{terminals_of};
 ghost use Rattle.wat_module_instructions.specs.Parts.{ReadsAs};
 ghost use Rattle.wat_module_tokens.specs.Terminals.{label};
@@ -11,7 +11,7 @@ ghost use Rattle.wat_module_ast.specs.TypeViews.{type_of};
 use crate::header::{closed, variables};
 use crate::names::Names;
 use crate::types::skip_two_closes;
-use crate::variables::{ListedUse, NamedUse, Variable, function_type};
+use crate::variables::{ListedUse, NamedUse, Variables, function_type};
 use std::alloc::Global;
 use wat_module_ast::error::{Expected, FaultKind, ParseFailure, Space};
 use wat_module_ast::fields::Definition;
@@ -151,9 +151,8 @@ fn lists<'s, 'p, 'a>(
 }
 
 /// Returns `true` if there are neither parameters nor results.
-fn list_nothing(params: &[Variable<'_>], results: &[Variable<'_>]) -> bool
-    ensures { result ≡
-        reading.list_nothing (map variable_of params.now) (map variable_of results.now) }
+fn list_nothing(params: &Variables<'_>, results: &Variables<'_>) -> bool
+    ensures { result ≡ reading.list_nothing params.now results.now }
 {
     params.is_empty() && results.is_empty()
 }

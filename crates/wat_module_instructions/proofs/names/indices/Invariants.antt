@@ -1,8 +1,11 @@
-use Rattle.std.proofs.Common.{◌≡◌, map, take, true}
-use Rattle.wat_module_instructions.specs.Indices.{AreIndices}
+use Rattle.std.proofs.Common.{◌≡◌, ◌+◌, drop, length, take, true}
 use Rattle.wat_module_ast.specs.Names.{are_distinct}
-use Rattle.wat_module_tokens.specs.Terminals.{label}
+use Rattle.wat_module_instructions.specs.Indices.{AreIndices, labels_of}
 use Rattle.wat_module_instructions.proofs.names.indices.Given as goal
 
-abbrev pub invariant-loop-i : goal.invariant-loop-i
-invariant-loop-i l = AreIndices l.indices (map label (take l.i l.names)) × (are_distinct (map label (take l.i l.names)) ≡ true)
+abbrev pub invariant-loop-run : goal.invariant-loop-run
+invariant-loop-run l = record {
+  are : AreIndices l.indices (labels_of (take l.run-index l.names));
+  distinct : are_distinct (labels_of (take l.run-index l.names)) ≡ true;
+  index : l.index ≡ length (labels_of (take l.run-index l.names));
+}

@@ -7,17 +7,24 @@ use wat_lex::shim::collections::BTreeMap;
 
 use crate::tokens::token::Name;
 
+/// A run of items of an index space, by their identifiers.
+#[derive(Clone, Copy)]
+pub enum NameRun<'n> {
+    /// One item with this identifier, without `$`.
+    Given(&'n str),
+    /// This number of items without identifiers.
+    Absent(usize),
+}
+
 /// Identifiers of the items of an index space, in the order of their indices.
 pub struct IndexedNames<'n> {
-    /// Number of items before those of `names`. They have no identifiers.
-    unnamed: usize,
-    names: Vec<Name<'n>>,
-    /// Position in `names` of each identifier, if `names` has more than `FEW` items. Otherwise
-    /// empty.
+    /// The items by their identifiers. Any number of items without identifiers takes one run.
+    names: Vec<NameRun<'n>>,
+    /// Index of each identifier, if `names` has more than `FEW` runs. Otherwise empty.
     indices: BTreeMap<&'n str, usize>,
 }
 
-/// Maximum number of items whose identifiers are searched one by one.
+/// Maximum number of runs whose identifiers are searched one by one.
 const FEW: usize = 16;
 
 impl<'n> IndexedNames<'n> {
@@ -30,7 +37,6 @@ impl<'n> IndexedNames<'n> {
     /// ```
     pub fn none(alloc: Global) -> IndexedNames<'n> {
         IndexedNames {
-            unnamed: 0,
             names: Vec::new(alloc),
             indices: BTreeMap::new(alloc),
         }
@@ -50,35 +56,31 @@ impl<'n> IndexedNames<'n> {
         alloc: Global,
         names: Vec<Name<'n>>,
     ) -> Result<Option<IndexedNames<'n>>, AllocError> {
-        IndexedNames::after_unnamed(alloc, 0, names)
+        let runs = runs_of(alloc, &names)?;
+        IndexedNames::from_runs(alloc, runs)
     }
 
-    /// Indexes the identifiers of items that come after `unnamed` items without identifiers.
-    /// `unnamed` must be below 2^63. Returns `None` if two items have the same identifier.
+    /// Indexes the identifiers of items by runs of items. The number of items must be below 2^64.
+    /// Returns `None` if two items have the same identifier.
     ///
     /// # Proved
     ///
     /// ```text
-    /// requires { unnamed < 2 ^ 63 }
+    /// requires { length (labels_of names.items) < 2 ^ 64 }
     /// ensures these { IfOk result (λ found. IfSome found (λ these. these ≡
-    ///     replicate unnamed None ++ map label names.entry.items)) }
+    ///     labels_of names.entry.items)) }
     /// ensures distinct { IfOk result (λ found. is_some found ≡
-    ///     are_distinct (map label names.entry.items)) }
+    ///     are_distinct (labels_of names.entry.items)) }
     /// ```
-    pub fn after_unnamed(
+    pub fn from_runs(
         alloc: Global,
-        unnamed: usize,
-        names: Vec<Name<'n>>,
+        names: Vec<NameRun<'n>>,
     ) -> Result<Option<IndexedNames<'n>>, AllocError> {
         if names.len() <= FEW {
-            return Ok(few(alloc, unnamed, names));
+            return Ok(few(alloc, names));
         }
         match indices(alloc, &names)? {
-            Some(indices) => Ok(Some(IndexedNames {
-                unnamed,
-                names,
-                indices,
-            })),
+            Some(indices) => Ok(Some(IndexedNames { names, indices })),
             None => Ok(None),
         }
     }
@@ -91,45 +93,69 @@ impl<'n> IndexedNames<'n> {
     /// ensures { result ≡ position 0 name.now self.now }
     /// ```
     pub fn position(&self, name: &str) -> Option<usize> {
-        match named(&self.names, &self.indices, name) {
-            Some(i) => Some(self.unnamed + i),
-            None => None,
+        if self.names.len() <= FEW {
+            return first(&self.names, name);
         }
+        self.indices.get(name).copied()
     }
 }
 
-/// Returns the position in `names` of an identifier. The map is read only if there are more than
-/// `FEW` names.
+/// Appends this number of items without identifiers to runs of items.
 ///
 /// # Proved
 ///
 /// ```text
-/// requires { IndicesOf indices.now (map label names.now) }
-/// ensures { result ≡ position 0 name.now (map label names.now) }
+/// ensures appended { IfOk result (λ _. labels_of names.new.items ≡
+///     labels_of names.old.items ++ replicate count None) }
+/// ensures kept { IfErr result (λ _. names.new.items ≡ names.old.items) }
 /// ```
-fn named<'n>(names: &[Name<'n>], indices: &BTreeMap<&'n str, usize>, name: &str) -> Option<usize> {
-    if names.len() <= FEW {
-        return first(names, name);
+pub fn push_unnamed(names: &mut Vec<NameRun<'_>>, count: usize) -> Result<(), AllocError> {
+    if count > 0 {
+        names.push(NameRun::Absent(count))?;
     }
-    indices.get(name).copied()
+    Ok(())
 }
 
-/// Returns the identifiers of at most `FEW` items that come after `unnamed` items without
-/// identifiers, or `None` if two items have the same one.
+/// Returns the runs of items with these identifiers.
+///
+/// # Proved
+///
+/// ```text
+/// ensures { IfOk result (λ runs. labels_of runs.items ≡ map label names.now) }
+/// ```
+fn runs_of<'n>(alloc: Global, names: &[Name<'n>]) -> Result<Vec<NameRun<'n>>, AllocError> {
+    let mut runs = Vec::new(alloc);
+    let mut unnamed = 0;
+    for name in names {
+        match *name {
+            Name::Given(given) => {
+                push_unnamed(&mut runs, unnamed)?;
+                unnamed = 0;
+                runs.push(NameRun::Given(given))?;
+            }
+            Name::Absent => {
+                unnamed += 1;
+            }
+        }
+    }
+    push_unnamed(&mut runs, unnamed)?;
+    Ok(runs)
+}
+
+/// Returns the identifiers of items by at most `FEW` runs, or `None` if two items have the same
+/// one.
 ///
 /// # Proved
 ///
 /// ```text
 /// requires few { length names.items ≤ 16 }
-/// requires small { unnamed < 2 ^ 63 }
-/// ensures these { IfSome result (λ these. these ≡
-///     replicate unnamed None ++ map label names.entry.items) }
-/// ensures distinct { is_some result ≡ are_distinct (map label names.entry.items) }
+/// requires small { length (labels_of names.items) < 2 ^ 64 }
+/// ensures these { IfSome result (λ these. these ≡ labels_of names.entry.items) }
+/// ensures distinct { is_some result ≡ are_distinct (labels_of names.entry.items) }
 /// ```
-fn few<'n>(alloc: Global, unnamed: usize, names: Vec<Name<'n>>) -> Option<IndexedNames<'n>> {
+fn few<'n>(alloc: Global, names: Vec<NameRun<'n>>) -> Option<IndexedNames<'n>> {
     if are_distinct(&names) {
         return Some(IndexedNames {
-            unnamed,
             names,
             indices: BTreeMap::new(alloc),
         });
@@ -142,19 +168,27 @@ fn few<'n>(alloc: Global, unnamed: usize, names: Vec<Name<'n>>) -> Option<Indexe
 /// # Proved
 ///
 /// ```text
+/// requires { length (labels_of names.now) < 2 ^ 64 }
 /// ensures these { IfOk result (λ found. IfSome found (λ these. AreIndices these
-///     (map label names.now))) }
-/// ensures distinct { IfOk result (λ found. is_some found ≡ are_distinct (map label names.now)) }
+///     (labels_of names.now))) }
+/// ensures distinct { IfOk result (λ found. is_some found ≡ are_distinct (labels_of names.now)) }
 /// ```
 fn indices<'n>(
     alloc: Global,
-    names: &[Name<'n>],
+    names: &[NameRun<'n>],
 ) -> Result<Option<BTreeMap<&'n str, usize>>, AllocError> {
     let mut indices = BTreeMap::new(alloc);
-    for (i, name) in names.iter().enumerate() {
-        if let Name::Given(given) = *name {
-            if indices.insert(given, i)?.is_some() {
-                return Ok(None);
+    let mut index = 0;
+    for run in names {
+        match *run {
+            NameRun::Given(given) => {
+                if indices.insert(given, index)?.is_some() {
+                    return Ok(None);
+                }
+                index += 1;
+            }
+            NameRun::Absent(count) => {
+                index += count;
             }
         }
     }
@@ -187,12 +221,22 @@ pub fn repeated(alloc: Global, names: &[Name<'_>]) -> Result<Option<(usize, usiz
 /// # Proved
 ///
 /// ```text
-/// ensures { result ≡ position 0 name.now (map label names.now) }
+/// requires { length (labels_of names.now) < 2 ^ 64 }
+/// ensures { result ≡ position 0 name.now (labels_of names.now) }
 /// ```
-fn first(names: &[Name<'_>], name: &str) -> Option<usize> {
-    for (i, given) in names.iter().enumerate() {
-        if given.is(name) {
-            return Some(i);
+fn first(names: &[NameRun<'_>], name: &str) -> Option<usize> {
+    let mut index = 0;
+    for run in names {
+        match *run {
+            NameRun::Given(given) => {
+                if given == name {
+                    return Some(index);
+                }
+                index += 1;
+            }
+            NameRun::Absent(count) => {
+                index += count;
+            }
         }
     }
     None
@@ -203,12 +247,14 @@ fn first(names: &[Name<'_>], name: &str) -> Option<usize> {
 /// # Proved
 ///
 /// ```text
-/// ensures { result ≡ has_name name.now (map label names.now) }
+/// ensures { result ≡ has_name name.now (labels_of names.now) }
 /// ```
-fn has_name(names: &[Name<'_>], name: &str) -> bool {
-    for given in names {
-        if given.is(name) {
-            return true;
+fn has_name(names: &[NameRun<'_>], name: &str) -> bool {
+    for run in names {
+        if let NameRun::Given(given) = *run {
+            if given == name {
+                return true;
+            }
         }
     }
     false
@@ -219,11 +265,11 @@ fn has_name(names: &[Name<'_>], name: &str) -> bool {
 /// # Proved
 ///
 /// ```text
-/// ensures { result ≡ are_distinct (map label names.now) }
+/// ensures { result ≡ are_distinct (labels_of names.now) }
 /// ```
-fn are_distinct(names: &[Name<'_>]) -> bool {
-    for (i, name) in names.iter().enumerate() {
-        if let Name::Given(given) = *name {
+fn are_distinct(names: &[NameRun<'_>]) -> bool {
+    for (i, run) in names.iter().enumerate() {
+        if let NameRun::Given(given) = *run {
             if has_name(&names[i + 1..], given) {
                 return false;
             }

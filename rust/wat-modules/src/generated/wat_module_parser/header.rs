@@ -2,7 +2,7 @@
 //! Parses inline exports, and groups of parameters, results and locals.
 
 use wat_lex::shim::prelude::*;
-use crate::parser::variables::Variable;
+use crate::parser::variables::Variables;
 use wat_lex::shim::alloc::Global;
 use core::str;
 use crate::ast::error::{Expected, Fault, FaultKind, ParseFailure};
@@ -10,7 +10,7 @@ use crate::ast::instruction::ValueType;
 use crate::instructions::faults::{fault, unexpected};
 use crate::instructions::reading::{after, value_type};
 use crate::tokens::stream::TokenCursor;
-use crate::tokens::token::{DecodedToken, Name};
+use crate::tokens::token::DecodedToken;
 
 /// Parses inline exports `(export "name")` as long as one comes next. Returns their names.
 ///
@@ -37,9 +37,6 @@ pub(crate) fn exports<'p, 'a>(
     }
 }
 
-/// Initial capacity of a list of variables that is not empty.
-const FEW: usize = 4;
-
 /// Parses groups of variables as long as one comes next. A group begins with an opening parenthesis
 /// and `word`, which is `param`, `result` or `local`. A variable may have an identifier only if
 /// `may_have_name`.
@@ -47,7 +44,7 @@ const FEW: usize = 4;
 /// # Proved
 ///
 /// ```text
-/// ensures { ReadsAs (λ v. map variable_of v.items)
+/// ensures { ReadsAs (λ v. v)
 /// (reading.all (reading.group_item word.now may_have_name) (terminals_of cursor.entry))
 /// result }
 /// ```
@@ -56,8 +53,8 @@ pub(crate) fn variables<'p, 'a>(
     word: &str,
     may_have_name: bool,
     cursor: TokenCursor<'p, 'a>,
-) -> Result<(Vec<Variable<'a>>, TokenCursor<'p, 'a>), ParseFailure<'p, 'a>> {
-    let mut found = Vec::new(alloc);
+) -> Result<(Variables<'a>, TokenCursor<'p, 'a>), ParseFailure<'p, 'a>> {
+    let mut found = Variables::none(alloc);
     let mut left = cursor;
     'groups: loop {
         match next_group(word, may_have_name, &mut found, left) {
@@ -77,12 +74,12 @@ pub(crate) fn variables<'p, 'a>(
 ///
 /// ```text
 /// ensures { MatchResult result
-/// (λ l. AreListed (terminals_of cursor.entry) (map variable_of found.old.items)
-/// (map variable_of found.new.items) (terminals_of l))
+/// (λ l. AreListed (terminals_of cursor.entry) found.old
+/// found.new (terminals_of l))
 /// (λ e. Faults (reading.all reading.value_item (terminals_of cursor.entry)) e) }
 /// ```
 fn values<'p, 'a>(
-    found: &mut Vec<Variable<'a>>,
+    found: &mut Variables<'a>,
     cursor: TokenCursor<'p, 'a>,
 ) -> Result<TokenCursor<'p, 'a>, ParseFailure<'p, 'a>> {
     let mut left = cursor;
@@ -201,23 +198,20 @@ fn next_export<'p, 'a>(
 /// ensures { MatchResult result
 /// (λ o. MatchOption o
 /// (NoItem (reading.group_item word.now may_have_name (terminals_of left.entry))
-/// (map variable_of found.old.items) (map variable_of found.new.items))
+/// found.old found.new)
 /// (λ l. IsItem (reading.group_item word.now may_have_name (terminals_of left.entry))
-/// (map variable_of found.old.items) (map variable_of found.new.items)
+/// found.old found.new
 /// (terminals_of l)))
 /// (λ e. ItemFaults (reading.group_item word.now may_have_name (terminals_of left.entry)) e) }
 /// ```
 fn next_group<'p, 'a>(
     word: &str,
     may_have_name: bool,
-    found: &mut Vec<Variable<'a>>,
+    found: &mut Variables<'a>,
     left: TokenCursor<'p, 'a>,
 ) -> Result<Option<TokenCursor<'p, 'a>>, ParseFailure<'p, 'a>> {
     match after(word, left) {
         Some(rest) => {
-            if found.is_empty() {
-                found.reserve(FEW)?;
-            }
             let next = group(may_have_name, found, rest)?;
             Ok(Some(next))
         }
@@ -233,21 +227,20 @@ fn next_group<'p, 'a>(
 /// ```text
 /// ensures { MatchResult result
 /// (λ o. MatchOption o
-/// (NoneListed (terminals_of left.entry) (map variable_of found.old.items)
-/// (map variable_of found.new.items))
-/// (λ l. IsListed (terminals_of left.entry) (map variable_of found.old.items)
-/// (map variable_of found.new.items) (terminals_of l)))
+/// (NoneListed (terminals_of left.entry) found.old
+/// found.new)
+/// (λ l. IsListed (terminals_of left.entry) found.old
+/// found.new (terminals_of l)))
 /// (λ e. ItemFaults (reading.value_item (terminals_of left.entry)) e) }
 /// ```
 fn next_value<'p, 'a>(
-    found: &mut Vec<Variable<'a>>,
+    found: &mut Variables<'a>,
     left: TokenCursor<'p, 'a>,
 ) -> Result<Option<TokenCursor<'p, 'a>>, ParseFailure<'p, 'a>> {
     match left.first() {
         Some((DecodedToken::Word(word), cursor)) => match value_type(word) {
             Some(of) => {
-                let name = Name::Absent;
-                found.push(Variable { name, of })?;
+                found.push(of)?;
                 Ok(Some(cursor))
             }
             None => {
@@ -267,12 +260,12 @@ fn next_value<'p, 'a>(
 /// ```text
 /// ensures { MatchResult result
 /// (λ l. IsItem (Some (reading.group may_have_name (terminals_of cursor.entry)))
-/// (map variable_of found.old.items) (map variable_of found.new.items) (terminals_of l))
+/// found.old found.new (terminals_of l))
 /// (λ e. Faults (reading.group may_have_name (terminals_of cursor.entry)) e) }
 /// ```
 fn group<'p, 'a>(
     may_have_name: bool,
-    found: &mut Vec<Variable<'a>>,
+    found: &mut Variables<'a>,
     cursor: TokenCursor<'p, 'a>,
 ) -> Result<TokenCursor<'p, 'a>, ParseFailure<'p, 'a>> {
     match cursor.first() {
@@ -298,12 +291,12 @@ fn group<'p, 'a>(
 /// ```text
 /// ensures { MatchResult result
 /// (λ l. IsItem (Some (reading.named_group name.now (terminals_of cursor.entry)))
-/// (map variable_of found.old.items) (map variable_of found.new.items) (terminals_of l))
+/// found.old found.new (terminals_of l))
 /// (λ e. Faults (reading.named_group name.now (terminals_of cursor.entry)) e) }
 /// ```
 fn named_group<'p, 'a>(
     name: &'a str,
-    found: &mut Vec<Variable<'a>>,
+    found: &mut Variables<'a>,
     cursor: TokenCursor<'p, 'a>,
 ) -> Result<TokenCursor<'p, 'a>, ParseFailure<'p, 'a>> {
     match cursor.first() {
@@ -328,7 +321,7 @@ fn named_group<'p, 'a>(
 /// (λ l. IsItem
 /// (Some (reading.named_type name.now (Some of) (terminals_of cursor.entry)
 /// (terminals_of cursor.entry)))
-/// (map variable_of found.old.items) (map variable_of found.new.items) (terminals_of l))
+/// found.old found.new (terminals_of l))
 /// (λ e. Faults
 /// (reading.named_type name.now (Some of) (terminals_of cursor.entry)
 /// (terminals_of cursor.entry))
@@ -337,12 +330,11 @@ fn named_group<'p, 'a>(
 fn named_type<'p, 'a>(
     name: &'a str,
     of: ValueType,
-    found: &mut Vec<Variable<'a>>,
+    found: &mut Variables<'a>,
     cursor: TokenCursor<'p, 'a>,
 ) -> Result<TokenCursor<'p, 'a>, ParseFailure<'p, 'a>> {
     let rest = closed(cursor)?;
-    let name = Name::Given(name);
-    found.push(Variable { name, of })?;
+    found.push_named(name, of)?;
     Ok(rest)
 }
 
@@ -354,11 +346,11 @@ fn named_type<'p, 'a>(
 /// ```text
 /// ensures { MatchResult result
 /// (λ l. IsItem (Some (reading.listed (terminals_of cursor.entry)))
-/// (map variable_of found.old.items) (map variable_of found.new.items) (terminals_of l))
+/// found.old found.new (terminals_of l))
 /// (λ e. Faults (reading.listed (terminals_of cursor.entry)) e) }
 /// ```
 fn listed<'p, 'a>(
-    found: &mut Vec<Variable<'a>>,
+    found: &mut Variables<'a>,
     cursor: TokenCursor<'p, 'a>,
 ) -> Result<TokenCursor<'p, 'a>, ParseFailure<'p, 'a>> {
     let rest = values(found, cursor)?;

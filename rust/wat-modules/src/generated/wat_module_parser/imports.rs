@@ -7,7 +7,7 @@ use crate::parser::names::{Names, variable_names};
 use crate::parser::places::duplicate_variable;
 use crate::parser::types::{global_type, limits, skip_two_closes, space_of, table_type};
 use crate::parser::uses::type_use;
-use crate::parser::variables::{NamedUse, without_names};
+use crate::parser::variables::{NamedUse, Variables, without_names};
 use wat_lex::shim::alloc::Global;
 use crate::ast::error::{Expected, Fault, ParseFailure};
 use crate::ast::fields::{ExternType, Field, Import, IndexSpace};
@@ -82,7 +82,7 @@ fn func_type<'p, 'a>(
     all: TokenCursor<'p, 'a>,
     rest: TokenCursor<'p, 'a>,
 ) -> Result<(ExternType, TokenCursor<'p, 'a>), ParseFailure<'p, 'a>> {
-    if variable_names(alloc, &uses, &[])?.is_none() {
+    if variable_names(alloc, &uses, &Variables::none(alloc))?.is_none() {
         return Err(ParseFailure::Text(duplicate_variable(alloc, all)?));
     }
     let uses = without_names(alloc, &uses)?;

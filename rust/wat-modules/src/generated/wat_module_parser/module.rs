@@ -25,7 +25,7 @@ use crate::parser::places::{duplicate_item, duplicate_variable, import_fault, st
 use crate::parser::segments::{memory_at, segment};
 use crate::parser::types::{global_type, space_of};
 use crate::parser::uses::{type_at, type_use};
-use crate::parser::variables::{NamedUse, Variable, local_names, locals_of, without_names};
+use crate::parser::variables::{NamedUse, Variables, local_names, locals_of, without_names};
 use wat_lex::shim::alloc::Global;
 use crate::ast::error::{Expected, Fault, FaultKind, ParseFailure, Space};
 use crate::ast::fields::{Field, Function, GlobalVariable, IndexSpace};
@@ -537,7 +537,7 @@ fn func<'p, 'a>(
     let local_names = local_names(alloc, &uses, &locals)?;
     let label_names = label_names(alloc, start)?;
     let uses = without_names(alloc, &uses)?;
-    let locals = locals_of(alloc, &locals)?;
+    let locals = locals_of(alloc, locals.types())?;
     Ok((
         Field::Func(Function {
             name,
@@ -681,14 +681,14 @@ pub(crate) fn scope<'s, 'n>(names: &'s Names<'n>, locals: &'s IndexedNames<'n>) 
 /// ```text
 /// ensures { ReadsAs (λ v. v.items)
 /// (reading.instructions (context_of names.now) (use_of uses.now).params
-/// (map variable_of locals.now) (terminals_of start.entry) (terminals_of cursor.entry))
+/// locals.now (terminals_of start.entry) (terminals_of cursor.entry))
 /// result }
 /// ```
 fn instructions<'p, 'a>(
     alloc: Global,
     names: &Names<'a>,
     uses: &NamedUse<'_, 'a>,
-    locals: &[Variable<'a>],
+    locals: &Variables<'a>,
     start: TokenCursor<'p, 'a>,
     cursor: TokenCursor<'p, 'a>,
 ) -> Result<(Vec<Instruction>, TokenCursor<'p, 'a>), ParseFailure<'p, 'a>> {

@@ -6,13 +6,13 @@ use wat_lex::shim::prelude::*;
 use crate::parser::header::exports;
 use crate::parser::types::space_of;
 use crate::parser::uses::type_at;
-use crate::parser::variables::{NamedUse, Variable};
+use crate::parser::variables::{NamedUse, Variables};
 use wat_lex::shim::alloc::{AllocError, Global};
 use crate::ast::error::ParseFailure;
 use crate::ast::fields::{Definition, IndexSpace};
 use crate::ast::instruction::ValueType;
 use crate::ast::types::FunctionType;
-use crate::instructions::names::IndexedNames;
+use crate::instructions::names::{IndexedNames, push_unnamed};
 use crate::instructions::reading::{after, label};
 use crate::tokens::stream::TokenCursor;
 use crate::tokens::token::{DecodedToken, Name};
@@ -615,14 +615,14 @@ fn definition_after<'p, 'a>(
 ///
 /// ```text
 /// ensures these { IfOk result (λ found. IfSome found (λ names. names ≡
-///     map name_of ((use_of uses.now).params ++ map variable_of locals.now))) }
+///     map name_of ((use_of uses.now).params ++ locals.now))) }
 /// ensures distinct { IfOk result (λ found. is_some found ≡
-///     are_distinct (map name_of ((use_of uses.now).params ++ map variable_of locals.now))) }
+///     are_distinct (map name_of ((use_of uses.now).params ++ locals.now))) }
 /// ```
 pub(crate) fn variable_names<'a>(
     alloc: Global,
     uses: &NamedUse<'_, 'a>,
-    locals: &[Variable<'a>],
+    locals: &Variables<'a>,
 ) -> Result<Option<IndexedNames<'a>>, AllocError> {
     match uses {
         NamedUse::Listed(listed) => listed_names(alloc, &listed.params, locals),
@@ -637,20 +637,19 @@ pub(crate) fn variable_names<'a>(
 ///
 /// ```text
 /// ensures these { IfOk result (λ found. IfSome found (λ names. names ≡
-///     map name_of (map unnamed params.now ++ map variable_of locals.now))) }
+///     map name_of (map unnamed params.now ++ locals.now))) }
 /// ensures distinct { IfOk result (λ found. is_some found ≡
-///     are_distinct (map name_of (map unnamed params.now ++ map variable_of locals.now))) }
+///     are_distinct (map name_of (map unnamed params.now ++ locals.now))) }
 /// ```
 fn names_after<'a>(
     alloc: Global,
     params: &[ValueType],
-    locals: &[Variable<'a>],
+    locals: &Variables<'a>,
 ) -> Result<Option<IndexedNames<'a>>, AllocError> {
     let mut names = Vec::new(alloc);
-    for local in locals {
-        names.push(local.name)?;
-    }
-    IndexedNames::after_unnamed(alloc, params.len(), names)
+    push_unnamed(&mut names, params.len())?;
+    locals.append_names(&mut names)?;
+    IndexedNames::from_runs(alloc, names)
 }
 
 /// Returns the identifiers of parameters and locals, in the order of their indices, or `None` if
@@ -660,21 +659,17 @@ fn names_after<'a>(
 ///
 /// ```text
 /// ensures these { IfOk result (λ found. IfSome found (λ names. names ≡
-///     map name_of (map variable_of params.now ++ map variable_of locals.now))) }
+///     map name_of (params.now ++ locals.now))) }
 /// ensures distinct { IfOk result (λ found. is_some found ≡
-///     are_distinct (map name_of (map variable_of params.now ++ map variable_of locals.now))) }
+///     are_distinct (map name_of (params.now ++ locals.now))) }
 /// ```
 fn listed_names<'a>(
     alloc: Global,
-    params: &[Variable<'a>],
-    locals: &[Variable<'a>],
+    params: &Variables<'a>,
+    locals: &Variables<'a>,
 ) -> Result<Option<IndexedNames<'a>>, AllocError> {
     let mut names = Vec::new(alloc);
-    for param in params {
-        names.push(param.name)?;
-    }
-    for local in locals {
-        names.push(local.name)?;
-    }
-    IndexedNames::new(alloc, names)
+    params.append_names(&mut names)?;
+    locals.append_names(&mut names)?;
+    IndexedNames::from_runs(alloc, names)
 }

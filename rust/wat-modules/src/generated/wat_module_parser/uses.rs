@@ -5,7 +5,7 @@ use wat_lex::shim::prelude::*;
 use crate::parser::header::{closed, variables};
 use crate::parser::names::Names;
 use crate::parser::types::skip_two_closes;
-use crate::parser::variables::{ListedUse, NamedUse, Variable, function_type};
+use crate::parser::variables::{ListedUse, NamedUse, Variables, function_type};
 use wat_lex::shim::alloc::Global;
 use crate::ast::error::{Expected, FaultKind, ParseFailure, Space};
 use crate::ast::fields::Definition;
@@ -175,10 +175,9 @@ fn lists<'s, 'p, 'a>(
 /// # Proved
 ///
 /// ```text
-/// ensures { result ≡
-/// reading.list_nothing (map variable_of params.now) (map variable_of results.now) }
+/// ensures { result ≡ reading.list_nothing params.now results.now }
 /// ```
-fn list_nothing(params: &[Variable<'_>], results: &[Variable<'_>]) -> bool {
+fn list_nothing(params: &Variables<'_>, results: &Variables<'_>) -> bool {
     params.is_empty() && results.is_empty()
 }
 

@@ -3,18 +3,20 @@
 
 use wat_lex::shim::prelude::*;
 use wat_lex::shim::alloc::{AllocError, Global};
+
 use crate::ast::fields::{Locals, NameAssociation};
 use crate::ast::instruction::ValueType;
 use crate::ast::types::{FunctionType, TypeUse};
-use crate::tokens::token::Name;
+use crate::instructions::names::{NameRun, push_unnamed};
 
-/// A parameter, result or local.
-#[derive(Clone, Copy)]
-pub(crate) struct Variable<'a> {
-    /// Identifier of the variable, if given.
-    pub(crate) name: Name<'a>,
-    /// Type of the variable.
-    pub(crate) of: ValueType,
+/// Parameters, results or locals, in the order of their indices.
+pub(crate) struct Variables<'a> {
+    /// Types of the variables.
+    types: Vec<ValueType>,
+    /// Identifiers of the variables up to the last one that has one.
+    names: Vec<NameRun<'a>>,
+    /// Number of variables that `names` describes.
+    named: usize,
 }
 
 /// A type use whose parameters keep their identifiers.
@@ -30,72 +32,163 @@ pub(crate) struct ListedUse<'a> {
     /// Type index, if given.
     pub(crate) index: Option<usize>,
     /// Parameters.
-    pub(crate) params: Vec<Variable<'a>>,
+    pub(crate) params: Variables<'a>,
     /// Results.
-    pub(crate) results: Vec<Variable<'a>>,
+    pub(crate) results: Variables<'a>,
 }
 
-/// Returns the types of variables.
+impl<'a> Variables<'a> {
+    /// Returns no variables. Does not allocate.
+    ///
+    /// # Proved
+    ///
+    /// ```text
+    /// ensures { result ≡ [] }
+    /// ```
+    pub(crate) fn none(alloc: Global) -> Variables<'a> {
+        Variables {
+            types: Vec::new(alloc),
+            names: Vec::new(alloc),
+            named: 0,
+        }
+    }
+
+    /// Appends a variable without an identifier.
+    ///
+    /// # Proved
+    ///
+    /// ```text
+    /// ensures { IfOk result (λ _. self.new ≡ self.old ++ grammar.unnamed of ∷ []) }
+    /// ```
+    pub(crate) fn push(&mut self, of: ValueType) -> Result<(), AllocError> {
+        self.types.push(of)?;
+        Ok(())
+    }
+
+    /// Appends a variable with an identifier.
+    ///
+    /// # Proved
+    ///
+    /// ```text
+    /// ensures { IfOk result (λ _. self.new ≡
+    /// self.old ++ grammar.variable (Some name.now) of ∷ []) }
+    /// ```
+    pub(crate) fn push_named(&mut self, name: &'a str, of: ValueType) -> Result<(), AllocError> {
+        let count = self.types.len();
+        push_unnamed(&mut self.names, count - self.named)?;
+        self.named = count;
+        self.types.push(of)?;
+        self.names.push(NameRun::Given(name))?;
+        self.named = count + 1;
+        Ok(())
+    }
+
+    /// Returns `true` if there are no variables.
+    ///
+    /// # Proved
+    ///
+    /// ```text
+    /// ensures { result ≡ (length self.now == 0) }
+    /// ```
+    pub(crate) fn is_empty(&self) -> bool {
+        self.types.is_empty()
+    }
+
+    /// Returns the number of variables.
+    ///
+    /// # Proved
+    ///
+    /// ```text
+    /// ensures count { result ≡ length self.now }
+    /// ensures small { length self.now < 2 ^ 63 }
+    /// ```
+    pub(crate) fn len(&self) -> usize {
+        self.types.len()
+    }
+
+    /// Returns the types of the variables.
+    ///
+    /// # Proved
+    ///
+    /// ```text
+    /// ensures { result.now ≡ map grammar.type_of self.now }
+    /// ```
+    pub(crate) fn types(&self) -> &[ValueType] {
+        &self.types
+    }
+
+    /// Appends the identifiers of the variables to runs of items.
+    ///
+    /// # Proved
+    ///
+    /// ```text
+    /// ensures names { IfOk result (λ _. labels_of names.new.items ≡
+    ///     labels_of names.old.items ++ map grammar.name_of self.now) }
+    /// ensures small { length self.now < 2 ^ 63 }
+    /// ```
+    #[inline(always)]
+    pub(crate) fn append_names(&self, names: &mut Vec<NameRun<'a>>) -> Result<(), AllocError> {
+        if self.types.is_empty() {
+            return Ok(());
+        }
+        names.extend_from_slice(&self.names)?;
+        push_unnamed(names, self.types.len() - self.named)
+    }
+}
+
+/// Returns a copy of value types.
 ///
 /// # Proved
 ///
 /// ```text
-/// ensures { IfOk result (λ types. types.items ≡
-/// map grammar.type_of (map variable_of variables.now)) }
+/// ensures { IfOk result (λ copy. copy.items ≡ types.now) }
 /// ```
 pub(crate) fn value_types(
     alloc: Global,
-    variables: &[Variable<'_>],
+    types: &[ValueType],
 ) -> Result<Vec<ValueType>, AllocError> {
-    let mut types = Vec::with_capacity(alloc, variables.len())?;
-    for variable in variables {
-        types.push(variable.of)?;
-    }
-    Ok(types)
+    let mut copy = Vec::with_capacity(alloc, types.len())?;
+    copy.extend_from_slice(types)?;
+    Ok(copy)
 }
 
-/// Returns the locals as maximal runs of consecutive variables of one type.
+/// Returns locals of these types as maximal runs of consecutive locals of one type.
 ///
 /// # Proved
 ///
 /// ```text
-/// ensures { IfOk result (λ locals. flat_map local_types locals.items ≡
-/// map grammar.type_of (map variable_of variables.now)) }
+/// ensures { IfOk result (λ locals. flat_map local_types locals.items ≡ types.now) }
 /// ```
-pub(crate) fn locals_of(
-    alloc: Global,
-    variables: &[Variable<'_>],
-) -> Result<Vec<Locals>, AllocError> {
-    match variables {
-        [first, others @ ..] => locals_after(alloc, first.of, others),
+pub(crate) fn locals_of(alloc: Global, types: &[ValueType]) -> Result<Vec<Locals>, AllocError> {
+    match types {
+        [first, others @ ..] => locals_after(alloc, *first, others),
         [] => Ok(Vec::new(alloc)),
     }
 }
 
-/// Returns a local of type `first`, and the locals `others` after it, as maximal runs of
+/// Returns a local of type `first`, and locals of the types `others` after it, as maximal runs of
 /// consecutive locals of one type.
 ///
 /// # Proved
 ///
 /// ```text
-/// ensures { IfOk result (λ locals. flat_map local_types locals.items ≡
-/// first ∷ map grammar.type_of (map variable_of others.now)) }
+/// ensures { IfOk result (λ locals. flat_map local_types locals.items ≡ first ∷ others.now) }
 /// ```
 fn locals_after(
     alloc: Global,
     first: ValueType,
-    others: &[Variable<'_>],
+    others: &[ValueType],
 ) -> Result<Vec<Locals>, AllocError> {
     let mut locals = Vec::new(alloc);
     let mut count = 1;
     let mut of = first;
     for other in others {
-        if other.of == of {
+        if *other == of {
             count += 1;
         } else {
             locals.push(Locals { count, of })?;
             count = 1;
-            of = other.of;
+            of = *other;
         }
     }
     locals.push(Locals { count, of })?;
@@ -107,16 +200,15 @@ fn locals_after(
 /// # Proved
 ///
 /// ```text
-/// ensures { IfOk result (λ of. type_of of ≡
-/// grammar.function_type (map variable_of params.now) (map variable_of results.now)) }
+/// ensures { IfOk result (λ of. type_of of ≡ grammar.function_type params.now results.now) }
 /// ```
 pub(crate) fn function_type(
     alloc: Global,
-    params: &[Variable<'_>],
-    results: &[Variable<'_>],
+    params: &Variables<'_>,
+    results: &Variables<'_>,
 ) -> Result<FunctionType, AllocError> {
-    let params = value_types(alloc, params)?;
-    let results = value_types(alloc, results)?;
+    let params = value_types(alloc, params.types())?;
+    let results = value_types(alloc, results.types())?;
     Ok(FunctionType { params, results })
 }
 
@@ -158,12 +250,12 @@ fn listed_without_names(alloc: Global, uses: &ListedUse<'_>) -> Result<TypeUse, 
 ///
 /// ```text
 /// ensures { IfOk result (λ names. map association_of names.items ≡
-/// grammar.local_associations (use_of uses.now).params (map variable_of locals.now)) }
+/// grammar.local_associations (use_of uses.now).params locals.now) }
 /// ```
 pub(crate) fn local_names<'a>(
     alloc: Global,
     uses: &NamedUse<'_, 'a>,
-    locals: &[Variable<'a>],
+    locals: &Variables<'a>,
 ) -> Result<Vec<NameAssociation<'a>>, AllocError> {
     match uses {
         NamedUse::Listed(listed) => {
@@ -187,20 +279,43 @@ pub(crate) fn local_names<'a>(
 /// requires { first < 2 ^ 63 }
 /// ensures { IfOk result (λ all. map association_of all.items ≡
 ///     map association_of names.entry.items ++
-///     associations first (map grammar.name_of (map variable_of variables.now))) }
+///     associations first (map grammar.name_of variables.now)) }
 /// ```
 fn with_names<'a>(
     names: Vec<NameAssociation<'a>>,
     first: usize,
-    variables: &[Variable<'a>],
+    variables: &Variables<'a>,
+) -> Result<Vec<NameAssociation<'a>>, AllocError> {
+    with_runs(names, first, &variables.names)
+}
+
+/// Returns `names` with the identifiers of items appended, by their indices, which begin at
+/// `first`. All indices must be below 2^64.
+///
+/// # Proved
+///
+/// ```text
+/// requires { first + length (labels_of runs.now) < 2 ^ 64 }
+/// ensures { IfOk result (λ all. map association_of all.items ≡
+///     map association_of names.entry.items ++ associations first (labels_of runs.now)) }
+/// ```
+fn with_runs<'a>(
+    names: Vec<NameAssociation<'a>>,
+    first: usize,
+    runs: &[NameRun<'a>],
 ) -> Result<Vec<NameAssociation<'a>>, AllocError> {
     let mut names = names;
     let mut index = first;
-    for variable in variables {
-        if let Name::Given(name) = variable.name {
-            names.push(NameAssociation { index, name })?;
+    for run in runs {
+        match *run {
+            NameRun::Given(name) => {
+                names.push(NameAssociation { index, name })?;
+                index += 1;
+            }
+            NameRun::Absent(count) => {
+                index += count;
+            }
         }
-        index += 1;
     }
     Ok(names)
 }
