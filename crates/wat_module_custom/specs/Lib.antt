@@ -1,0 +1,2 @@
+pub mod Customs
+pub mod Values

@@ -1,0 +1,87 @@
+//! Custom annotations: the custom sections that the source text of a module defines, and their
+//! places in the binary format.
+#![tactic(auto)]
+
+ghost use Rattle.std.specs.Prelude.{◌≡◌, ◌<◌, ◌^◌, length, map, false, true};
+ghost use Rattle.wat_lexer_parser.specs.parser.State.{Answers};
+ghost use Rattle.wat_lexer_parser.specs.places.Source.{IsRead, Source};
+ghost use Rattle.wat_module_custom.specs.Customs.{contains, custom_sections, may_have_customs, plain};
+ghost use Rattle.wat_module_custom.specs.Values.{section_of};
+
+pub mod kw;
+mod placing;
+pub mod reading;
+pub mod sections;
+#[cfg(test)]
+mod tests;
+
+use crate::placing::placed;
+use crate::reading::AllItems;
+use crate::sections::CustomSection;
+use memchr::memmem;
+use std::alloc::Global;
+use wat_lexer_parser::Error;
+use wat_lexer_parser::lexer::{Lexer, Settings};
+use wat_lexer_parser::parser::LazyBuffer;
+
+/// Lexer settings: confusing Unicode characters are allowed in comments and strings, and an
+/// underscore right after another inside `\u{..}` is an error.
+const SETTINGS: Settings = Settings {
+    allow: true,
+    strict: true,
+};
+
+/// Creates a buffer of the text of a module, with the lexer settings of the compiler of modules.
+/// The text must be shorter than 2^32 bytes.
+pub fn buffer(alloc: Global, text: &str) -> LazyBuffer<'_>
+    requires { length text.now < 2 ^ 32 }
+    ensures setting { result.setting ≡ plain text.now }
+    ensures track { result.track ≡ false }
+    ensures read { IsRead result }
+{
+    LazyBuffer::new_with_lexer(alloc, Lexer::with_settings(text, SETTINGS))
+}
+
+/// Returns the custom sections that the annotations `(@custom ..)` of a module define, in source
+/// order. The text of the buffer must be a module, or else the places of annotations are not
+/// checked.
+///
+/// # Errors
+///
+/// Returns an error at the first token that an annotation must not contain, or at an annotation
+/// where no field may stand. Fails if an allocation fails.
+pub fn custom_sections<'b>(
+    alloc: Global,
+    buffer: &'b LazyBuffer<'_>,
+) -> Result<Vec<CustomSection<'b>>, Error>
+    ensures sections { (s : Source) → IsRead s → s.setting ≡ buffer.now.setting →
+        s.track ≡ buffer.now.track →
+        Answers true (λ v. map section_of v.items) (custom_sections s) result }
+    ensures read { IsRead buffer.now }
+{
+    buffer.lemma_sound();
+    let lexer = buffer.lexer();
+    let text = lexer.input();
+    if may_have_customs(text) {
+        return match buffer.parse::<AllItems<'b>>() {
+            Ok(items) => placed(alloc, text, items.items.items),
+            Err(error) => Err(error),
+        };
+    }
+    Ok(Vec::new(alloc))
+}
+
+/// Returns `false` only if a text has no custom annotations.
+fn may_have_customs(text: &str) -> bool
+    ensures { result ≡ may_have_customs text.now }
+{
+    let bytes = text.as_bytes();
+    contains(bytes, b"(@custom") || contains(bytes, b"(@\"")
+}
+
+/// Returns `true` if `needle` occurs in `bytes`.
+fn contains(bytes: &[u8], needle: &[u8]) -> bool
+    ensures { result ≡ contains needle.now bytes.now }
+{
+    memmem::find(bytes, needle).is_some()
+}
