@@ -1,3 +1,4 @@
 pub mod Binary
 pub mod NameSection
+pub mod CustomSections
 pub mod Views

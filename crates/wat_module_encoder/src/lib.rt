@@ -3,6 +3,7 @@
 
 mod bytes;
 mod code;
+mod customs;
 mod data;
 mod elements;
 pub mod encode;
