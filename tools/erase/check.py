@@ -71,6 +71,7 @@ PLACES = {
     "wat_module_ast": ("", "crate::ast"),
     "wat_module_instructions": ("", "crate::instructions"),
     "wat_module_parser": ("", "crate::parser"),
+    "wat_module_custom": ("", "crate::custom"),
     "wat_module_encoder": ("", "crate::encoder"),
     "wat_modules": ("wat_modules::proved", "crate::proved"),
     "example_imports": ("", "crate::imports"),
@@ -79,8 +80,8 @@ PLACES = {
 FORMATTER = {"wat_format", "wat_tokens_io"}
 PROGRAM = {"wat_tokens_output", "wat_tokens_args", "wat_tokens_run", "wat_tokens"}
 MODULES = {
-    "wat_module_tokens", "wat_module_lexer", "wat_module_ast", "wat_module_instructions", "wat_module_parser", "wat_module_encoder", "wat_modules",
-    "wat_types",
+    "wat_module_tokens", "wat_module_lexer", "wat_module_ast", "wat_module_instructions", "wat_module_parser", "wat_module_custom", "wat_module_encoder",
+    "wat_modules", "wat_types",
 }
 TOGETHER = [{"wat_words", "wat_floats", "wat_lexer_parser"}, {"wat_c_records", "wat_c"}, FORMATTER, PROGRAM, MODULES]
 # For a function that C calls, with a space between tokens: the parameters for C of a slice, and the statements at the beginning of its body.

@@ -33,6 +33,7 @@ MODULES = {
     "wat_module_ast": ("wat-modules/src", "ast"),
     "wat_module_instructions": ("wat-modules/src", "instructions"),
     "wat_module_parser": ("wat-modules/src", "parser"),
+    "wat_module_custom": ("wat-modules/src", "custom"),
     "wat_module_encoder": ("wat-modules/src", "encoder"),
     "wat_modules": ("wat-modules/src", "proved"),
     "wat_types": ("wat-modules/src", "types"),

@@ -28,7 +28,11 @@ use Rattle.wat_module_parser.specs.Law.{ReadingIsGrammar}
 use Rattle.wat_module_parser.specs.Reading as reading
 use Rattle.wat_module_lexer.specs.TokenTerminals.{plain, terminal_of}
 use Rattle.wat_module_lexer.specs.Shown.{TerminalsShown, TextShown}
-use Rattle.wat_modules.specs.Compiling.{DenotesModule, DenotesNamed, FitsNamed, named_bytes, compiled_as, compiled_by, compiled_tokens, encoding, fitted, module_name, too_long}
+use Rattle.wat_lexer_parser.specs.lemmas.SpellingLaws.{some_source}
+use Rattle.wat_module_custom.specs.Customs.{CustomSection, HasSections, custom_sections, plain as custom_plain}
+use Rattle.wat_module_encoder.specs.Binary.{module_bytes}
+use Rattle.wat_module_encoder.specs.CustomSections.{complete_bytes}
+use Rattle.wat_modules.specs.Compiling.{DenotesModule, DenotesNamed, Fits, FitsNamed, Sections, Wanted, Bare, Named, Complete, named_bytes, compiled_with, compiled_by, compiled_tokens, finished, fitted, module_name, too_long}
 use Rattle.wat_modules.specs.Messages.{message, place}
 
 -- The visible tokens of a text, and the error after them, are unique.
@@ -66,12 +70,12 @@ Answer = Result (Vec ℕ Global) (Option Report)
 abbrev pub Is : Result (List ℕ) Report → Answer → Type 0
 Is m r = Answers {T = Vec ℕ Global} true (λ bytes. bytes.items) m r
 
--- the bytes of a module that the tokens are
-pub of_bytes : ReadingIsGrammar → (n : Bool) (text : List ℕ) (us : List Token) (ts : List Terminal) (fs : List Field) (bytes : List ℕ) (r : Answer) → Module ts fs → bytes ≡ encoding n (module_name ts) fs → Is (fitted text bytes) r → ts ≡ map (terminal_of text) us → Is (compiled_tokens n text us) r
+-- the result for a module that the tokens are
+pub of_fields : ReadingIsGrammar → (n : Wanted) (text : List ℕ) (us : List Token) (ts : List Terminal) (fs : List Field) (r : Answer) → Module ts fs → Is (finished n text (module_name ts) fs) r → ts ≡ map (terminal_of text) us → Is (compiled_tokens n text us) r
 unfolding compiled_tokens
-of_bytes law n text us ts fs bytes r m e a t =
+of_fields law n text us ts fs r m a t =
     let q : reading.whole (map (terminal_of text) us) ≡ Ok fs = ap reading.whole (sym t) ∙ (law ts fs).1 m in
-    subst (λ x. Is (compiled_by n (module_name (map (terminal_of text) us)) text us x) r) (sym q) (subst (λ b. Is (fitted text b) r) (e ∙ ap (λ x. encoding n (module_name x) fs) t) a)
+    subst (λ x. Is (compiled_by n (module_name (map (terminal_of text) us)) text us x) r) (sym q) (subst (λ x. Is (finished n text (module_name x) fs) r) t a)
 
 -- The report of a syntax error at which `left` tokens remain.
 pub readable_of : (text : List ℕ) (items : List Token) (error : Option (Option Report)) → TextShown text items error → All (IsTokenOf text) items
@@ -84,7 +88,7 @@ unless_memory : (m : Report) (error : Option Report) → IsUnlessMemory error m 
 unless_memory m None h = refl
 unless_memory m (Some e) h = ap Err (sym h)
 
-pub of_fault : (names : Bool) (text : List ℕ) (us : List Token) (ts : List Terminal) (kind : FaultKind) (left : List Terminal) (n : ℕ) (error : Option Report) → reading.whole ts ≡ Err (kind, left) → n ≡ length left → IsUnlessMemory error (fault_report text us kind n) → ts ≡ map (terminal_of text) us → Is (compiled_tokens names text us) (Err error)
+pub of_fault : (names : Wanted) (text : List ℕ) (us : List Token) (ts : List Terminal) (kind : FaultKind) (left : List Terminal) (n : ℕ) (error : Option Report) → reading.whole ts ≡ Err (kind, left) → n ≡ length left → IsUnlessMemory error (fault_report text us kind n) → ts ≡ map (terminal_of text) us → Is (compiled_tokens names text us) (Err error)
 unfolding compiled_tokens
 of_fault names text us ts kind left n error e l h t =
     let q : reading.whole (map (terminal_of text) us) ≡ Err (kind, left) = ap reading.whole (sym t) ∙ e in
@@ -97,47 +101,45 @@ fault_of_tokens tilings one text items us shown kind left error s h k =
     subst (λ ts. IsUnlessMemory error (fault_report text ts kind left)) (shows_one tilings one text items us a.fault None a.shows k).0 h
 
 -- The result is that of all visible tokens of the text and the error after them.
-abbrev pub IsRefused : Bool → List ℕ → Answer → Type 0
-IsRefused n text r = (tokens : List Token) (last : Option Fault) → TextShows (plain text) no_names tokens last → Is (compiled_as n text tokens last) r
+abbrev pub IsRefused : Wanted → List ℕ → Answer → Type 0
+IsRefused n text r = (tokens : List Token) (last : Option Fault) → TextShows (plain text) no_names tokens last → Is (compiled_with n text tokens last) r
 
-refused_by : TilingsAreUnique → AllShownIsOne → (n : Bool) (text : List ℕ) (us : List Token) (f : Option Fault) (r : Answer) → TextShows (plain text) no_names us f → Is (compiled_as n text us f) r → IsRefused n text r
+refused_by : TilingsAreUnique → AllShownIsOne → (n : Wanted) (text : List ℕ) (us : List Token) (f : Option Fault) (r : Answer) → TextShows (plain text) no_names us f → Is (compiled_with n text us f) r → IsRefused n text r
 refused_by tilings one n text us f r h a = λ vs g k.
-    let e = shows_one tilings one text us vs f g h k in subst (λ x. Is (compiled_as n text vs x) r) e.1 (subst (λ x. Is (compiled_as n text x f) r) e.0 a)
+    let e = shows_one tilings one text us vs f g h k in subst (λ x. Is (compiled_with n text vs x) r) e.1 (subst (λ x. Is (compiled_with n text x f) r) e.0 a)
 
-spelled_by : ReadingIsGrammar → (n : Bool) (text : List ℕ) (r : Answer) → IsRefused n text r → (fs : List Field) (m : DenotesModule text fs) → Is (fitted text (encoding n (module_name m.terminals) fs)) r
+spelled_by : ReadingIsGrammar → (n : Wanted) (text : List ℕ) (r : Answer) → IsRefused n text r → (fs : List Field) (m : DenotesModule text fs) → Is (finished n text (module_name m.terminals) fs) r
 unfolding compiled_tokens
 spelled_by law n text r h = λ fs s.
-    subst (λ ts. Is (fitted text (encoding n (module_name ts) fs)) r) (sym s.shown.are)
+    subst (λ ts. Is (finished n text (module_name ts) fs) r) (sym s.shown.are)
     (subst (λ q. Is (compiled_by n (module_name (map (terminal_of text) s.shown.tokens)) text s.shown.tokens q) r) (ap reading.whole (sym s.shown.are) ∙ (law s.terminals fs).1 s.spelled) (h s.shown.tokens None s.shown.shown))
 
-abbrev pub HasBytes : Bool → List ℕ → Answer → Type 0
-HasBytes n text r = IfOk r (λ bytes. (fs : List Field) × (m : DenotesModule text fs) × (length (encoding n (module_name m.terminals) fs) < 2 ^ 32) × (bytes.items ≡ encoding n (module_name m.terminals) fs))
+abbrev pub HasBytes : Wanted → List ℕ → Answer → Type 0
+HasBytes n text r = IfOk r (λ bytes. (fs : List Field) × (m : DenotesModule text fs) × (finished n text (module_name m.terminals) fs ≡ Ok bytes.items))
 
 fitted_is : (text : List ℕ) (bytes out : List ℕ) (b : Bool) → nat_lt (length bytes) (2 ^ 32) ≡ b → (if b then Ok bytes else Err (too_long text)) ≡ Ok out → (length bytes < 2 ^ 32) × (out ≡ bytes)
 fitted_is text bytes out true e h = let k : bytes ≡ out = cc in ((Decides-ltb (length bytes) (2 ^ 32)).0 e, sym k)
 fitted_is text bytes out false e h = cc
 
-bytes_of : ReadingIsGrammar → (n : Bool) (text : List ℕ) (us : List Token) (out : Vec ℕ Global) → TextShows (plain text) no_names us None → (q : Result (List Field) grammar.Fault) → reading.whole (map (terminal_of text) us) ≡ q → compiled_by n (module_name (map (terminal_of text) us)) text us q ≡ Ok out.items
-    → (fs : List Field) × (m : DenotesModule text fs) × (length (encoding n (module_name m.terminals) fs) < 2 ^ 32) × (out.items ≡ encoding n (module_name m.terminals) fs)
+bytes_of : ReadingIsGrammar → (n : Wanted) (text : List ℕ) (us : List Token) (out : Vec ℕ Global) → TextShows (plain text) no_names us None → (q : Result (List Field) grammar.Fault) → reading.whole (map (terminal_of text) us) ≡ q → compiled_by n (module_name (map (terminal_of text) us)) text us q ≡ Ok out.items
+    → (fs : List Field) × (m : DenotesModule text fs) × (finished n text (module_name m.terminals) fs ≡ Ok out.items)
 bytes_of law n text us out h (Ok fs) e k =
-    let bytes = encoding n (module_name (map (terminal_of text) us)) fs in
-    let f = fitted_is text bytes out.items (nat_lt (length bytes) (2 ^ 32)) refl k in
-    (fs, record { terminals = map (terminal_of text) us; shown = record { tokens = us; shown = h; are = refl }; spelled = (law (map (terminal_of text) us) fs).0 e }, f.0, f.1)
+    (fs, record { terminals = map (terminal_of text) us; shown = record { tokens = us; shown = h; are = refl }; spelled = (law (map (terminal_of text) us) fs).0 e }, k)
 bytes_of law n text us out h (Err f) e k = cc
 
-bytes_by : ReadingIsGrammar → (n : Bool) (text : List ℕ) (us : List Token) (f : Option Fault) (r : Answer) → TextShows (plain text) no_names us f → Is (compiled_as n text us f) r → HasBytes n text r
+bytes_by : ReadingIsGrammar → (n : Wanted) (text : List ℕ) (us : List Token) (f : Option Fault) (r : Answer) → TextShows (plain text) no_names us f → Is (compiled_with n text us f) r → HasBytes n text r
 unfolding compiled_tokens
 bytes_by law n text us None (Ok out) h a = bytes_of law n text us out h (reading.whole (map (terminal_of text) us)) refl a
 bytes_by law n text us (Some f) (Ok out) h a = cc
 bytes_by law n text us f (Err e) h a = tt
 
 -- the fault that was shown
-fault_is : (n : Bool) (text : List ℕ) (us : List Token) (f : Option Fault) (e : Option Report) → Some e ≡ option_map (λ f. Some (report_of text f)) f → Is (compiled_as n text us f) (Err e)
+fault_is : (n : Wanted) (text : List ℕ) (us : List Token) (f : Option Fault) (e : Option Report) → Some e ≡ option_map (λ f. Some (report_of text f)) f → Is (compiled_with n text us f) (Err e)
 fault_is n text us (Some f) e h = let k : e ≡ Some (report_of text f) = cc in subst (λ x. Is (Err (report_of text f)) (Err x)) (sym k) refl
 fault_is n text us None e h = cc
 
 -- none was shown
-no_fault : (n : Bool) (text : List ℕ) (us : List Token) (f : Option Fault) (r : Answer) → None ≡ option_map (λ f. Some (report_of text f)) f → Is (compiled_tokens n text us) r → Is (compiled_as n text us f) r
+no_fault : (n : Wanted) (text : List ℕ) (us : List Token) (f : Option Fault) (r : Answer) → None ≡ option_map (λ f. Some (report_of text f)) f → Is (compiled_tokens n text us) r → Is (compiled_with n text us f) r
 no_fault n text us None r h a = a
 no_fault n text us (Some f) r h a = cc
 
@@ -146,42 +148,79 @@ shows_end text us None e h = h
 shows_end text us (Some f) e h = cc
 
 -- The result is that of some visible tokens of the text and the error after them.
-pub record IsCompiled (n : Bool) (text : List ℕ) (r : Answer) : Type 0 where
+pub record IsCompiled (n : Wanted) (text : List ℕ) (r : Answer) : Type 0 where
   pub tokens : List Token
   pub fault : Option Fault
   pub shows : TextShows (plain text) no_names tokens fault
-  pub is : Is (compiled_as n text tokens fault) r
+  pub is : Is (compiled_with n text tokens fault) r
 
-pub compiled_fault : (n : Bool) (text : List ℕ) (ts : List Terminal) (e : Option Report) → TerminalsShown text ts (Some e) → IsCompiled n text (Err e)
+pub compiled_fault : (n : Wanted) (text : List ℕ) (ts : List Terminal) (e : Option Report) → TerminalsShown text ts (Some e) → IsCompiled n text (Err e)
 compiled_fault n text ts e h =
     let s = seen text h.tokens (Some e) h.shown in
     record { tokens = h.tokens; fault = s.fault; shows = s.shows; is = fault_is n text h.tokens s.fault e s.reported }
 
 -- The result is that of all tokens with these terminals.
-abbrev pub IsOfTerminals : Bool → List ℕ → List Terminal → Answer → Type 0
+abbrev pub IsOfTerminals : Wanted → List ℕ → List Terminal → Answer → Type 0
 IsOfTerminals n text ts r = (tokens : List Token) → TextShows (plain text) no_names tokens None → ts ≡ map (terminal_of text) tokens → Is (compiled_tokens n text tokens) r
 
-pub compiled_end : (n : Bool) (text : List ℕ) (ts : List Terminal) (r : Answer) → TerminalsShown text ts None → IsOfTerminals n text ts r → IsCompiled n text r
+pub compiled_end : (n : Wanted) (text : List ℕ) (ts : List Terminal) (r : Answer) → TerminalsShown text ts None → IsOfTerminals n text ts r → IsCompiled n text r
 compiled_end n text ts r h k =
     let s = seen text h.tokens None h.shown in
     record { tokens = h.tokens; fault = s.fault; shows = s.shows; is = no_fault n text h.tokens s.fault r s.reported (k h.tokens (shows_end text h.tokens s.fault s.reported s.shows) h.are) }
 
-pub compiled_refused : TilingsAreUnique → AllShownIsOne → (n : Bool) (text : List ℕ) (r : Answer) → IsCompiled n text r → IsRefused n text r
+pub compiled_refused : TilingsAreUnique → AllShownIsOne → (n : Wanted) (text : List ℕ) (r : Answer) → IsCompiled n text r → IsRefused n text r
 compiled_refused tilings one n text r h = refused_by tilings one n text h.tokens h.fault r h.shows h.is
 
-pub compiled_spelled : TilingsAreUnique → AllShownIsOne → ReadingIsGrammar → (n : Bool) (text : List ℕ) (r : Answer) → IsCompiled n text r → (fs : List Field) (m : DenotesModule text fs) → Is (fitted text (encoding n (module_name m.terminals) fs)) r
+pub compiled_spelled : TilingsAreUnique → AllShownIsOne → ReadingIsGrammar → (n : Wanted) (text : List ℕ) (r : Answer) → IsCompiled n text r → (fs : List Field) (m : DenotesModule text fs) → Is (finished n text (module_name m.terminals) fs) r
 compiled_spelled tilings one law n text r h = spelled_by law n text r (compiled_refused tilings one n text r h)
 
-pub compiled_bytes : ReadingIsGrammar → (n : Bool) (text : List ℕ) (r : Answer) → IsCompiled n text r → HasBytes n text r
+pub compiled_bytes : ReadingIsGrammar → (n : Wanted) (text : List ℕ) (r : Answer) → IsCompiled n text r → HasBytes n text r
 compiled_bytes law n text r h = bytes_by law n text h.tokens h.fault r h.shows h.is
 
+-- The bytes without a name section.
+pub unnamed_by : (text : List ℕ) (x : Answer) → HasBytes Bare text x → IfOk x (λ bytes. (fs : List Field) × DenotesModule text fs × Fits fs × (bytes.items ≡ module_bytes fs))
+unnamed_by text (Ok out) (fs, m, e) =
+    let f = fitted_is text (module_bytes fs) out.items (nat_lt (length (module_bytes fs)) (2 ^ 32)) refl e in (fs, m, f.0, f.1)
+unnamed_by text (Err e) h = tt
+
 -- The bytes with a name section, by the identifier of the module.
-pub named_by : (text : List ℕ) (r : Answer) → HasBytes true text r → IfOk r (λ bytes. (l : Label) × (fs : List Field) × DenotesNamed text l fs × FitsNamed l fs × (bytes.items ≡ named_bytes l fs))
-named_by text (Ok out) (fs, m, small, is) = (module_name m.terminals, fs, record { terminals = m.terminals; shown = m.shown; spelled = m.spelled; named = refl }, small, is)
+pub named_by : (text : List ℕ) (x : Answer) → HasBytes Named text x → IfOk x (λ bytes. (l : Label) × (fs : List Field) × DenotesNamed text l fs × FitsNamed l fs × (bytes.items ≡ named_bytes l fs))
+named_by text (Ok out) (fs, m, e) =
+    let l = module_name m.terminals in
+    let f = fitted_is text (named_bytes l fs) out.items (nat_lt (length (named_bytes l fs)) (2 ^ 32)) refl e in
+    (l, fs, record { terminals = m.terminals; shown = m.shown; spelled = m.spelled; named = refl }, f.0, f.1)
 named_by text (Err e) h = tt
 
-pub named_spelled : (text : List ℕ) (r : Answer) → ((fs : List Field) (m : DenotesModule text fs) → Is (fitted text (encoding true (module_name m.terminals) fs)) r) → (l : Label) (fs : List Field) → DenotesNamed text l fs → Is (fitted text (named_bytes l fs)) r
-named_spelled text r h = λ l fs d. subst (λ k. Is (fitted text (named_bytes k fs)) r) d.named (h fs (record { terminals = d.terminals; shown = d.shown; spelled = d.spelled }))
+-- The bytes with a name section and custom sections.
+pub complete_by : (text : List ℕ) (x : Answer) (r : Sections) → HasSections text r → HasBytes (Complete r) text x
+    → IfOk x (λ bytes. (l : Label) × (fs : List Field) × (cs : List CustomSection) × DenotesNamed text l fs × HasSections text (Ok cs) × (length (complete_bytes l fs cs) < 2 ^ 32) × (bytes.items ≡ complete_bytes l fs cs))
+complete_by text (Ok out) (Ok cs) h (fs, m, e) =
+    let l = module_name m.terminals in
+    let f = fitted_is text (complete_bytes l fs cs) out.items (nat_lt (length (complete_bytes l fs cs)) (2 ^ 32)) refl e in
+    (l, fs, cs, record { terminals = m.terminals; shown = m.shown; spelled = m.spelled; named = refl }, h, f.0, f.1)
+complete_by text (Ok out) (Err f) h (fs, m, e) = cc
+complete_by text (Err e) r h k = tt
+
+-- The result for a module with this identifier, which its tokens determine.
+pub spelled_named : (w : Wanted) (text : List ℕ) (x : Answer) → ((fs : List Field) (m : DenotesModule text fs) → Is (finished w text (module_name m.terminals) fs) x) → (l : Label) (fs : List Field) → DenotesNamed text l fs → Is (finished w text l fs) x
+spelled_named w text x h = λ l fs d. subst (λ k. Is (finished w text k fs) x) d.named (h fs (record { terminals = d.terminals; shown = d.shown; spelled = d.spelled }))
+
+-- An error in the custom sections is the result.
+finished_fault : (text : List ℕ) (l : Label) (fs : List Field) (r : Sections) (e : Report) → r ≡ Err e → finished (Complete r) text l fs ≡ Err e
+finished_fault text l fs r e h = ap (λ x. finished (Complete x) text l fs) h
+
+pub sections_fault : {T : Type 0} (f : T → List CustomSection) (text : List ℕ) (l : Label) (fs : List Field) (r : Sections) (e : Option Report) → Answers {T = T} true f r (Err e) → Is (finished (Complete r) text l fs) (Err e)
+sections_fault f text l fs r None h = refl
+sections_fault f text l fs r (Some e) h = finished_fault text l fs r e h
+
+pub sections_bytes : (text : List ℕ) (l : Label) (fs : List Field) (r : Sections) (cs : List CustomSection) (bytes : List ℕ) (x : Answer) → r ≡ Ok cs → bytes ≡ complete_bytes l fs cs → Is (fitted text bytes) x → Is (finished (Complete r) text l fs) x
+sections_bytes text l fs r cs bytes x h e a = subst (λ q. Is (finished (Complete q) text l fs) x) (sym h) (subst (λ b. Is (fitted text b) x) e a)
+
+-- Each text has custom sections or an error in them.
+pub some_sections : EachBoundaryHasTiling → (text : List ℕ) → IsUtf8 text → (r : Sections) × HasSections text r
+some_sections tiled text u =
+    let s = some_source tiled (custom_plain text) false u in
+    (custom_sections s.0, record { source = s.0; setting = s.2; track = s.3; read = s.1; are = refl })
 
 -- A text denotes at most one module.
 pub one_module : TilingsAreUnique → AllShownIsOne → ReadingIsGrammar → (text : List ℕ) (fs gs : List Field) → DenotesModule text fs → DenotesModule text gs → fs ≡ gs

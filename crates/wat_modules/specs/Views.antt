@@ -1,9 +1,12 @@
--- The parts of a message of the code, as definitions. Not part of the standard.
+-- The parts of a message of the code, and what it adds to a binary, as definitions. Not part of the standard.
 use Rattle.std.specs.Prelude.{ℕ, ◌++◌, List, codes}
 use Rattle.wat_modules.specs.declared.messages.Found.{Found}
 use Rattle.wat_modules.specs.declared.messages.Found.TheVariants as declared
 use Rattle.wat_modules.specs.declared.messages.Suggestion.{Suggestion}
 use Rattle.wat_modules.specs.declared.messages.Suggestion.TheVariants as suggestion
+use Rattle.wat_modules.specs.declared.Extras.{Extras}
+use Rattle.wat_modules.specs.declared.Extras.TheVariants as extras
+use Rattle.wat_modules.specs.Compiling.{Bare, Complete, Named, Sections, Wanted}
 use Rattle.wat_modules.specs.Messages.{kind_phrase, location, quoted}
 
 -- The token in error, or the end of the text.
@@ -22,3 +25,9 @@ named_of declared.End = codes ""
 abbrev pub suggestion_of : Suggestion → List ℕ
 suggestion_of (suggestion.Name w p) = codes "; did you mean `" ++ (w.now ++ (codes "` at " ++ (location p ++ codes "?")))
 suggestion_of suggestion.Absent = codes ""
+
+-- What the code adds to a binary, in a text with these custom sections.
+abbrev pub wanted_by : Extras → Sections → Wanted
+wanted_by extras.Nothing r = Bare
+wanted_by extras.Names r = Named
+wanted_by extras.Customs r = Complete r

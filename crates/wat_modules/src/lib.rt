@@ -2,7 +2,7 @@
 //! encoding of the module from which the grammar derives the text.
 #![tactic(auto)]
 
-ghost use Rattle.std.specs.Prelude.{◌≡◌, ◌<◌, ◌^◌, ◌++◌, true, length, map, IfOk, IfSome, List, None, Option};
+ghost use Rattle.std.specs.Prelude.{◌≡◌, ◌<◌, ◌^◌, ◌++◌, true, length, map, IfOk, IfSome, List, None, Ok, Option};
 ghost use Rattle.wat_module_ast.specs.Fields.{Field};
 ghost use Rattle.wat_module_tokens.specs.TokenCursor.{terminals_of};
 ghost use Rattle.wat_module_tokens.specs.Terminals.{Label, label};
@@ -16,14 +16,18 @@ ghost use Rattle.wat_lexer_parser.specs.laws.Blanking.{TextShows};
 ghost use Rattle.wat_lexer_parser.specs.names.RegisteredNames.{no_names};
 ghost use Rattle.wat_lexer_parser.specs.parser.State.{Answers};
 ghost use Rattle.wat_modules.specs.Compiling.{Fits, DenotesModule, compiled, compiled_tokens};
-ghost use Rattle.wat_modules.specs.Compiling.{FitsNamed, compiled_as, compiled_named, encoding};
-ghost use Rattle.wat_modules.specs.Compiling.{DenotesNamed, fitted, module_name};
+ghost use Rattle.wat_modules.specs.Compiling.{FitsNamed, compiled_named, compiled_with};
+ghost use Rattle.wat_modules.specs.Compiling.{Complete, Sections, compiled_complete, finished};
+ghost use Rattle.wat_modules.specs.Compiling.{DenotesNamed, fitted, module_name, named_bytes};
+ghost use Rattle.wat_modules.specs.Views.{wanted_by};
 ghost use Rattle.wat_modules.specs.Messages as messages;
 ghost use Rattle.wat_module_lexer.specs.Drafts.{draft_terminals};
 ghost use Rattle.wat_module_lexer.specs.TokenTerminals.{plain, terminal_of};
 ghost use Rattle.wat_module_ast.specs.Views.{fields_of};
 ghost use Rattle.wat_module_encoder.specs.Binary.{module_bytes};
+ghost use Rattle.wat_module_encoder.specs.CustomSections.{complete_bytes};
 ghost use Rattle.wat_module_encoder.specs.NameSection.{name_section};
+ghost use Rattle.wat_module_custom.specs.Customs.{CustomSection, HasSections};
 
 mod edits;
 pub mod laws;
@@ -76,7 +80,7 @@ pub fn compile(alloc: Global, text: &str) -> Result<Vec<u8>, Error>
     ensures some { (tokens : List Token) × (last : Option Fault) ×
         TextShows (plain text.now) no_names tokens last }
 {
-    compile_as(alloc, text, false)
+    compile_as(alloc, text, Extras::Nothing)
 }
 
 /// Compiles a module from text to binary, with a name section.
@@ -113,32 +117,94 @@ pub fn compile_with_names(alloc: Global, text: &str) -> Result<Vec<u8>, Error>
     ensures some { (tokens : List Token) × (last : Option Fault) ×
         TextShows (plain text.now) no_names tokens last }
 {
-    compile_as(alloc, text, true)
+    compile_as(alloc, text, Extras::Names)
 }
 
-/// Compiles a module from text to binary, with a name section if `has_names`.
-fn compile_as(alloc: Global, text: &str, has_names: bool) -> Result<Vec<u8>, Error>
+/// Compiles a module from text to binary, with a name section and custom sections.
+///
+/// Returns the bytes of [`compile_with_names`], and among them the custom sections that the
+/// annotations `(@custom ..)` define (`specs/Customs` of `wat_module_custom`), each at its place
+/// (`specs/CustomSections` of `wat_module_encoder`). The text must be shorter than 2^32 bytes.
+///
+/// # Errors
+///
+/// Returns the errors of [`compile`]. The limit on the size includes all custom sections. If there
+/// are none of these errors, returns the first error in an annotation `(@custom ..)`, or an error
+/// at one that is where no field may stand.
+pub fn compile_with_customs(alloc: Global, text: &str) -> Result<Vec<u8>, Error>
     requires { length text.now < 2 ^ 32 }
-    ensures bytes { IfOk result (λ bytes. (fs : List Field) × (m : DenotesModule text.now fs)
-        × (length (encoding has_names (module_name m.terminals) fs) < 2 ^ 32)
-        × (bytes.items ≡ encoding has_names (module_name m.terminals) fs)) }
-    ensures spelled { (fs : List Field) (m : DenotesModule text.now fs) →
+
+    // The bytes encode a module from which the grammar derives the text, its names and its custom
+    // sections.
+    ensures bytes { IfOk result (λ bytes. (l : Label) × (fs : List Field)
+        × (cs : List CustomSection) × DenotesNamed text.now l fs × HasSections text.now (Ok cs)
+        × (length (complete_bytes l fs cs) < 2 ^ 32)
+        × (bytes.items ≡ complete_bytes l fs cs)) }
+
+    // If the grammar derives the text from a module, and its annotations define custom sections,
+    // the result is the encoding of that module, of its names and of these custom sections, the
+    // error that it is too long, or an allocation failure.
+    ensures spelled { (l : Label) (fs : List Field) (cs : List CustomSection) →
+        DenotesNamed text.now l fs → HasSections text.now (Ok cs) →
         Answers true (λ bytes. bytes.items)
-        (fitted text.now (encoding has_names (module_name m.terminals) fs)) result }
-    ensures refused { (tokens : List Token) (last : Option Fault) →
-        TextShows (plain text.now) no_names tokens last →
-        Answers true (λ bytes. bytes.items) (compiled_as has_names text.now tokens last) result }
+        (fitted text.now (complete_bytes l fs cs)) result }
+
+    // The result is that of the visible tokens and the lexical error after them, if there is one,
+    // and of the custom sections.
+    ensures refused { (tokens : List Token) (last : Option Fault) (r : Sections) →
+        TextShows (plain text.now) no_names tokens last → HasSections text.now r →
+        Answers true (λ bytes. bytes.items) (compiled_complete r text.now tokens last) result }
+
+    // A text has visible tokens, with or without a lexical error after them.
     ensures some { (tokens : List Token) × (last : Option Fault) ×
         TextShows (plain text.now) no_names tokens last }
+
+    // A text has custom sections, or an error in them.
+    ensures sections { (r : Sections) × HasSections text.now r }
+{
+    compile_as(alloc, text, Extras::Customs)
+}
+
+/// What a binary has besides the fields of a module.
+#[derive(Clone, Copy)]
+enum Extras {
+    /// Nothing.
+    Nothing,
+    /// The name section.
+    Names,
+    /// The name section and custom sections.
+    Customs,
+}
+
+/// Compiles a module from text to binary, with what `extras` names.
+fn compile_as(alloc: Global, text: &str, extras: Extras) -> Result<Vec<u8>, Error>
+    requires { length text.now < 2 ^ 32 }
+    ensures bytes { (r : Sections) → HasSections text.now r → IfOk result (λ bytes.
+        (fs : List Field) × (m : DenotesModule text.now fs)
+        × (finished (wanted_by extras r) text.now (module_name m.terminals) fs
+        ≡ Ok bytes.items)) }
+    ensures spelled { (r : Sections) → HasSections text.now r →
+        (fs : List Field) (m : DenotesModule text.now fs) →
+        Answers true (λ bytes. bytes.items)
+        (finished (wanted_by extras r) text.now (module_name m.terminals) fs) result }
+    ensures refused { (r : Sections) → HasSections text.now r →
+        (tokens : List Token) (last : Option Fault) →
+        TextShows (plain text.now) no_names tokens last →
+        Answers true (λ bytes. bytes.items)
+        (compiled_with (wanted_by extras r) text.now tokens last) result }
+    ensures some { (tokens : List Token) × (last : Option Fault) ×
+        TextShows (plain text.now) no_names tokens last }
+    ensures sections { (r : Sections) × HasSections text.now r }
 {
     wat_lex::laws::one_tiling();
     wat_lexer_parser::laws::all_shown();
     wat_module_parser::laws::reading_is_grammar();
     has_tokens(text);
+    has_sections(text);
     let PackedText { packed, error } = pack_tokens(alloc, text)?;
     match error {
         Some(error) => Err(error),
-        None => compile_packed(alloc, text, has_names, packed),
+        None => compile_packed(alloc, text, extras, packed),
     }
 }
 
@@ -146,21 +212,23 @@ fn compile_as(alloc: Global, text: &str, has_names: bool) -> Result<Vec<u8>, Err
 fn compile_packed(
     alloc: Global,
     text: &str,
-    has_names: bool,
+    extras: Extras,
     packed: PackedTokens<'_>,
 ) -> Result<Vec<u8>, Error>
     requires short { length text.now < 2 ^ 32 }
     requires readable { AreReadable text.now (length packed.kept.items) packed.tokens.items }
     requires linked { AreLinked (draft_terminals text.now packed) packed.tokens.items }
-    ensures { (tokens : List Token) → TextShows (plain text.now) no_names tokens None →
+    ensures { (r : Sections) → HasSections text.now r →
+        (tokens : List Token) → TextShows (plain text.now) no_names tokens None →
         draft_terminals text.now packed.entry ≡ map (terminal_of text.now) tokens →
-        Answers true (λ bytes. bytes.items) (compiled_tokens has_names text.now tokens) result }
+        Answers true (λ bytes. bytes.items)
+        (compiled_tokens (wanted_by extras r) text.now tokens) result }
 {
     let PackedTokens { tokens, kept } = packed;
     compile_tokens(
         alloc,
         text,
-        has_names,
+        extras,
         TokenStream::new(text, tokens, &kept),
     )
 }
@@ -169,13 +237,15 @@ fn compile_packed(
 fn compile_tokens(
     alloc: Global,
     text: &str,
-    has_names: bool,
+    extras: Extras,
     source: TokenStream<'_>,
 ) -> Result<Vec<u8>, Error>
     requires { length text.now < 2 ^ 32 }
-    ensures { (tokens : List Token) → TextShows (plain text.now) no_names tokens None →
+    ensures { (r : Sections) → HasSections text.now r →
+        (tokens : List Token) → TextShows (plain text.now) no_names tokens None →
         source.entry ≡ map (terminal_of text.now) tokens →
-        Answers true (λ bytes. bytes.items) (compiled_tokens has_names text.now tokens) result }
+        Answers true (λ bytes. bytes.items)
+        (compiled_tokens (wanted_by extras r) text.now tokens) result }
 {
     wat_module_parser::laws::reading_is_grammar();
     let cursor = source.cursor();
@@ -185,7 +255,7 @@ fn compile_tokens(
             // Fields borrow from the text and from the side table, but not from the packed tokens.
             // These are freed before the bytes are allocated.
             drop(source);
-            bound_size(alloc, text, encoded(alloc, name, &fields, has_names)?)
+            finish(alloc, text, name, &fields, extras)
         }
         Err(ParseFailure::Memory(refused)) => Err(Error::from(refused)),
         Err(ParseFailure::Text(fault)) => Err(fault_at(alloc, text, fault.kind, fault.left.len())),
@@ -202,21 +272,58 @@ fn module_name<'a>(cursor: TokenCursor<'_, 'a>) -> Name<'a>
     }
 }
 
-/// Returns the encoding of a module, with its name section if `has_names`.
-fn encoded(
+/// Returns the encoding of a module, with what `extras` names.
+fn finish(
+    alloc: Global,
+    text: &str,
+    name: Name<'_>,
+    fields: &[fields::Field<'_>],
+    extras: Extras,
+) -> Result<Vec<u8>, Error>
+    requires { length text.now < 2 ^ 32 }
+    ensures { (r : Sections) → HasSections text.now r → Answers true (λ bytes. bytes.items)
+        (finished (wanted_by extras r) text.now (label name.entry) (fields_of fields.now))
+        result }
+{
+    match extras {
+        Extras::Nothing => bound_size(alloc, text, encode::module_bytes(alloc, fields)?),
+        Extras::Names => bound_size(alloc, text, named_bytes(alloc, name, fields)?),
+        Extras::Customs => complete(alloc, text, name, fields),
+    }
+}
+
+/// Returns the encoding of a module, with its name section.
+fn named_bytes(
     alloc: Global,
     name: Name<'_>,
     fields: &[fields::Field<'_>],
-    has_names: bool,
 ) -> Result<Vec<u8>, AllocError>
     ensures { IfOk result (λ bytes. bytes.items ≡
-        encoding has_names (label name.entry) (fields_of fields.now)) }
+        named_bytes (label name.entry) (fields_of fields.now)) }
 {
     let mut bytes = encode::module_bytes(alloc, fields)?;
-    if has_names {
-        encode::put_name_section(alloc, &mut bytes, name, fields)?;
-    }
+    encode::put_name_section(alloc, &mut bytes, name, fields)?;
     Ok(bytes)
+}
+
+/// Returns the encoding of a module, with its name section and the custom sections of the text.
+fn complete(
+    alloc: Global,
+    text: &str,
+    name: Name<'_>,
+    fields: &[fields::Field<'_>],
+) -> Result<Vec<u8>, Error>
+    requires { length text.now < 2 ^ 32 }
+    ensures { (r : Sections) → HasSections text.now r → Answers true (λ bytes. bytes.items)
+        (finished (Complete r) text.now (label name.entry) (fields_of fields.now)) result }
+{
+    let buffer = wat_module_custom::buffer(alloc, text);
+    match wat_module_custom::custom_sections(alloc, &buffer) {
+        Ok(customs) => {
+            bound_size(alloc, text, encode::complete_bytes(alloc, name, fields, &customs)?)
+        }
+        Err(error) => Err(error),
+    }
 }
 
 /// Returns the error for a syntax error with `left` remaining tokens. Lexes the text again: not
@@ -295,6 +402,13 @@ fn place(text: &str, tokens: &[Token], left: usize) -> usize
         Some(token) => token.offset,
         None => text.len(),
     }
+}
+
+/// Lemma (no effect): a text has custom sections, or an error in them.
+fn has_sections(text: &str)
+    ensures { (r : Sections) × HasSections text.now r }
+{
+    wat_lex::laws::one_tiling();
 }
 
 /// Lemma (no effect): a text has a list of visible tokens, with or without a lexical error after

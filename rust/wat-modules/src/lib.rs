@@ -34,6 +34,7 @@ mod error;
 #[allow(
     dead_code,
     missing_docs,
+    non_camel_case_types,
     unused_imports,
     unused_labels,
     unused_variables
@@ -41,6 +42,7 @@ mod error;
 #[allow(clippy::style, clippy::complexity, clippy::pedantic)]
 mod generated {
     pub mod wat_module_ast;
+    pub mod wat_module_custom;
     pub mod wat_module_encoder;
     pub mod wat_module_instructions;
     pub mod wat_module_lexer;
@@ -66,7 +68,7 @@ pub use generated::wat_modules as proved;
 #[doc(inline)]
 pub use generated::wat_types as types;
 use generated::{
-    wat_module_encoder as encoder, wat_module_instructions as instructions,
+    wat_module_custom as custom, wat_module_encoder as encoder, wat_module_instructions as instructions,
     wat_module_lexer as lexer, wat_module_parser as parser, wat_module_tokens as tokens,
 };
 #[cfg(feature = "std")]
@@ -85,8 +87,11 @@ pub type Result<T, E = Error> = core::result::Result<T, E>;
 ///
 /// The underlying compiler is verified. Unless an allocation fails or the module has more than `u32::MAX` bytes, it returns bytes if and only if the
 /// text is such a module, and these are the module's bytes. A text matches the grammar of at most one module. The module is not validated: the types
-/// of operands are not checked. The bytes end with a name section if the module, or one of its functions, types, tables, memories, globals or
+/// of operands are not checked. After the last section is a name section if the module, or one of its functions, types, tables, memories, globals or
 /// segments, or a parameter, local or label of a function that it defines, has an identifier.
+///
+/// Where a field may stand, an annotation `(@custom "name" place? "data"..)` defines a custom section. Its place is `(before first)`,
+/// `(after last)`, which is the default, or `(before code)`, `(after code)` and so on. All other annotations are skipped.
 ///
 /// # Errors
 ///
@@ -98,7 +103,8 @@ pub type Result<T, E = Error> = core::result::Result<T, E>;
 /// - a duplicate identifier in an index space, or among the parameters and locals of a function, at the second of the two; the message has the
 ///   location of the first;
 /// - an import after a definition, or a second start function, at its keyword; the message has the location of the first definition or start function;
-/// - a text or a module of more than `u32::MAX` bytes, at offset 0.
+/// - a text or a module of more than `u32::MAX` bytes, at offset 0;
+/// - without any other error, an annotation `(@custom` with other contents, or where no field may stand.
 ///
 /// `Display` prints the location, and the line of the text unless it is long. If an allocation fails, the error is out of memory.
 pub fn parse_str(text: impl AsRef<str>) -> Result<Vec<u8>> {
@@ -161,7 +167,8 @@ impl Parser {
         Parser { names: true }
     }
 
-    /// Sets whether the binary has a name section with the identifiers of the text, which is the default.
+    /// Sets whether the binary has a name section with the identifiers of the text and the custom sections of its annotations, which is the
+    /// default.
     pub fn names(&mut self, names: bool) -> &mut Parser {
         self.names = names;
         self
@@ -252,10 +259,10 @@ fn text_of(bytes: &[u8]) -> Result<&str> {
     })
 }
 
-/// Compiles a text of at most `u32::MAX` bytes, with or without a name section.
+/// Compiles a text of at most `u32::MAX` bytes, with or without a name section and custom sections.
 fn compile(text: &str, names: bool) -> Result<Vec<u8>> {
     let compiled = if names {
-        proved::compile_with_names(Global, text)
+        proved::compile_with_customs(Global, text)
     } else {
         proved::compile(Global, text)
     };

@@ -3,6 +3,7 @@
 use wat_lex::shim::prelude::*;
 mod bytes;
 mod code;
+mod customs;
 mod data;
 mod elements;
 pub mod encode;

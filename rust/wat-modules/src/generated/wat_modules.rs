@@ -58,7 +58,7 @@ use crate::tokens::token::Name;
 ///     TextShows (plain text.now) no_names tokens last }
 /// ```
 pub fn compile(alloc: Global, text: &str) -> Result<Vec<u8>, Error> {
-    compile_as(alloc, text, false)
+    compile_as(alloc, text, Extras::Nothing)
 }
 
 /// Compiles a module from text to binary, with a name section.
@@ -99,36 +99,102 @@ pub fn compile(alloc: Global, text: &str) -> Result<Vec<u8>, Error> {
 ///     TextShows (plain text.now) no_names tokens last }
 /// ```
 pub fn compile_with_names(alloc: Global, text: &str) -> Result<Vec<u8>, Error> {
-    compile_as(alloc, text, true)
+    compile_as(alloc, text, Extras::Names)
 }
 
-/// Compiles a module from text to binary, with a name section if `has_names`.
+/// Compiles a module from text to binary, with a name section and custom sections.
+///
+/// Returns the bytes of [`compile_with_names`], and among them the custom sections that the
+/// annotations `(@custom ..)` define (`specs/Customs` of `wat_module_custom`), each at its place
+/// (`specs/CustomSections` of `wat_module_encoder`). The text must be shorter than 2^32 bytes.
+///
+/// # Errors
+///
+/// Returns the errors of [`compile`]. The limit on the size includes all custom sections. If there
+/// are none of these errors, returns the first error in an annotation `(@custom ..)`, or an error
+/// at one that is where no field may stand.
 ///
 /// # Proved
 ///
 /// ```text
 /// requires { length text.now < 2 ^ 32 }
-/// ensures bytes { IfOk result (λ bytes. (fs : List Field) × (m : DenotesModule text.now fs)
-///     × (length (encoding has_names (module_name m.terminals) fs) < 2 ^ 32)
-///     × (bytes.items ≡ encoding has_names (module_name m.terminals) fs)) }
-/// ensures spelled { (fs : List Field) (m : DenotesModule text.now fs) →
+///
+/// // The bytes encode a module from which the grammar derives the text, its names and its custom
+/// // sections.
+/// ensures bytes { IfOk result (λ bytes. (l : Label) × (fs : List Field)
+///     × (cs : List CustomSection) × DenotesNamed text.now l fs × HasSections text.now (Ok cs)
+///     × (length (complete_bytes l fs cs) < 2 ^ 32)
+///     × (bytes.items ≡ complete_bytes l fs cs)) }
+///
+/// // If the grammar derives the text from a module, and its annotations define custom sections,
+/// // the result is the encoding of that module, of its names and of these custom sections, the
+/// // error that it is too long, or an allocation failure.
+/// ensures spelled { (l : Label) (fs : List Field) (cs : List CustomSection) →
+///     DenotesNamed text.now l fs → HasSections text.now (Ok cs) →
 ///     Answers true (λ bytes. bytes.items)
-///     (fitted text.now (encoding has_names (module_name m.terminals) fs)) result }
-/// ensures refused { (tokens : List Token) (last : Option Fault) →
-///     TextShows (plain text.now) no_names tokens last →
-///     Answers true (λ bytes. bytes.items) (compiled_as has_names text.now tokens last) result }
+///     (fitted text.now (complete_bytes l fs cs)) result }
+///
+/// // The result is that of the visible tokens and the lexical error after them, if there is one,
+/// // and of the custom sections.
+/// ensures refused { (tokens : List Token) (last : Option Fault) (r : Sections) →
+///     TextShows (plain text.now) no_names tokens last → HasSections text.now r →
+///     Answers true (λ bytes. bytes.items) (compiled_complete r text.now tokens last) result }
+///
+/// // A text has visible tokens, with or without a lexical error after them.
 /// ensures some { (tokens : List Token) × (last : Option Fault) ×
 ///     TextShows (plain text.now) no_names tokens last }
+///
+/// // A text has custom sections, or an error in them.
+/// ensures sections { (r : Sections) × HasSections text.now r }
 /// ```
-fn compile_as(alloc: Global, text: &str, has_names: bool) -> Result<Vec<u8>, Error> {
+pub fn compile_with_customs(alloc: Global, text: &str) -> Result<Vec<u8>, Error> {
+    compile_as(alloc, text, Extras::Customs)
+}
+
+/// What a binary has besides the fields of a module.
+#[derive(Clone, Copy)]
+enum Extras {
+    /// Nothing.
+    Nothing,
+    /// The name section.
+    Names,
+    /// The name section and custom sections.
+    Customs,
+}
+
+/// Compiles a module from text to binary, with what `extras` names.
+///
+/// # Proved
+///
+/// ```text
+/// requires { length text.now < 2 ^ 32 }
+/// ensures bytes { (r : Sections) → HasSections text.now r → IfOk result (λ bytes.
+///     (fs : List Field) × (m : DenotesModule text.now fs)
+///     × (finished (wanted_by extras r) text.now (module_name m.terminals) fs
+///     ≡ Ok bytes.items)) }
+/// ensures spelled { (r : Sections) → HasSections text.now r →
+///     (fs : List Field) (m : DenotesModule text.now fs) →
+///     Answers true (λ bytes. bytes.items)
+///     (finished (wanted_by extras r) text.now (module_name m.terminals) fs) result }
+/// ensures refused { (r : Sections) → HasSections text.now r →
+///     (tokens : List Token) (last : Option Fault) →
+///     TextShows (plain text.now) no_names tokens last →
+///     Answers true (λ bytes. bytes.items)
+///     (compiled_with (wanted_by extras r) text.now tokens last) result }
+/// ensures some { (tokens : List Token) × (last : Option Fault) ×
+///     TextShows (plain text.now) no_names tokens last }
+/// ensures sections { (r : Sections) × HasSections text.now r }
+/// ```
+fn compile_as(alloc: Global, text: &str, extras: Extras) -> Result<Vec<u8>, Error> {
     wat_lex::proved::laws::one_tiling();
     wat_parser::proved::laws::all_shown();
     crate::parser::laws::reading_is_grammar();
     has_tokens(text);
+    has_sections(text);
     let PackedText { packed, error } = pack_tokens(alloc, text)?;
     match error {
         Some(error) => Err(error),
-        None => compile_packed(alloc, text, has_names, packed),
+        None => compile_packed(alloc, text, extras, packed),
     }
 }
 
@@ -140,23 +206,20 @@ fn compile_as(alloc: Global, text: &str, has_names: bool) -> Result<Vec<u8>, Err
 /// requires short { length text.now < 2 ^ 32 }
 /// requires readable { AreReadable text.now (length packed.kept.items) packed.tokens.items }
 /// requires linked { AreLinked (draft_terminals text.now packed) packed.tokens.items }
-/// ensures { (tokens : List Token) → TextShows (plain text.now) no_names tokens None →
+/// ensures { (r : Sections) → HasSections text.now r →
+///     (tokens : List Token) → TextShows (plain text.now) no_names tokens None →
 ///     draft_terminals text.now packed.entry ≡ map (terminal_of text.now) tokens →
-///     Answers true (λ bytes. bytes.items) (compiled_tokens has_names text.now tokens) result }
+///     Answers true (λ bytes. bytes.items)
+///     (compiled_tokens (wanted_by extras r) text.now tokens) result }
 /// ```
 fn compile_packed(
     alloc: Global,
     text: &str,
-    has_names: bool,
+    extras: Extras,
     packed: PackedTokens<'_>,
 ) -> Result<Vec<u8>, Error> {
     let PackedTokens { tokens, kept } = packed;
-    compile_tokens(
-        alloc,
-        text,
-        has_names,
-        TokenStream::new(text, tokens, &kept),
-    )
+    compile_tokens(alloc, text, extras, TokenStream::new(text, tokens, &kept))
 }
 
 /// Compiles a text without lexical errors from its significant tokens.
@@ -165,14 +228,16 @@ fn compile_packed(
 ///
 /// ```text
 /// requires { length text.now < 2 ^ 32 }
-/// ensures { (tokens : List Token) → TextShows (plain text.now) no_names tokens None →
+/// ensures { (r : Sections) → HasSections text.now r →
+///     (tokens : List Token) → TextShows (plain text.now) no_names tokens None →
 ///     source.entry ≡ map (terminal_of text.now) tokens →
-///     Answers true (λ bytes. bytes.items) (compiled_tokens has_names text.now tokens) result }
+///     Answers true (λ bytes. bytes.items)
+///     (compiled_tokens (wanted_by extras r) text.now tokens) result }
 /// ```
 fn compile_tokens(
     alloc: Global,
     text: &str,
-    has_names: bool,
+    extras: Extras,
     source: TokenStream<'_>,
 ) -> Result<Vec<u8>, Error> {
     crate::parser::laws::reading_is_grammar();
@@ -183,7 +248,7 @@ fn compile_tokens(
             // Fields borrow from the text and from the side table, but not from the packed tokens.
             // These are freed before the bytes are allocated.
             drop(source);
-            bound_size(alloc, text, encoded(alloc, name, &fields, has_names)?)
+            finish(alloc, text, name, &fields, extras)
         }
         Err(ParseFailure::Memory(refused)) => Err(Error::from(refused)),
         Err(ParseFailure::Text(fault)) => Err(fault_at(alloc, text, fault.kind, fault.left.len())),
@@ -204,25 +269,72 @@ fn module_name<'a>(cursor: TokenCursor<'_, 'a>) -> Name<'a> {
     }
 }
 
-/// Returns the encoding of a module, with its name section if `has_names`.
+/// Returns the encoding of a module, with what `extras` names.
+///
+/// # Proved
+///
+/// ```text
+/// requires { length text.now < 2 ^ 32 }
+/// ensures { (r : Sections) → HasSections text.now r → Answers true (λ bytes. bytes.items)
+///     (finished (wanted_by extras r) text.now (label name.entry) (fields_of fields.now))
+///     result }
+/// ```
+fn finish(
+    alloc: Global,
+    text: &str,
+    name: Name<'_>,
+    fields: &[fields::Field<'_>],
+    extras: Extras,
+) -> Result<Vec<u8>, Error> {
+    match extras {
+        Extras::Nothing => bound_size(alloc, text, encode::module_bytes(alloc, fields)?),
+        Extras::Names => bound_size(alloc, text, named_bytes(alloc, name, fields)?),
+        Extras::Customs => complete(alloc, text, name, fields),
+    }
+}
+
+/// Returns the encoding of a module, with its name section.
 ///
 /// # Proved
 ///
 /// ```text
 /// ensures { IfOk result (λ bytes. bytes.items ≡
-/// encoding has_names (label name.entry) (fields_of fields.now)) }
+/// named_bytes (label name.entry) (fields_of fields.now)) }
 /// ```
-fn encoded(
+fn named_bytes(
     alloc: Global,
     name: Name<'_>,
     fields: &[fields::Field<'_>],
-    has_names: bool,
 ) -> Result<Vec<u8>, AllocError> {
     let mut bytes = encode::module_bytes(alloc, fields)?;
-    if has_names {
-        encode::put_name_section(alloc, &mut bytes, name, fields)?;
-    }
+    encode::put_name_section(alloc, &mut bytes, name, fields)?;
     Ok(bytes)
+}
+
+/// Returns the encoding of a module, with its name section and the custom sections of the text.
+///
+/// # Proved
+///
+/// ```text
+/// requires { length text.now < 2 ^ 32 }
+/// ensures { (r : Sections) → HasSections text.now r → Answers true (λ bytes. bytes.items)
+///     (finished (Complete r) text.now (label name.entry) (fields_of fields.now)) result }
+/// ```
+fn complete(
+    alloc: Global,
+    text: &str,
+    name: Name<'_>,
+    fields: &[fields::Field<'_>],
+) -> Result<Vec<u8>, Error> {
+    let buffer = crate::custom::buffer(alloc, text);
+    match crate::custom::custom_sections(alloc, &buffer) {
+        Ok(customs) => bound_size(
+            alloc,
+            text,
+            encode::complete_bytes(alloc, name, fields, &customs)?,
+        ),
+        Err(error) => Err(error),
+    }
 }
 
 /// Returns the error for a syntax error with `left` remaining tokens. Lexes the text again: not
@@ -321,6 +433,17 @@ fn place(text: &str, tokens: &[Token], left: usize) -> usize {
         Some(token) => token.offset,
         None => text.len(),
     }
+}
+
+/// Lemma (no effect): a text has custom sections, or an error in them.
+///
+/// # Proved
+///
+/// ```text
+/// ensures { (r : Sections) × HasSections text.now r }
+/// ```
+fn has_sections(text: &str) {
+    wat_lex::proved::laws::one_tiling();
 }
 
 /// Lemma (no effect): a text has a list of visible tokens, with or without a lexical error after

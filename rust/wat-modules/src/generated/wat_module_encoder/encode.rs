@@ -3,6 +3,7 @@
 
 use wat_lex::shim::prelude::*;
 use crate::encoder::code::put_codes;
+use crate::encoder::customs::put_customs;
 use crate::encoder::data::{data_of, put_data, put_data_count};
 use crate::encoder::elements::{elements_of, put_elements};
 use crate::encoder::exports::{exports_of, put_exports};
@@ -15,8 +16,10 @@ use crate::encoder::start::put_start;
 use crate::encoder::tables::put_tables;
 use crate::encoder::types::put_types;
 use wat_lex::shim::alloc::{AllocError, Global};
+use crate::custom::sections::{Anchor, CustomSection, Place, Side};
 use crate::ast::fields::Field;
 use crate::ast::implicit_types::types_of;
+use crate::ast::indexed_types::IndexedTypes;
 use crate::tokens::token::Name;
 
 /// The magic number `\0asm` and version 1.
@@ -79,4 +82,165 @@ pub fn put_name_section(
     fields: &[Field<'_>],
 ) -> Result<(), AllocError> {
     put_names(alloc, bytes, name, fields)
+}
+
+/// Returns the encoding of a module with its name section and with custom sections at their places.
+///
+/// # Errors
+///
+/// Fails if an allocation fails, or if the strings of a data segment have 2^63 bytes or more
+/// together.
+///
+/// # Proved
+///
+/// ```text
+/// ensures { IfOk result (λ bytes. bytes.items ≡
+/// custom.complete_bytes (label name.entry) (fields_of fields.now)
+/// (map section_of customs.now)) }
+/// ```
+pub fn complete_bytes(
+    alloc: Global,
+    name: Name<'_>,
+    fields: &[Field<'_>],
+    customs: &[CustomSection<'_>],
+) -> Result<Vec<u8>, AllocError> {
+    let types = types_of(alloc, fields)?;
+    let mut bytes = first_sections(alloc, &types, fields, customs)?;
+    put_middle_sections(alloc, &mut bytes, &types, fields, customs)?;
+    put_last_sections(alloc, &mut bytes, &types, fields, customs)?;
+    put_name_section(alloc, &mut bytes, name, fields)?;
+    put_customs(alloc, &mut bytes, Place::AfterLast, customs)?;
+    Ok(bytes)
+}
+
+/// Appends the custom sections directly before a section.
+///
+/// # Proved
+///
+/// ```text
+/// ensures { OnOk result (bytes.new.items ≡ bytes.old.items ++
+/// custom.customs_at (Place.Around Side.Before anchor) (map section_of customs.now)) }
+/// ```
+fn put_before(
+    alloc: Global,
+    bytes: &mut Vec<u8>,
+    anchor: Anchor,
+    customs: &[CustomSection<'_>],
+) -> Result<(), AllocError> {
+    put_customs(alloc, bytes, Place::Around(Side::Before, anchor), customs)
+}
+
+/// Appends the custom sections directly after a section.
+///
+/// # Proved
+///
+/// ```text
+/// ensures { OnOk result (bytes.new.items ≡ bytes.old.items ++
+/// custom.customs_at (Place.Around Side.After anchor) (map section_of customs.now)) }
+/// ```
+fn put_after(
+    alloc: Global,
+    bytes: &mut Vec<u8>,
+    anchor: Anchor,
+    customs: &[CustomSection<'_>],
+) -> Result<(), AllocError> {
+    put_customs(alloc, bytes, Place::Around(Side::After, anchor), customs)
+}
+
+/// Encodes the header and the sections up to that of memories.
+///
+/// # Proved
+///
+/// ```text
+/// requires { types.now ≡ implicit.types_of (fields_of fields.now) }
+/// ensures { IfOk result (λ bytes. bytes.items ≡
+///     custom.first_sections (fields_of fields.now) (map section_of customs.now)) }
+/// ```
+fn first_sections(
+    alloc: Global,
+    types: &IndexedTypes,
+    fields: &[Field<'_>],
+    customs: &[CustomSection<'_>],
+) -> Result<Vec<u8>, AllocError> {
+    let mut bytes = Vec::new(alloc);
+    bytes.extend_from_slice(&HEADER)?;
+    put_customs(alloc, &mut bytes, Place::BeforeFirst, customs)?;
+    put_before(alloc, &mut bytes, Anchor::Type, customs)?;
+    put_types(alloc, &mut bytes, types.as_slice())?;
+    put_after(alloc, &mut bytes, Anchor::Type, customs)?;
+    put_before(alloc, &mut bytes, Anchor::Import, customs)?;
+    put_imports(alloc, &mut bytes, types, fields)?;
+    put_after(alloc, &mut bytes, Anchor::Import, customs)?;
+    put_before(alloc, &mut bytes, Anchor::Func, customs)?;
+    put_functions(alloc, &mut bytes, types, fields)?;
+    put_after(alloc, &mut bytes, Anchor::Func, customs)?;
+    put_before(alloc, &mut bytes, Anchor::Table, customs)?;
+    put_tables(alloc, &mut bytes, fields)?;
+    put_after(alloc, &mut bytes, Anchor::Table, customs)?;
+    put_before(alloc, &mut bytes, Anchor::Memory, customs)?;
+    put_memories(alloc, &mut bytes, fields)?;
+    put_after(alloc, &mut bytes, Anchor::Memory, customs)?;
+    Ok(bytes)
+}
+
+/// Appends the sections from that of globals to that of elements.
+///
+/// # Proved
+///
+/// ```text
+/// requires { types.now ≡ implicit.types_of (fields_of fields.now) }
+/// ensures { OnOk result (bytes.new.items ≡ custom.middle_sections (fields_of fields.now)
+///     (map section_of customs.now) bytes.old.items) }
+/// ```
+fn put_middle_sections(
+    alloc: Global,
+    bytes: &mut Vec<u8>,
+    types: &IndexedTypes,
+    fields: &[Field<'_>],
+    customs: &[CustomSection<'_>],
+) -> Result<(), AllocError> {
+    put_before(alloc, bytes, Anchor::Tag, customs)?;
+    put_after(alloc, bytes, Anchor::Tag, customs)?;
+    put_before(alloc, bytes, Anchor::Global, customs)?;
+    put_globals(alloc, bytes, types, fields)?;
+    put_after(alloc, bytes, Anchor::Global, customs)?;
+    let exports = exports_of(alloc, fields)?;
+    put_before(alloc, bytes, Anchor::Export, customs)?;
+    put_exports(alloc, bytes, &exports)?;
+    put_after(alloc, bytes, Anchor::Export, customs)?;
+    put_before(alloc, bytes, Anchor::Start, customs)?;
+    put_start(alloc, bytes, fields)?;
+    put_after(alloc, bytes, Anchor::Start, customs)?;
+    let elements = elements_of(alloc, fields)?;
+    put_before(alloc, bytes, Anchor::Elem, customs)?;
+    put_elements(alloc, bytes, types, &elements)?;
+    put_after(alloc, bytes, Anchor::Elem, customs)
+}
+
+/// Appends the sections from that of the data count to that of data.
+///
+/// # Proved
+///
+/// ```text
+/// requires { types.now ≡ implicit.types_of (fields_of fields.now) }
+/// ensures { OnOk result (bytes.new.items ≡ custom.last_sections (fields_of fields.now)
+///     (map section_of customs.now) bytes.old.items) }
+/// ```
+fn put_last_sections(
+    alloc: Global,
+    bytes: &mut Vec<u8>,
+    types: &IndexedTypes,
+    fields: &[Field<'_>],
+    customs: &[CustomSection<'_>],
+) -> Result<(), AllocError> {
+    let segments = data_of(alloc, fields)?;
+    put_before(alloc, bytes, Anchor::DataCount, customs)?;
+    put_data_count(alloc, bytes, fields, &segments)?;
+    put_after(alloc, bytes, Anchor::DataCount, customs)?;
+    put_before(alloc, bytes, Anchor::Code, customs)?;
+    put_codes(alloc, bytes, types, fields)?;
+    put_after(alloc, bytes, Anchor::Code, customs)?;
+    put_before(alloc, bytes, Anchor::Data, customs)?;
+    put_data(alloc, bytes, types, &segments)?;
+    put_after(alloc, bytes, Anchor::Data, customs)
 }
