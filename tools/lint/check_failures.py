@@ -380,7 +380,7 @@ class Search:
             before, after = words[at - 1 : at] or [""], words[at + 1 : at + 2] or [""]
             if word in REFUSAL and not self.is_type(code, at):
                 self.say(code, at, f"a refusal: {' '.join(words[max(at - 2, 0) : at + 3])}")
-            elif word in ("Memory", "OutOfMemory") and before == ["::"] and words[at - 2] != "Space" and after != ["("] and at not in inside:
+            elif word in ("Memory", "OutOfMemory") and before == ["::"] and words[at - 2] not in ("Anchor", "Space") and after != ["("] and at not in inside:
                 self.say(code, at, f"a refusal: {''.join(words[at - 2 : at + 1])}")
             elif word in MADE_OF_BYTES:
                 self.say(code, at, f"a value out of nothing: {word}")

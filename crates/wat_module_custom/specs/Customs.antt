@@ -1,5 +1,5 @@
 -- WebAssembly 3.0, appendix (custom sections and custom annotations), custom annotations; custom annotations proposal. An
--- annotation `(@custom name place? data..)` where a field of a module may stand defines a custom section. The first string
+-- annotation `(@custom name placement? data..)` where a field of a module may be defines a custom section. The first string
 -- is its name, which is UTF-8. The other strings together are its bytes. `(before first)` and `(after last)` put it before
 -- the first and after the last section, `(before type)` and `(after type)` directly before and after the type section, and
 -- so on. Without these it is put after the last section. 3.0 requires that the section is in the binary; here, as in the
@@ -25,13 +25,13 @@ use Rattle.wat_module_custom.specs.declared.sections.Side.TheVariants.{After, Be
 use Rattle.wat_module_custom.specs.declared.reading.Piece.{Piece}
 use Rattle.wat_module_custom.specs.declared.reading.Piece.TheVariants as piece
 
--- A custom section: its name, its place and its bytes.
+-- A custom section: its name, its placement and its bytes.
 pub record CustomSection : Type 0 where
   pub name : List ℕ
   pub place : Place
   pub contents : List ℕ
 
--- The section with a name in a place: that of its keyword.
+-- The section with a name in a placement: that of its keyword.
 unfoldable pub anchor_named : List ℕ → Option Anchor
 anchor_named w =
     if bytes_eq w (codes "type") then Some anchor.Type
@@ -72,18 +72,18 @@ side = keyword_as side_named (codes "expected `before` or `after`")
 unfoldable pub place_after : Side → Format Place
 place_after s = keyword_as (place_named s) (expected_place s)
 
--- A place, between its parentheses.
+-- A placement, between its parentheses.
 unfoldable pub place : Format Place
 place = and_then side place_after
 
 abbrev pub section_of : List ℕ → Option Place → List (List ℕ) → CustomSection
 section_of name p strings = record { name = name; place = unwrap_or p AfterLast; contents = flat_map (λ v. v) strings }
 
--- The annotation after its name and its place: strings.
+-- The annotation after its name and its placement: strings.
 unfoldable pub custom_data : List ℕ → Option Place → Format CustomSection
 custom_data name p = mapped (section_of name p) (many bytes refl)
 
--- The annotation after its name: an optional place, and strings.
+-- The annotation after its name: an optional placement, and strings.
 unfoldable pub custom_place : List ℕ → Format CustomSection
 custom_place name = and_then (optional a_group (group place)) (custom_data name)
 
@@ -146,9 +146,9 @@ abbrev pub with_first : CustomSection → Result (List CustomSection) ℕ → Re
 with_first c (Ok cs) = Ok (c ∷ cs)
 with_first c (Err at) = Err at
 
--- The custom sections of these items, in their order, or the offset of the first annotation where no field may stand.
+-- The custom sections of these items, in their order, or the offset of the first annotation where no field may be.
 -- `left` tokens follow before the first field. `d` groups are open, that of the module included, even if `(module` is
--- omitted. A field may stand after the tokens before the first field, if no group is open but that of the module.
+-- omitted. A field may be after the tokens before the first field, if no group is open but that of the module.
 unfoldable pub sections_from : ℕ → ℕ → List Item → Result (List CustomSection) ℕ
 sections_from left d [] = Ok []
 sections_from (suc left) d (Plain p ∷ is) = sections_from left d is
@@ -180,7 +180,7 @@ abbrev pub may_have_customs : List ℕ → Bool
 may_have_customs text = contains (codes "(@custom") text || contains (codes "(@\"") text
 
 -- The custom sections of a text that is a module, or the first error: that of an annotation with other contents, or that
--- of one where no field may stand.
+-- of one where no field may be.
 unfoldable pub custom_sections : Source → Result (List CustomSection) Report
 custom_sections s = if may_have_customs s.setting.text then placed s.setting.text (whole all_items s) else Ok []
 

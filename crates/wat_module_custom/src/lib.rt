@@ -1,5 +1,5 @@
 //! Custom annotations: the custom sections that the source text of a module defines, and their
-//! places in the binary format.
+//! placements in the binary format.
 #![tactic(auto)]
 
 ghost use Rattle.std.specs.Prelude.{◌≡◌, ◌<◌, ◌^◌, length, map, false, true};
@@ -43,13 +43,13 @@ pub fn buffer(alloc: Global, text: &str) -> LazyBuffer<'_>
 }
 
 /// Returns the custom sections that the annotations `(@custom ..)` of a module define, in source
-/// order. The text of the buffer must be a module, or else the places of annotations are not
+/// order. The text of the buffer must be a module, or else the placements of annotations are not
 /// checked.
 ///
 /// # Errors
 ///
 /// Returns an error at the first token that an annotation must not contain, or at an annotation
-/// where no field may stand. Fails if an allocation fails.
+/// where no field may be. Fails if an allocation fails.
 pub fn custom_sections<'b>(
     alloc: Global,
     buffer: &'b LazyBuffer<'_>,

@@ -43,7 +43,7 @@ fn head(items: &[Item<'_>]) -> usize
 }
 
 /// Returns the custom sections of the items of a module, or an error at the first annotation where
-/// no field may stand.
+/// no field may be.
 pub fn placed<'a>(
     alloc: Global,
     text: &str,
@@ -86,7 +86,7 @@ fn level(piece: Piece, depth: usize) -> usize
     }
 }
 
-/// Returns `true` if a field may stand where `left` tokens follow before the first field, and
+/// Returns `true` if a field may be where `left` tokens follow before the first field, and
 /// `depth` groups are open.
 fn is_field_place(left: usize, depth: usize) -> bool
     ensures { result ≡ ((left == 0) && (depth == 1)) }
@@ -94,7 +94,7 @@ fn is_field_place(left: usize, depth: usize) -> bool
     left == 0 && depth == 1
 }
 
-/// Creates the error for an annotation at an offset where no field may stand.
+/// Creates the error for an annotation at an offset where no field may be.
 fn misplaced(alloc: Global, text: &str, at: usize) -> Error
     ensures { IsUnlessMemory result (misplaced text.now at) }
 {

@@ -1,4 +1,4 @@
-//! Parses custom annotations, and the other tokens of a text as far as places depend on them.
+//! Parses custom annotations, and the other tokens of a text as far as placements depend on them.
 ghost use Rattle.std.specs.Prelude.{◌≡◌, ◌≤◌, ◌<◌, ℕ, List, Some, Ok, codes, map, IfOk};
 ghost use Rattle.wat_lex.specs.declared.lexer.kinds.Token.{Token};
 ghost use Rattle.std.specs.Cow.{cow_slice_items, cow_str_bytes};
@@ -22,7 +22,7 @@ use wat_lexer_parser::lexer::TokenKind;
 use wat_lexer_parser::parser::{Cursor, Parse, Parser, Peek};
 use wat_lexer_parser::token::LParen;
 
-/// Returns the section that a keyword names in a place, if there is one.
+/// Returns the section that a keyword names in a placement, if there is one.
 #[tactic(auto, unfolding(crate::specs::Customs::anchor_named))]
 fn anchor_named(word: &str) -> Option<Anchor>
     ensures { result ≡ anchor_named word.now }
@@ -57,7 +57,7 @@ fn side_named(word: &str) -> Option<Side>
     }
 }
 
-/// Returns the place on a side of the section that a keyword names, if there is one.
+/// Returns the placement on a side of the section that a keyword names, if there is one.
 fn around(side: Side, word: &str) -> Option<Place>
     ensures { result ≡ option_map (λ a. Place.Around side a) (anchor_named word.now) }
 {
@@ -67,7 +67,7 @@ fn around(side: Side, word: &str) -> Option<Place>
     }
 }
 
-/// Returns the place that a keyword names after `before`, if there is one.
+/// Returns the placement that a keyword names after `before`, if there is one.
 #[tactic(auto, unfolding(crate::specs::Customs::place_named))]
 fn place_before(word: &str) -> Option<Place>
     ensures { result ≡ place_named Side.Before word.now }
@@ -78,7 +78,7 @@ fn place_before(word: &str) -> Option<Place>
     }
 }
 
-/// Returns the place that a keyword names after `after`, if there is one.
+/// Returns the placement that a keyword names after `after`, if there is one.
 #[tactic(auto, unfolding(crate::specs::Customs::place_named))]
 fn place_behind(word: &str) -> Option<Place>
     ensures { result ≡ place_named Side.After word.now }
@@ -89,7 +89,7 @@ fn place_behind(word: &str) -> Option<Place>
     }
 }
 
-/// Returns the place that a keyword names after `before` or `after`, if there is one.
+/// Returns the placement that a keyword names after `before` or `after`, if there is one.
 fn place_named(side: Side, word: &str) -> Option<Place>
     ensures { result ≡ place_named side word.now }
 {
@@ -143,7 +143,7 @@ fn place_at<'p, 'a>(side: Side, cursor: Cursor<'p, 'a>) -> Result<(Place, Cursor
     }
 }
 
-/// Parses a place, between its parentheses.
+/// Parses a placement, between its parentheses.
 #[tactic(auto, unfolding(crate::specs::Customs::place))]
 fn place(parser: &mut Parser<'_>) -> Result<Place, Error>
     ensures kept { IsKept parser.old parser.new }
@@ -230,7 +230,7 @@ fn strings<'a>(parser: &mut Parser<'a>) -> Result<Vec<CowSlice<'a, u8>>, Error>
     parser.all_of::<CowSlice<'a, u8>>()
 }
 
-/// A token outside of custom annotations, as far as the places of annotations depend on it.
+/// A token outside of custom annotations, as far as the placements of annotations depend on it.
 #[derive(Clone, Copy, Debug, PartialEq, Eq)]
 pub enum Piece {
     /// `(`.

@@ -1,7 +1,7 @@
-//! Custom sections and their places.
+//! Custom sections and their placements.
 use std::borrow::{CowSlice, CowStr};
 
-/// A section of the binary format that a place names. `Tag` is that of WebAssembly 3.0.
+/// A section of the binary format that a placement names. `Tag` is that of WebAssembly 3.0.
 #[derive(Clone, Copy, Debug, PartialEq, Eq)]
 pub enum Anchor {
     /// The type section.
@@ -41,7 +41,7 @@ pub enum Side {
     After,
 }
 
-/// The place of a custom section among the sections.
+/// The placement of a custom section among the sections.
 #[derive(Clone, Copy, Debug, PartialEq, Eq)]
 pub enum Place {
     /// Before the first section.
@@ -57,7 +57,7 @@ pub enum Place {
 pub struct CustomSection<'a> {
     /// The name.
     pub name: CowStr<'a>,
-    /// The place among the sections.
+    /// The placement among the sections.
     pub place: Place,
     /// The strings whose values together are the bytes after the name.
     pub data: Vec<CowSlice<'a, u8>>,

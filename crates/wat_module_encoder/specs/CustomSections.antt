@@ -1,5 +1,5 @@
 -- WebAssembly 2.0, 5.5.3 (custom section) and 5.5.16 (modules); 3.0, appendix, custom annotations (placement). The binary
--- of a module with its name section and with custom sections at their places. Custom sections of one place are in the
+-- of a module with its name section and with custom sections at their placements. Custom sections of one placement are in the
 -- order of the text. Those after a section come before those before the next section, as 3.0 requires. The name section
 -- follows the data section, and those at `(after last)` come after it, as in the crate `wat`; 3.0 leaves that open.
 use Rattle.std.specs.Prelude.{ℕ, Bool, true, false, ◌==◌, if◌then◌else◌, List, [], ◌++◌}
@@ -36,7 +36,7 @@ position anchor.DataCount = 11
 position anchor.Code = 12
 position anchor.Data = 13
 
--- Returns `true` if two places are equal.
+-- Returns `true` if two placements are equal.
 abbrev pub is_place : Place → Place → Bool
 is_place BeforeFirst BeforeFirst = true
 is_place AfterLast AfterLast = true
@@ -44,7 +44,7 @@ is_place (Around Before a) (Around Before b) = position a == position b
 is_place (Around After a) (Around After b) = position a == position b
 is_place p q = false
 
--- The custom sections at a place, encoded.
+-- The custom sections at a placement, encoded.
 unfoldable pub customs_at : Place → List CustomSection → List ℕ
 customs_at p cs = flat_map (λ c. if is_place c.place p then custom_bytes c else []) cs
 

@@ -31,7 +31,7 @@ fn position(anchor: Anchor) -> u8
     }
 }
 
-/// Returns `true` if two places are equal.
+/// Returns `true` if two placements are equal.
 fn is_place(a: Place, b: Place) -> bool
     ensures { result ≡ custom.is_place a b }
 {
@@ -72,7 +72,7 @@ fn put_custom(
     put_sized(out, &content)
 }
 
-/// Appends the custom sections at a place, in their order.
+/// Appends the custom sections at a placement, in their order.
 #[tactic(auto, unfolding(crate::specs::CustomSections::customs_at))]
 pub(crate) fn put_customs(
     alloc: Global,

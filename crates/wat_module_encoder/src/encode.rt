@@ -83,7 +83,7 @@ pub fn put_name_section(
     put_names(alloc, bytes, name, fields)
 }
 
-/// Returns the encoding of a module with its name section and with custom sections at their places.
+/// Returns the encoding of a module with its name section and with custom sections.
 ///
 /// # Errors
 ///

@@ -123,14 +123,15 @@ pub fn compile_with_names(alloc: Global, text: &str) -> Result<Vec<u8>, Error>
 /// Compiles a module from text to binary, with a name section and custom sections.
 ///
 /// Returns the bytes of [`compile_with_names`], and among them the custom sections that the
-/// annotations `(@custom ..)` define (`specs/Customs` of `wat_module_custom`), each at its place
-/// (`specs/CustomSections` of `wat_module_encoder`). The text must be shorter than 2^32 bytes.
+/// annotations `(@custom ..)` define (`specs/Customs` of `wat_module_custom`), each where its
+/// placement says (`specs/CustomSections` of `wat_module_encoder`). The text must be shorter than
+/// 2^32 bytes.
 ///
 /// # Errors
 ///
 /// Returns the errors of [`compile`]. The limit on the size includes all custom sections. If there
 /// are none of these errors, returns the first error in an annotation `(@custom ..)`, or an error
-/// at one that is where no field may stand.
+/// at one that is where no field may be.
 pub fn compile_with_customs(alloc: Global, text: &str) -> Result<Vec<u8>, Error>
     requires { length text.now < 2 ^ 32 }
 

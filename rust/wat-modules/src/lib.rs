@@ -90,7 +90,7 @@ pub type Result<T, E = Error> = core::result::Result<T, E>;
 /// of operands are not checked. After the last section is a name section if the module, or one of its functions, types, tables, memories, globals or
 /// segments, or a parameter, local or label of a function that it defines, has an identifier.
 ///
-/// Where a field may stand, an annotation `(@custom "name" place? "data"..)` defines a custom section. Its place is `(before first)`,
+/// Where a field may be, an annotation `(@custom "name" placement? "data"..)` defines a custom section. Its placement is `(before first)`,
 /// `(after last)`, which is the default, or `(before code)`, `(after code)` and so on. All other annotations are skipped.
 ///
 /// # Errors
@@ -104,7 +104,7 @@ pub type Result<T, E = Error> = core::result::Result<T, E>;
 ///   location of the first;
 /// - an import after a definition, or a second start function, at its keyword; the message has the location of the first definition or start function;
 /// - a text or a module of more than `u32::MAX` bytes, at offset 0;
-/// - without any other error, an annotation `(@custom` with other contents, or where no field may stand.
+/// - without any other error, an annotation `(@custom` with other contents, or where no field may be.
 ///
 /// `Display` prints the location, and the line of the text unless it is long. If an allocation fails, the error is out of memory.
 pub fn parse_str(text: impl AsRef<str>) -> Result<Vec<u8>> {

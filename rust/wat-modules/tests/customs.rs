@@ -42,7 +42,7 @@ const CASES: [(&str, &[&[u8]]); 20] = [
         "(func) (@custom \"a\" (before code) \"A\") (@custom \"b\" (after func) \"B\")",
         &[TYPE, FUNC, B, A, CODE],
     ),
-    // The order of two sections at one place is that of the text.
+    // The order of two sections at one placement is that of the text.
     (
         "(func) (@custom \"b\" (after func) \"B\") (@custom \"a\" (after func) \"A\")",
         &[TYPE, FUNC, B, A, CODE],
@@ -62,7 +62,7 @@ const CASES: [(&str, &[&[u8]]); 20] = [
         &[b"\x00\x03\x00\x00\xff"],
     ),
     ("(@custom \"\\c3\\a9\")", &[b"\x00\x03\x02\xc3\xa9"]),
-    // Comments and other annotations are white space.
+    // Comments and other annotations are whitespace.
     (
         "(@custom (;c;) \"a\" (@other (@custom)) \"A\" ;; d\n)",
         &[A],

@@ -32,7 +32,7 @@ fn position(anchor: Anchor) -> u8 {
     }
 }
 
-/// Returns `true` if two places are equal.
+/// Returns `true` if two placements are equal.
 ///
 /// # Proved
 ///
@@ -85,7 +85,7 @@ fn put_custom(
     put_sized(out, &content)
 }
 
-/// Appends the custom sections at a place, in their order.
+/// Appends the custom sections at a placement, in their order.
 ///
 /// # Proved
 ///
