@@ -93,6 +93,13 @@ REQUESTS = [
         "let mut copy =",
         "as many types as the slice that is given",
     ),
+    (
+        "wat_lex/src/lexer/read/strings.rt",
+        "unescaped",
+        "Vec::with_capacity(alloc, elements.len().min(FIRST_CAPACITY))",
+        "let mut value =",
+        "the bytes of a short string",
+    ),
     ("wat_module_instructions/src/machine.rt", "instructions", "Vec::with_capacity(alloc, 1)", "let mut out =", "room for a single instruction"),
     ("wat_module_instructions/src/machine.rt", "one_folded", "Vec::with_capacity(alloc, 1)", "let mut out =", "room for a single instruction"),
     ("wat_module_instructions/src/frame.rt", "Frames<'p>::push", "self.open.reserve(1)", "", "room for a single part"),
@@ -662,6 +669,7 @@ HANDED_ON = [
 # Seeded faults in listed functions: a file, the old text and the new text.
 CHANGED = [
     ("wat_lexer_parser/src/parser/table.rt", "Ok(Table {", "let text = other_text();\n        Ok(Table {"),
+    ("wat_lex/src/lexer/read/strings.rt", "elements.len().min(FIRST_CAPACITY)", "elements.len().max(FIRST_CAPACITY)"),
     ("wat_lexer_parser/src/parser/table.rt", "with_capacity(alloc, initial_capacity(text))", "with_capacity(alloc, usize::MAX / 64)"),
     ("wat_lexer_parser/src/parser/table.rt", "with_capacity(alloc, initial_capacity(text))", "with_capacity(alloc, 16 * initial_capacity(text))"),
     ("wat_lexer_parser/src/parser/table.rt", "vec![in alloc; None; opens.len()]", "vec![in alloc; None; 8 * opens.len()]"),

@@ -186,10 +186,7 @@ fn custom<'a>(parser: &mut Parser<'a>) -> Result<CustomSection<'a>, Error>
 
 /// Parses a custom annotation after its name.
 #[tactic(auto, unfolding(crate::specs::Customs::custom_place))]
-fn custom_place<'a>(
-    parser: &mut Parser<'a>,
-    name: CowStr<'a>,
-) -> Result<CustomSection<'a>, Error>
+fn custom_place<'a>(parser: &mut Parser<'a>, name: CowStr<'a>) -> Result<CustomSection<'a>, Error>
     ensures kept { IsKept parser.old parser.new }
     ensures on { parser.old.place ≤ parser.new.place }
     ensures reads { Reads (λ s. section_of s) (custom_place (cow_str_bytes name.entry)).reading

@@ -37,9 +37,19 @@ fn annotations(rt: HostRuntime) {
     let alloc = rt.alloc();
     has(&rt, alloc, "(module)", 0);
     has(&rt, alloc, "(@custom \"a\")", 1);
-    has(&rt, alloc, "(module (@custom \"a\" \"b\" \"c\") (func) (@custom \"a\"))", 2);
+    has(
+        &rt,
+        alloc,
+        "(module (@custom \"a\" \"b\" \"c\") (func) (@custom \"a\"))",
+        2,
+    );
     has(&rt, alloc, "(module $x (@custom \"a\" (before first)))", 1);
-    has(&rt, alloc, "(func (param i32)) (@\"custom\" \"a\" (after code) \"x\\00\")", 1);
+    has(
+        &rt,
+        alloc,
+        "(func (param i32)) (@\"custom\" \"a\" (after code) \"x\\00\")",
+        1,
+    );
     has(&rt, alloc, "(func (@other (@custom)))", 0);
 }
 
@@ -48,12 +58,42 @@ fn refusals(rt: HostRuntime) -> Result<(), Fail> {
     let alloc = rt.alloc();
     refuses(&rt, alloc, "(@custom)", 8, "expected a string")?;
     refuses(&rt, alloc, "(@custom 4)", 9, "expected a string")?;
-    refuses(&rt, alloc, "(@custom \"\\df\")", 14, "malformed UTF-8 encoding")?;
+    refuses(
+        &rt,
+        alloc,
+        "(@custom \"\\df\")",
+        14,
+        "malformed UTF-8 encoding",
+    )?;
     refuses(&rt, alloc, "(@custom \"a\" here)", 13, "expected a string")?;
-    refuses(&rt, alloc, "(@custom \"a\" (aft type))", 14, "expected `before` or `after`")?;
-    refuses(&rt, alloc, "(@custom \"a\" (before types))", 21, "expected `first` or a section")?;
-    refuses(&rt, alloc, "(@custom \"a\" (after first))", 20, "expected `last` or a section")?;
-    refuses(&rt, alloc, "(@custom \"a\" (before type \"\"))", 26, "expected `)`")?;
+    refuses(
+        &rt,
+        alloc,
+        "(@custom \"a\" (aft type))",
+        14,
+        "expected `before` or `after`",
+    )?;
+    refuses(
+        &rt,
+        alloc,
+        "(@custom \"a\" (before types))",
+        21,
+        "expected `first` or a section",
+    )?;
+    refuses(
+        &rt,
+        alloc,
+        "(@custom \"a\" (after first))",
+        20,
+        "expected `last` or a section",
+    )?;
+    refuses(
+        &rt,
+        alloc,
+        "(@custom \"a\" (before type \"\"))",
+        26,
+        "expected `)`",
+    )?;
     let misplaced = "annotation `@custom` where no field may be";
     refuses(&rt, alloc, "(func (@custom \"a\"))", 6, misplaced)?;
     refuses(&rt, alloc, "(@custom \"a\") (module)", 0, misplaced)?;

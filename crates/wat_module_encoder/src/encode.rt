@@ -22,10 +22,10 @@ use crate::start::put_start;
 use crate::tables::put_tables;
 use crate::types::put_types;
 use std::alloc::{AllocError, Global};
-use wat_module_custom::sections::{Anchor, CustomSection, Place, Side};
 use wat_module_ast::fields::Field;
 use wat_module_ast::implicit_types::types_of;
 use wat_module_ast::indexed_types::IndexedTypes;
+use wat_module_custom::sections::{Anchor, CustomSection, Place, Side};
 use wat_module_tokens::token::Name;
 
 /// The magic number `\0asm` and version 1.

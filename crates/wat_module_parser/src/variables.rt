@@ -133,10 +133,7 @@ impl<'a> Variables<'a> {
 }
 
 /// Returns a copy of value types.
-pub(crate) fn value_types(
-    alloc: Global,
-    types: &[ValueType],
-) -> Result<Vec<ValueType>, AllocError>
+pub(crate) fn value_types(alloc: Global, types: &[ValueType]) -> Result<Vec<ValueType>, AllocError>
     ensures { IfOk result (λ copy. copy.items ≡ types.now) }
 {
     let mut copy = Vec::with_capacity(alloc, types.len())?;

@@ -226,12 +226,7 @@ fn compile_packed(
         (compiled_tokens (wanted_by extras r) text.now tokens) result }
 {
     let PackedTokens { tokens, kept } = packed;
-    compile_tokens(
-        alloc,
-        text,
-        extras,
-        TokenStream::new(text, tokens, &kept),
-    )
+    compile_tokens(alloc, text, extras, TokenStream::new(text, tokens, &kept))
 }
 
 /// Compiles a text without lexical errors from its significant tokens.
@@ -321,7 +316,11 @@ fn complete(
     let buffer = wat_module_custom::buffer(alloc, text);
     match wat_module_custom::custom_sections(alloc, &buffer) {
         Ok(customs) => {
-            bound_size(alloc, text, encode::complete_bytes(alloc, name, fields, &customs)?)
+            bound_size(
+                alloc,
+                text,
+                encode::complete_bytes(alloc, name, fields, &customs)?,
+            )
         }
         Err(error) => Err(error),
     }

@@ -29,9 +29,9 @@ loop-run-preserved c =
     let i = c.loop-run.run-index in elim c.match-run.branch [
       | in-Given+in_ok-insert-in-Given+else-is_some w ↦
           let both =
-              inserted_run runs i (Given (record { ref_ptr = (0, 0); now = [] })) w.in-Given.given c.loop-run.index c.loop-run.indices w.insert.new.self c.match-run.indices w.indices-is c.loop-run-test.true w.in-Given.is
-                  (ap is_some (sym (c.loop-run.invariant.are w.in-Given.given.now) ∙ sym w.in_ok-insert-in-Given.ensures.old) ∙ sym w.is_some.ensures ∙ w.if-is_some.false)
-                  c.loop-run.invariant.index w.in_ok-insert-in-Given.ensures.updates c.loop-run.invariant.are c.loop-run.invariant.distinct in record {
+          inserted_run runs i (Given (record { ref_ptr = (0, 0); now = [] })) w.in-Given.given c.loop-run.index c.loop-run.indices w.insert.new.self c.match-run.indices w.indices-is c.loop-run-test.true w.in-Given.is
+          (ap is_some (sym (c.loop-run.invariant.are w.in-Given.given.now) ∙ sym w.in_ok-insert-in-Given.ensures.old) ∙ sym w.is_some.ensures ∙ w.if-is_some.false)
+          c.loop-run.invariant.index w.in_ok-insert-in-Given.ensures.updates c.loop-run.invariant.are c.loop-run.invariant.distinct in record {
             are = both.0;
             distinct = both.1;
             index =
@@ -40,7 +40,7 @@ loop-run-preserved c =
           }
       | in-Absent w ↦
           let both =
-              passed_run runs i (Given (record { ref_ptr = (0, 0); now = [] })) w.in-Absent.count c.loop-run.indices c.match-run.indices w.indices-is c.loop-run-test.true w.in-Absent.is c.loop-run.invariant.are c.loop-run.invariant.distinct in record {
+          passed_run runs i (Given (record { ref_ptr = (0, 0); now = [] })) w.in-Absent.count c.loop-run.indices c.match-run.indices w.indices-is c.loop-run-test.true w.in-Absent.is c.loop-run.invariant.are c.loop-run.invariant.distinct in record {
             are = both.0;
             distinct = both.1;
             index =

@@ -10,7 +10,7 @@ from_runs-requires c =
     let locals = c.args.locals.now in
     let start : labels_of c.new-names.result.items ≡ [] = ap labels_of c.new-names.ensures.items in
     let are : labels_of c.append_names-2.new.names.items ≡ ([] ++ map name_of params) ++ map name_of locals =
-        c.in_ok-append_names-2.ensures.names ∙ ap (λ ls. ls ++ map name_of locals) (c.in_ok-append_names.ensures.names ∙ ap (λ ls. ls ++ map name_of params) start) in
+    c.in_ok-append_names-2.ensures.names ∙ ap (λ ls. ls ++ map name_of locals) (c.in_ok-append_names.ensures.names ∙ ap (λ ls. ls ++ map name_of params) start) in
     let all = ap length are ∙ length-append (map name_of params) (map name_of locals) in
     let first = length-map params name_of in
     let second = length-map locals name_of in

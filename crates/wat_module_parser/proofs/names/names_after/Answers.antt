@@ -13,7 +13,7 @@ from_runs-requires c =
     let locals = c.args.locals.now in
     let start : labels_of c.new-names.result.items ≡ [] = ap labels_of c.new-names.ensures.items in
     let are : labels_of c.append_names.new.names.items ≡ ([] ++ replicate (length params) None) ++ map name_of locals =
-        c.in_ok-append_names.ensures.names ∙ ap (λ ls. ls ++ map name_of locals) (c.in_ok-push_unnamed.ensures.appended ∙ ap (λ ls. ls ++ replicate (length params) None) start) in
+    c.in_ok-append_names.ensures.names ∙ ap (λ ls. ls ++ map name_of locals) (c.in_ok-push_unnamed.ensures.appended ∙ ap (λ ls. ls ++ replicate (length params) None) start) in
     let all = ap length are ∙ length-append (replicate (length params) None) (map name_of locals) in
     let first = length-replicate {A = Label} (length params) None in
     let second = length-map locals name_of in
@@ -27,8 +27,8 @@ returns-clause-these c =
     let locals = c.args.locals.now in
     let start : labels_of c.new-names.result.items ≡ [] = ap labels_of c.new-names.ensures.items in
     let are : labels_of c.append_names.new.names.items ≡ map name_of (map unnamed params ++ locals) =
-        c.in_ok-append_names.ensures.names ∙ ap (λ ls. ls ++ map name_of locals) (c.in_ok-push_unnamed.ensures.appended ∙ ap (λ ls. ls ++ replicate (length params) None) start)
-        ∙ names_after params locals (map name_of locals) refl in
+    c.in_ok-append_names.ensures.names ∙ ap (λ ls. ls ++ map name_of locals) (c.in_ok-push_unnamed.ensures.appended ∙ ap (λ ls. ls ++ replicate (length params) None) start)
+    ∙ names_after params locals (map name_of locals) refl in
     subst (λ x. IfOk c.from_runs.result (λ found. IfSome found (λ names. names ≡ x))) are c.from_runs.ensures.these
 
 pub returns-clause-distinct : goal.returns-clause-distinct
@@ -37,6 +37,6 @@ returns-clause-distinct c =
     let locals = c.args.locals.now in
     let start : labels_of c.new-names.result.items ≡ [] = ap labels_of c.new-names.ensures.items in
     let are : labels_of c.append_names.new.names.items ≡ map name_of (map unnamed params ++ locals) =
-        c.in_ok-append_names.ensures.names ∙ ap (λ ls. ls ++ map name_of locals) (c.in_ok-push_unnamed.ensures.appended ∙ ap (λ ls. ls ++ replicate (length params) None) start)
-        ∙ names_after params locals (map name_of locals) refl in
+    c.in_ok-append_names.ensures.names ∙ ap (λ ls. ls ++ map name_of locals) (c.in_ok-push_unnamed.ensures.appended ∙ ap (λ ls. ls ++ replicate (length params) None) start)
+    ∙ names_after params locals (map name_of locals) refl in
     subst (λ x. IfOk c.from_runs.result (λ found. is_some found ≡ are_distinct x)) are c.from_runs.ensures.distinct

@@ -22,9 +22,9 @@ loop-run-preserved c =
                 ∙ ap (λ rest. before ++ rest) (associations_given c.loop-run.index w.in-Given.name.now rest)
                 ∙ sym (append_assoc before (a ∷ []) (associations (c.loop-run.index + 1) rest))
                 ∙ ap (λ before. before ++ associations (c.loop-run.index + 1) rest)
-                    (sym (map-append association_of c.loop-run.names.items (record { index = c.loop-run.index; name = w.in-Given.name } ∷ []))
-                    ∙ ap (map association_of) (sym w.in_ok-push-in-Given.ensures.items)
-                    ∙ ap (λ v. map association_of v.items) (sym w.names-is))
+                (sym (map-append association_of c.loop-run.names.items (record { index = c.loop-run.index; name = w.in-Given.name } ∷ []))
+                ∙ ap (map association_of) (sym w.in_ok-push-in-Given.ensures.items)
+                ∙ ap (λ v. map association_of v.items) (sym w.names-is))
                 ∙ ap (λ k. map association_of c.match-run.names.items ++ associations k rest) (sym w.index-is);
             count =
                 ap (λ k. k + length rest) w.index-is

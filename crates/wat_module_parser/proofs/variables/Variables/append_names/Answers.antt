@@ -16,11 +16,11 @@ returns-clause-names c =
     let is = c.len.ensures in
     let count : length (labels_of runs) + n ≡ length types = omega (arith, few.0, few.1, ok, is) in
     subst (λ ls. IfOk c.push_unnamed.result (λ x. labels_of c.push_unnamed.new.names.items ≡ ls))
-        (ap (λ xs. labels_of xs ++ replicate n None) (c.in_ok-extend_from_slice.ensures.items ∙ ap (λ ys. old ++ ys) c.deref.ensures.value)
-        ∙ ap (λ ls. ls ++ replicate n None) (flat_map-append run_labels old runs)
-        ∙ append_assoc (labels_of old) (labels_of runs) (replicate n None)
-        ∙ ap (λ ls. labels_of old ++ ls) (sym (lists.names (labels_of runs) n types count) ∙ ap (map name_of) c.self.view_is))
-        c.push_unnamed.ensures.appended
+    (ap (λ xs. labels_of xs ++ replicate n None) (c.in_ok-extend_from_slice.ensures.items ∙ ap (λ ys. old ++ ys) c.deref.ensures.value)
+    ∙ ap (λ ls. ls ++ replicate n None) (flat_map-append run_labels old runs)
+    ∙ append_assoc (labels_of old) (labels_of runs) (replicate n None)
+    ∙ ap (λ ls. labels_of old ++ ls) (sym (lists.names (labels_of runs) n types count) ∙ ap (map name_of) c.self.view_is))
+    c.push_unnamed.ensures.appended
 
 pub returns-clause-small : goal.returns-clause-small
 returns-clause-small c =

@@ -18,9 +18,9 @@ returns c =
     let is = c.len-count.ensures in
     let padded = c.in_ok-push_unnamed.ensures.appended in
     let all : length (labels_of c.push_unnamed.new.names.items) ≡ length types =
-        let k = ap length padded ∙ length-append (labels_of runs) (replicate n None) in
-        let m = length-replicate {A = Label} n None in
-        omega (arith, few.0, few.1, ok, is, k, m) in
+    let k = ap length padded ∙ length-append (labels_of runs) (replicate n None) in
+    let m = length-replicate {A = Label} n None in
+    omega (arith, few.0, few.1, ok, is, k, m) in
     ap (λ xs. variables_of (labels_of xs) c.push.new.self.items) c.in_ok-push-2.ensures.items
     ∙ ap (λ ls. variables_of ls c.push.new.self.items) (lists.pushed c.push_unnamed.new.names.items (Given c.args.name))
     ∙ ap (λ ts. variables_of (labels_of c.push_unnamed.new.names.items ++ Some c.args.name.now ∷ []) ts) c.in_ok-push.ensures.items
