@@ -183,8 +183,11 @@ fn texts_with_other_bytes_than_by_wat() {
         ("", b""),
         ("(;\u{202e};)", b""),
         ("(data \"\u{202e}\")", b"\x0b\x06\x01\x01\x03\xe2\x80\xae"),
-        ("(module (@custom 5))", b""),
-        ("(module (@custom \"a\" \"b\"))", b""),
+        ("(module (@producers 5))", b""),
+        (
+            "(module (@custom \"a\" (before datacount) \"b\"))",
+            b"\0\x03\x01ab",
+        ),
         ("(module (@producers (language \"x\" \"1\")))", b""),
         ("(func (@name \"s\"))", function),
         (
