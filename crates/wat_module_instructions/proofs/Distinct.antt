@@ -1,7 +1,7 @@
 -- Names one more: whether they are distinct, and where each is.
-use Rattle.std.proofs.Common.{◌≡◌, ◌∙◌, ◌+◌, ◌<◌, ℕ, suc, Bool, true, false, List, [], ◌∷◌, ◌++◌, Option, Some, None, length, map, take, drop, get_or, is_some, refl, sym, ap, bytes_eq, arith}
+use Rattle.std.proofs.Common.{◌≡◌, ◌∙◌, ◌+◌, ◌<◌, ℕ, suc, Bool, true, false, List, [], ◌∷◌, ◌++◌, Option, Some, None, length, map, take, get_or, is_some, refl, sym, ap, bytes_eq, arith}
 use Rattle.std.specs.Prelude.{if◌then◌else◌, ◌||◌, cond}
-use Rattle.std.proofs.lemmas.List.{drop_more, map-append, take-append-drop, take_more}
+use Rattle.std.proofs.lemmas.List.{map-append, take_more}
 use Rattle.std.proofs.lemmas.Slice.Eq.{bytes_eq-Decides}
 use Rattle.wat_module_ast.specs.Grammar.{is_name, position}
 use Rattle.wat_module_ast.specs.Names.{are_distinct, has_name}

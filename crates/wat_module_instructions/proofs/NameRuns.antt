@@ -1,7 +1,6 @@
 -- Identifiers by runs of items: one run more, and one run less.
-use Rattle.std.proofs.Common.{◌≡◌, ◌∙◌, ◌+◌, ◌<◌, ◌≤◌, ℕ, zero, suc, Bool, true, false, List, [], ◌∷◌, ◌++◌, Option, Some, None, length, map, take, drop, get_or, is_some, refl, sym, ap, append-nil, append_assoc, length-append, bytes_eq, arith}
+use Rattle.std.proofs.Common.{◌≡◌, ◌∙◌, ◌+◌, ◌<◌, ◌≤◌, ℕ, zero, suc, Bool, true, false, List, [], ◌∷◌, ◌++◌, Some, None, length, take, drop, get_or, is_some, refl, sym, ap, append-nil, append_assoc, length-append, bytes_eq, arith}
 use Rattle.std.specs.Prelude.{if◌then◌else◌, replicate, cond}
-use Rattle.std.specs.List.{flat_map}
 use Rattle.std.proofs.lemmas.List.{drop_more, length-replicate, take-append-drop, take_more}
 use Rattle.std.proofs.lemmas.List.Folds.{length-flat_map-take}
 use Rattle.std.specs.BTreeMap.{BTreeMap, UpdatesBy, get_by}

@@ -1,5 +1,5 @@
 -- The name map of variables, part by part.
-use Rattle.std.proofs.Common.{◌≡◌, ◌+◌, ℕ, suc, List, [], ◌∷◌, ◌++◌, Some, None, length, map, refl, ap, sym, ◌∙◌, arith}
+use Rattle.std.proofs.Common.{◌≡◌, ◌+◌, ℕ, suc, List, [], ◌∷◌, ◌++◌, Some, None, length, map, refl, ap, ◌∙◌, arith}
 use Rattle.wat_module_ast.specs.declared.instruction.ValueType.{ValueType}
 use Rattle.wat_module_ast.specs.Fields.{Variable, name_of, unnamed}
 use Rattle.wat_module_ast.specs.Names.{association, associations}

@@ -7,11 +7,11 @@ use Rattle.std.proofs.lemmas.List.{drop_more, length-replicate, replicate-append
 use Rattle.wat_module_ast.specs.declared.instruction.ValueType.{ValueType}
 use Rattle.wat_module_ast.specs.declared.fields.Locals.{Locals}
 use Rattle.wat_module_ast.specs.Views.{local_types}
-use Rattle.wat_module_ast.specs.Fields.{Variable, name_of, type_of, unnamed, variable}
+use Rattle.wat_module_ast.specs.Fields.{name_of, type_of, unnamed, variable}
 use Rattle.wat_module_ast.specs.Names.{association, associations}
 use Rattle.wat_module_instructions.specs.Indices.{labels_of, run_labels}
 use Rattle.wat_module_instructions.specs.declared.names.NameRun.{NameRun}
-use Rattle.wat_module_instructions.specs.declared.names.NameRun.TheVariants.{Given, Absent}
+use Rattle.wat_module_instructions.specs.declared.names.NameRun.TheVariants.{Absent}
 use Rattle.wat_module_parser.specs.NamedTypes.{variables_of}
 use Rattle.wat_module_tokens.specs.Terminals.{Label}
 
@@ -101,8 +101,3 @@ count_none n = length-replicate n None
 -- One run more.
 pub pushed : (runs : List NameRun) (r : NameRun) → labels_of (runs ++ r ∷ []) ≡ labels_of runs ++ run_labels r
 pushed runs r = flat_map-append run_labels runs (r ∷ []) ∙ ap (λ ls. labels_of runs ++ ls) (append-nil (run_labels r))
-
--- No variables.
-pub no_names : (vs : List Variable) (ls : List Label) → length vs ≡ 0 → ls ≡ ls ++ map name_of vs
-no_names [] ls e = sym (append-nil ls)
-no_names (v ∷ vs) ls e = absurd (omega (arith, e))

@@ -1,4 +1,4 @@
-use Rattle.std.proofs.Common.{◌≡◌, ◌+◌, drop, length, take, true}
+use Rattle.std.proofs.Common.{◌≡◌, length, take, true}
 use Rattle.wat_module_ast.specs.Names.{are_distinct}
 use Rattle.wat_module_instructions.specs.Indices.{AreIndices, labels_of}
 use Rattle.wat_module_instructions.proofs.names.indices.Given as goal

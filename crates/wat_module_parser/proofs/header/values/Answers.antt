@@ -1,4 +1,3 @@
-use Rattle.std.proofs.Common.{map}
 use Rattle.wat_module_tokens.specs.TokenCursor.{terminals_of}
 use Rattle.wat_module_parser.proofs.Listing.{listing_start, listing_smaller, listing_on, listing_end, listing_fault}
 use Rattle.wat_module_parser.proofs.header.values.Goals as goal

@@ -1,4 +1,4 @@
-use Rattle.std.proofs.Common.{length, map}
+use Rattle.std.proofs.Common.{length}
 use Rattle.wat_module_tokens.specs.TokenCursor.{terminals_of}
 use Rattle.wat_module_parser.proofs.Listing.{Listing}
 use Rattle.wat_module_parser.proofs.header.values.Given as goal

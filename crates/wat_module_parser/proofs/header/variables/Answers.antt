@@ -1,4 +1,4 @@
-use Rattle.std.proofs.Common.{ap, map, Ok}
+use Rattle.std.proofs.Common.{Ok}
 use Rattle.wat_module_tokens.specs.TokenCursor.{terminals_of}
 use Rattle.wat_module_parser.proofs.Items.{groups_read}
 use Rattle.wat_module_ast.specs.Fields as fields

@@ -1,4 +1,4 @@
-use Rattle.std.proofs.Common.{List, map, length}
+use Rattle.std.proofs.Common.{List, length}
 use Rattle.wat_module_tokens.specs.TokenCursor.{terminals_of}
 use Rattle.wat_module_ast.specs.Fields.{Variable}
 use Rattle.wat_module_parser.specs.Reading.{Read, group_item}

@@ -1,4 +1,4 @@
-use Rattle.std.proofs.Common.{◌≡◌, ◌∙◌, ◌+◌, ◌++◌, ◌∷◌, [], append_assoc, ap, drop, length, map, refl, sym}
+use Rattle.std.proofs.Common.{◌∙◌, ◌+◌, ◌++◌, ◌∷◌, [], append_assoc, ap, drop, length, map, refl, sym}
 use Rattle.std.proofs.lemmas.List.{map-append}
 use Rattle.wat_module_ast.specs.Names.{association, associations}
 use Rattle.wat_module_ast.specs.Views.{association_of}

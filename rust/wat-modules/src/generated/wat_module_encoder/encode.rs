@@ -16,10 +16,10 @@ use crate::encoder::start::put_start;
 use crate::encoder::tables::put_tables;
 use crate::encoder::types::put_types;
 use wat_lex::shim::alloc::{AllocError, Global};
-use crate::custom::sections::{Anchor, CustomSection, Place, Side};
 use crate::ast::fields::Field;
 use crate::ast::implicit_types::types_of;
 use crate::ast::indexed_types::IndexedTypes;
+use crate::custom::sections::{Anchor, CustomSection, Place, Side};
 use crate::tokens::token::Name;
 
 /// The magic number `\0asm` and version 1.

@@ -1,4 +1,4 @@
-use Rattle.std.proofs.Common.{◌≡◌, ◌∙◌, ap, arith, length}
+use Rattle.std.proofs.Common.{ap, arith, length}
 use Rattle.wat_module_instructions.specs.Indices.{labels_of}
 use Rattle.wat_module_parser.proofs.VariableLists as lists
 use Rattle.wat_module_parser.proofs.variables.Variables.len.Goals as goal

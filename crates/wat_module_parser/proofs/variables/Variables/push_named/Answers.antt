@@ -1,4 +1,4 @@
-use Rattle.std.proofs.Common.{◌≡◌, ◌∙◌, ◌+◌, ◌-◌, ◌∷◌, ◌++◌, [], Some, ap, arith, length, length-append, None, replicate, sym}
+use Rattle.std.proofs.Common.{◌≡◌, ◌∙◌, ◌-◌, ◌∷◌, ◌++◌, [], Some, ap, arith, length, length-append, None, replicate}
 use Rattle.std.proofs.lemmas.List.{length-replicate}
 use Rattle.wat_module_ast.specs.Fields.{variable}
 use Rattle.wat_module_instructions.specs.Indices.{labels_of}
