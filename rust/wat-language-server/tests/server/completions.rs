@@ -167,6 +167,7 @@ const COMPLETIONS: &[(&str, &str)] = &[
     ("(func \"nop‸", ""),
     ("(func \"nop‸\n)", ""),
     ("(data \"\"(«mem‸»", "memory"),
+    ("(global \"\"«‸»)", "i32 i64 f32 f64 v128 funcref externref"),
     // After a closed group, and outside of groups.
     ("(func (nop) «nop‸»", "nop"),
     ("(func) «‸»", ""),

@@ -194,6 +194,10 @@ const CHANGES: &[(&str, Effect)] = &[
         Inexact(";;\u{fffd}\u{fffd}"),
     ),
     (
+        r#"{"text":";;\ud83d\ude00\ud800"}"#,
+        Inexact(";;\u{1f600}\u{fffd}"),
+    ),
+    (
         r#"{"text":";;\ud800\ud83d\ude00\n;;\ud800\u0041\\ud800"}"#,
         Inexact(";;\u{fffd}\u{1f600}\n;;\u{fffd}A\\ud800"),
     ),
@@ -248,7 +252,7 @@ const BAD_HEADERS: &[&[u8]] = &[
 fn assert_has_text(message: &Value) {
     let is_entry = message["method"] == "window/logMessage";
     let entry = &message[if is_entry { "params" } else { "error" }];
-    if entry.is_object() {
+    if is_entry || entry.is_object() {
         let text = entry["message"].as_str().unwrap();
         assert!(!text.is_empty() && !text.ends_with(": "), "{message}");
         assert!(!is_entry || entry["type"] == 1, "{message}");
@@ -315,6 +319,9 @@ fn no_header_ends_the_server() {
         let header = header.replace("{}", &body.len().to_string());
         assert_kinds((header + body).as_bytes(), "-32601");
     }
+    // The name of the header begins in one part of a long line, and ends in the next.
+    let long = format!("{}Content-Length: {}", "x".repeat(4_091), body.len());
+    assert_kinds(format!("{long}\r\n\r\n{body}").as_bytes(), "-32601");
     for input in BAD_HEADERS {
         assert_kinds(input, "-32700");
     }

@@ -106,6 +106,7 @@ const HOVERS: &[(&str, &str, &str)] = &[
         "label 1",
     ),
     ("(func loop ‸$l end)", "loop $l", "label"),
+    ("(func block nop br ‸0 end)", "block", "label 0"),
     (
         "(func $f (param i32) (loop (br ‸1)))",
         "(func $f (param i32))",
@@ -155,6 +156,11 @@ const HOVERS: &[(&str, &str, &str)] = &[
         "function 0",
     ),
     ("(func ‸$f (param i32", "(func $f (param i32", "function 0"),
+    (
+        "(func (param $x block $l br ‸$l end))",
+        "block $l",
+        "label 0",
+    ),
 ];
 
 #[test]

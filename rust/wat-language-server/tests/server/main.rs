@@ -11,6 +11,7 @@ mod instructions;
 mod marked;
 mod navigation;
 mod symbols;
+mod syntax;
 
 use serde_json::{Value, json};
 use std::io::Write;

@@ -66,6 +66,7 @@ const DEFINITIONS: &[&str] = &[
     "(func («block» (if $l (i32.eqz (br ‸0)) (then))))",
     "(func if «$l» else $‸l end)",
     "(func loop «$l» end ‸$l)",
+    "(func (if «$l» (then end (br ‸$l))))",
     "(«func» (block (br ‸1)))",
     "(module («func» block br ‸1 end) (func))",
     // At a definition.
@@ -78,6 +79,7 @@ const DEFINITIONS: &[&str] = &[
     "(module (func $a (block (type $x (func)) (func (type ‸$t)) (type «$t» (func)))",
     "(module)) (func «$f») (func (call ‸$f))",
     "(@a (func $f)) (func «$f») (func (@a (call $g)) (call ‸$f))",
+    "(func (@a) «$f») (func (call ‸$f))",
     // A script: names are those of the same module.
     "(module (func $f)) (module (func «$f») (start ‸$f))",
     "(assert_invalid (module (func «$f») (func (call ‸$f))) \"\")",
@@ -123,6 +125,7 @@ const REFERENCES: &[&str] = &[
     "(func (param «$x» i32) (local.set «‸0» (local.get «$x»)))",
     "(func (param $x i32)) (func (param «$x» i32) (local.get «‸$x»))",
     "(func block «$l» br «‸0» br_table «$l» 1 «0» end «$l»)",
+    "(func block «$l» br «‸$l» end $m)",
     "(func (block «$l» (block (br «1») (br «‸$l»))))",
     "(type (func (param «i32»))) (func (type 0) (local.get «‸0»)) (func (type 0) (local.get «0»))",
     "(func «$f») (func (call «$\"f\"‸»))",
@@ -260,4 +263,14 @@ fn other_tokens_and_to_other_names_nothing_is_renamed() {
     assert_eq!(long.result("rename", &new), Value::Null);
     let quoted = marked.result("rename", &json!({ "newName": "\"a b\"" }));
     assert_eq!(quoted["changes"]["u"][0]["newText"], "$\"a b\"");
+}
+
+#[test]
+fn a_text_is_not_renamed_if_it_could_become_too_long() {
+    for (surplus, is_renamed) in [(0, true), (1, false)] {
+        let spaces = " ".repeat(LONGEST_ANALYZED + surplus - "(func $f)$new".len());
+        let marked = Marked::new(&("(func ‸$f)".to_owned() + &spaces));
+        let renamed = marked.result("rename", &json!({ "newName": "new" }));
+        assert_eq!(renamed.is_object(), is_renamed, "{surplus}");
+    }
 }

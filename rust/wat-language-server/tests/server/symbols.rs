@@ -59,6 +59,14 @@ const SYMBOLS: &[(&str, &str)] = &[
         "2 module{13 $g, 18 $t, 19 $m, 18 $e, 15 $d, 24 start (0), 12 $f}",
     ),
     (
+        "(«module» (func «$a») (func «$b» (call 1 (func «$c»)",
+        "2 module{12 $a, 12 $b, 12 $c}",
+    ),
+    (
+        "(«module» (func «$a»)) (func «$b» (block (func «$c»)",
+        "2 module{12 $a, 12 $b, 12 $c}",
+    ),
+    (
         "(table «$t» funcref (elem 0) (memory «$m» (data \"\")",
         "18 $t, 19 $m",
     ),
@@ -71,6 +79,12 @@ const SYMBOLS: &[(&str, &str)] = &[
         "7 import (import), 7 export (), 12 func 0",
     ),
     ("(«export» ", "7 export ()"),
+    (
+        "(export «\"f\"» (func (param $x i32)))",
+        "7 \"f\" (func){13 $x (i32)}",
+    ),
+    ("(func «$f»)@a (func «$g»)", "12 $f, 12 $g"),
+    ("( @a func «$f»)", "12 $f"),
     (")) («func») \u{e9}", "12 func 0"),
     // A script.
     (
