@@ -3,7 +3,8 @@
 -- is its name, which is UTF-8. The other strings together are its bytes. `(before first)` and `(after last)` put it before
 -- the first and after the last section, `(before type)` and `(after type)` directly before and after the type section, and
 -- so on. Without these it is put after the last section. 3.0 requires that the section is in the binary; here, as in the
--- crate `wat`, the custom section is put where that section would be.
+-- crate `wat`, the custom section is put where that section would be. An annotation of this name with other contents, or
+-- where no field may be, is an error.
 use Rattle.std.specs.Prelude.{◌≡◌, refl, ℕ, suc, zero, ◌==◌, ◌&&◌, ◌||◌, Bool, false, true, bytes_eq, if◌then◌else◌, is_some, List, [], ◌∷◌, codes, unwrap_or, Option, Some, None, Result, Ok, Err}
 use Rattle.std.specs.List.{flat_map}
 use Rattle.std.specs.Option.{option_map}
@@ -175,12 +176,12 @@ abbrev pub contains : List ℕ → List ℕ → Bool
 contains needle text = is_some (first_of (matches text needle 0))
 
 -- 6.2.5 (annotations): an annotation of the name `custom` begins with `(@custom`, or with `(@"` if the name is a string.
--- A text without these has none.
+-- A text without these has none. No theorem says so: `custom_sections` is defined by it.
 abbrev pub may_have_customs : List ℕ → Bool
 may_have_customs text = contains (codes "(@custom") text || contains (codes "(@\"") text
 
--- The custom sections of a text that is a module, or the first error: that of an annotation with other contents, or that
--- of one where no field may be.
+-- The custom sections of a text that is a module, or the first error in the contents of an annotation, or, if there is
+-- none, that of the first annotation where no field may be.
 unfoldable pub custom_sections : Source → Result (List CustomSection) Report
 custom_sections s = if may_have_customs s.setting.text then placed s.setting.text (whole all_items s) else Ok []
 

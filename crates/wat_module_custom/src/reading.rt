@@ -227,7 +227,7 @@ fn strings<'a>(parser: &mut Parser<'a>) -> Result<Vec<CowSlice<'a, u8>>, Error>
     parser.all_of::<CowSlice<'a, u8>>()
 }
 
-/// A token outside of custom annotations, as far as the placements of annotations depend on it.
+/// A token outside of custom annotations, by its effect on where an annotation may be.
 #[derive(Clone, Copy, Debug, PartialEq, Eq)]
 pub enum Piece {
     /// `(`.

@@ -20,7 +20,8 @@ use Rattle.wat_module_tokens.specs.Terminals.{Label}
 abbrev pub custom_bytes : CustomSection → List ℕ
 custom_bytes c = section 0 (text_encoding c.name ++ c.contents)
 
--- 5.5.16: the position of a section among the sections of a module.
+-- A number of each section, by which two are compared. `first_sections`, `middle_sections` and `last_sections` have their
+-- order.
 abbrev pub position : Anchor → ℕ
 position anchor.Type = 1
 position anchor.Import = 2

@@ -121,7 +121,7 @@ abbrev pub section_of : List ℕ → List ℕ
 section_of [] = []
 section_of (b ∷ bs) = section 0 (text_encoding (codes "name") ++ b ∷ bs)
 
--- 7.4.1, `namesec`: the name section of a module with this identifier and these fields. It comes last, so after the data
--- section, as 7.4.1 requires (`named_bytes` of `wat_modules`).
+-- 7.4.1, `namesec`: the name section of a module with this identifier and these fields. It comes after the
+-- data section, as 7.4.1 requires (`named_bytes` of `wat_modules`); only custom sections `(after last)` follow it.
 unfoldable pub name_section : Label → List Field → List ℕ
 name_section l fs = section_of (name_data l fs)

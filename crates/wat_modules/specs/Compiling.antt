@@ -84,8 +84,8 @@ abbrev pub wanted : Bool → Wanted
 wanted false = Bare
 wanted true = Named
 
--- The result for a module with this identifier and these fields. An error in custom sections is reported if the text has
--- no other error.
+-- The result for a module with this identifier and these fields. An error in custom sections is reported instead
+-- of that of a result that is too long.
 abbrev pub finished : Wanted → List ℕ → Label → List Field → Result (List ℕ) Report
 finished Bare text l fs = fitted text (module_bytes fs)
 finished Named text l fs = fitted text (named_bytes l fs)

@@ -129,9 +129,9 @@ pub fn compile_with_names(alloc: Global, text: &str) -> Result<Vec<u8>, Error>
 ///
 /// # Errors
 ///
-/// Returns the errors of [`compile`]. The limit on the size includes all custom sections. If there
-/// are none of these errors, returns the first error in an annotation `(@custom ..)`, or an error
-/// at one that is where no field may be.
+/// Returns the errors of [`compile`]. If the text is a module, returns the first error in the
+/// contents of an annotation `(@custom ..)`, or, if there is none, the error of the first one that
+/// is where no field may be. The limit on the size, which is checked last, includes all sections.
 pub fn compile_with_customs(alloc: Global, text: &str) -> Result<Vec<u8>, Error>
     requires { length text.now < 2 ^ 32 }
 

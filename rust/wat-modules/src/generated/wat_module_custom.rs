@@ -40,8 +40,7 @@ pub fn buffer(alloc: Global, text: &str) -> LazyBuffer<'_> {
 }
 
 /// Returns the custom sections that the annotations `(@custom ..)` of a module define, in source
-/// order. The text of the buffer must be a module, or else the placements of annotations are not
-/// checked.
+/// order. The text of the buffer should be a module: for any other text the result has no meaning.
 ///
 /// # Errors
 ///
