@@ -11,7 +11,7 @@ pub mod sections;
 use crate::custom::placing::placed;
 use crate::custom::reading::AllItems;
 use crate::custom::sections::CustomSection;
-use memchr::memmem;
+use memchr::{memchr, memmem};
 use wat_lex::shim::alloc::Global;
 use wat_parser::proved::Error;
 use wat_parser::proved::lexer::{Lexer, Settings};
@@ -71,7 +71,8 @@ pub fn custom_sections<'b>(
     Ok(Vec::new(alloc))
 }
 
-/// Returns `false` only if a text has no custom annotations.
+/// Returns `false` only if a text has no custom annotations. Few texts have an `@`, which is found
+/// faster.
 ///
 /// # Proved
 ///
@@ -80,6 +81,9 @@ pub fn custom_sections<'b>(
 /// ```
 fn may_have_customs(text: &str) -> bool {
     let bytes = text.as_bytes();
+    if memchr(b'@', bytes).is_none() {
+        return false;
+    }
     contains(bytes, b"(@custom") || contains(bytes, b"(@\"")
 }
 
