@@ -12,6 +12,7 @@ REFUSED = {
     "of a table or elements of numbers, which wat2wasm takes": (("unknown reference type ", "expected a reference type or `func`, "), tokens_of.has_number_table),
     "of an unknown name in an element, for which wat2wasm does not look": ("unknown function ", tokens_of.has_name_in_element),
     "of a table that is said, without `func` or an offset, which wat2wasm takes": ("expected ", tokens_of.has_said_table),
+    "of a segment with `declare` and indices without `func`, which wat2wasm takes": ("expected a reference type or `func`, ", tokens_of.has_declared_indices),
     "of an element segment with nothing in it, which wat2wasm takes": ("expected ", tokens_of.has_no_list),
     "of two data segments of one name, which wat2wasm takes": ("duplicate data segment ", tokens_of.has_two_segments_of_a_name),
     "of a `table.copy` of one table, which wat2wasm takes": ("expected ", tokens_of.has_one_table),

@@ -303,6 +303,11 @@ def has_said_table(tokens):
     return any(tokens[at : at + 2] == ["(", "elem"] and tokens[at + 2 : at + 5].count("table") for at in range(len(tokens)))
 
 
+def has_declared_indices(tokens):
+    """Returns `True` if an index follows `declare`."""
+    return any(token == "declare" and is_index(tokens, at + 1) for at, token in enumerate(tokens))
+
+
 def has_no_list(tokens):
     """Returns `True` if an element segment is empty."""
     return any(unnamed(field) in ([")"], ["declare", ")"]) for field in groups_of(tokens, (["elem"],)))
