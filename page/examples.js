@@ -50,7 +50,7 @@ export const EXAMPLES = [
   {
     name: 'Annotations, of which none is registered',
     text: `(module
-  (@custom "x" (; a (; nested ;) comment ;) (a group (of) its (own)))
+  (@note "x" (; a (; nested ;) comment ;) (a group (of) its (own)))
   (@metadata.code.branch_hint "\\01")
   (func (@name "f")
     nop))
