@@ -204,8 +204,9 @@ def measure(work, rounds):
     if "KINDS" not in os.environ:
         return lines
     cell = {tuple(line.split("\t")[1:3]): line for line in lines if not line.startswith("#")}
-    old, note = lines_of(DATA), f"# {' '.join(chosen())}: {lines[0].removeprefix('# ').rstrip(',')}."
-    return [*(line for line in old if line.startswith("#")), note, *(cell.get(tuple(line.split("\t")[1:3]), line) for line in old if line[0] != "#")]
+    old, head_of_kinds = lines_of(DATA), f"# {' '.join(chosen())}: "
+    kept = [line for line in old if line.startswith("#") and not line.startswith(head_of_kinds)]
+    return [*kept, head_of_kinds + lines[0].removeprefix("# ").rstrip(",") + ".", *(cell.get(tuple(line.split("\t")[1:3]), line) for line in old if line[0] != "#")]
 
 
 def lines_of(data):
