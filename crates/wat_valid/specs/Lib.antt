@@ -1,0 +1,15 @@
+pub mod Contexts
+pub mod ContextViews
+pub mod InstructionTypes
+pub mod Instructions
+pub mod Modules
+pub mod Headers
+pub mod ExportNames
+pub mod Algorithm
+pub mod Constants
+pub mod Views
+pub mod Wants
+pub mod FrameViews
+pub mod Law
+pub mod FirstErrors
+pub mod Examples
