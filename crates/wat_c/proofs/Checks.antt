@@ -9,17 +9,18 @@ use Rattle.wat_lex.specs.tokens.Setting.{Setting}
 use Rattle.wat_lex.specs.declared.lexer.faults.LexError.{LexError}
 use Rattle.wat_lexer_parser.specs.laws.ShownLaws.{AllShownIsOne}
 use Rattle.wat_module_lexer.specs.TokenTerminals.{plain}
+use Rattle.wat_modules.specs.Compiling as modules
 use Rattle.wat_c_records.specs.Rows.{FoundAt, TokenFoundAt, found_row}
 use Rattle.wat_c_records.specs.declared.rows.Found.{Found}
 use Rattle.wat_c_records.specs.declared.rows.TokenRow.{TokenRow}
 use Rattle.wat_c.specs.Answers.{answer_of, left_of}
-use Rattle.wat_c.specs.Compiling.{Checks, IsErrorOf, LengthAt, MarkedLength, OneCheck, TextError, checked_of, compiled_with, left_of_check, LengthAt.lexed, LengthAt.inside}
+use Rattle.wat_c.specs.Compiling.{Checks, Compilation, CompilesTo, IsErrorOf, LengthAt, MarkedLength, OneCheck, TextError, checked_of, left_of_check, LengthAt.lexed, LengthAt.inside}
 use Rattle.wat_c.specs.inside.CompilerErrors.{GivesError}
 use Rattle.wat_c.specs.declared.answers.Answer.{Answer}
 use Rattle.wat_c.specs.declared.answers.Checked.{Checked}
 use Rattle.wat_c.specs.declared.answers.Refusal.{Refusal}
 use Rattle.wat_c.specs.declared.answers.Refusal.TheVariants.{Other, Memory, Absent, Fault as Faulty}
-use Rattle.wat_c.proofs.Compilation.{HasTokens, IsOfTokens, one_result}
+use Rattle.wat_c.proofs.Compilation.{HasResult, IsOfText, one_result}
 
 -- ---- the length of an error
 
@@ -57,32 +58,32 @@ with_message text (Some r) old new message p n answer checked some e l m known l
 
 -- ---- the result for C
 
-pub checked_none : (names : Bool) (text old : List ℕ) (bytes : Vec ℕ Global) (checked : Checked) → HasTokens text → IsOfTokens names text (Ok bytes) → checked ≡ checked_of (Err Absent) → Checks names text old old checked
+pub checked_none : (names : Bool) (text old : List ℕ) (bytes : Vec ℕ Global) (checked : Checked) → HasResult names text → IsOfText names text (Ok bytes) → checked ≡ checked_of (Err Absent) → Checks names text old old checked
 checked_none names text old bytes checked t same known = record {
   result = Ok bytes.items;
-  compiled = record { tokens = t.0; last = t.1; shown = t.2; is = sym (same t.0 t.1 t.2) };
+  compiled = subst (CompilesTo names text) (same t.0 t.1) t.1;
   found = Err Absent;
   is = tt;
   known = known;
   left = refl;
 }
 
-memory_is : (text : List ℕ) (result : Result (List ℕ) Report) → IsErrorOf text result (Err (Memory alloc_error))
+memory_is : (text : List ℕ) (result : Compilation) → IsErrorOf text result (Err (Memory alloc_error))
 memory_is text (Ok bytes) = tt
 memory_is text (Err r) = tt
 
-pub checked_error : (names : Bool) (text old new : List ℕ) (error : Option Report) (checked : Checked) → HasTokens text → IsOfTokens names text (Err error) → GivesError text error old new checked → Checks names text old new checked
+pub checked_error : (names : Bool) (text old new : List ℕ) (error : Option Report) (checked : Checked) → HasResult names text → IsOfText names text (Err error) → GivesError text error old new checked → Checks names text old new checked
 checked_error names text old new None checked t same g = record {
-  result = compiled_with names text t.0 t.1;
-  compiled = record { tokens = t.0; last = t.1; shown = t.2; is = refl };
+  result = t.0;
+  compiled = t.1;
   found = g.found;
-  is = subst (IsErrorOf text (compiled_with names text t.0 t.1)) (sym g.is) (memory_is text (compiled_with names text t.0 t.1));
+  is = subst (IsErrorOf text t.0) (sym g.is) (memory_is text t.0);
   known = g.known;
   left = g.left;
 }
 checked_error names text old new (Some r) checked t same g = record {
   result = Err r;
-  compiled = record { tokens = t.0; last = t.1; shown = t.2; is = sym (same t.0 t.1 t.2) };
+  compiled = subst (CompilesTo names text) (same t.0 t.1) t.1;
   found = g.found;
   is = g.is;
   known = g.known;
@@ -133,10 +134,10 @@ error_one scan text (Err r) (Err (Faulty e)) b h k n m = absurd h
 error_one scan text result (Err (Memory refused)) b h k n m = absurd (n refl)
 error_one scan text result a (Err (Memory refused)) h k n m = absurd (m refl)
 
-pub one_check : ScanResultIsUnique → TilingsAreUnique → AllShownIsOne → (names : Bool) (text old : List ℕ) → OneCheck names text old
+pub one_check : ScanResultIsUnique → TilingsAreUnique → AllShownIsOne → modules.SectionsAreOne → (names : Bool) (text old : List ℕ) → OneCheck names text old
 unfolding OneCheck
-one_check scan tilings one names text old new other checked known h k n m =
-    let result = one_result tilings one names text h.result k.result h.compiled k.compiled in
+one_check scan tilings one sections names text old new other checked known h k n m =
+    let result = one_result tilings one sections names text h.result k.result h.compiled k.compiled in
     let found = error_one scan text k.result h.found k.found (subst (λ r. IsErrorOf text r h.found) result h.is) k.is
     (checked_memory checked h.found h.known n) (checked_memory known k.found k.known m) in
     (h.known ∙ ap checked_of found ∙ sym k.known, h.left ∙ ap (left_of_check old) found ∙ sym k.left)

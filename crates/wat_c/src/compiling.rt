@@ -1,27 +1,10 @@
 //! Compilation of modules, and the error of a text that is not a module.
-ghost use Rattle.std.specs.Prelude.{
-  ◌≡◌,
-  ◌<◌,
-  ◌^◌,
-  ℕ,
-  List,
-  Option,
-  length,
-  true,
-  IfOk,
-  IfSome,
-  Ok,
-};
+ghost use Rattle.std.specs.Prelude.{◌≡◌, ◌<◌, ◌^◌, ℕ, List, length, true, IfOk, IfSome, Ok};
 ghost use Rattle.std.specs.Str.{IsUtf8};
-ghost use Rattle.wat_lex.specs.declared.lexer.kinds.Token.{Token};
-ghost use Rattle.wat_lexer_parser.specs.declared.parser.fault.Fault.{Fault};
-ghost use Rattle.wat_lexer_parser.specs.laws.Blanking.{TextShows};
-ghost use Rattle.wat_lexer_parser.specs.names.RegisteredNames.{no_names};
 ghost use Rattle.wat_lexer_parser.specs.parser.State as parser;
-ghost use Rattle.wat_module_lexer.specs.TokenTerminals.{plain};
 ghost use Rattle.wat_c.specs.Answers.{Answers, OneAnswer};
-ghost use Rattle.wat_c.specs.Compiling.{Checks, Compiles, IsBinary, LengthAt, MarkedLength};
-ghost use Rattle.wat_c.specs.Compiling.{OneCheck, compiled_with};
+ghost use Rattle.wat_c.specs.Compiling.{Checks, Compilation, Compiles, CompilesTo, IsBinary};
+ghost use Rattle.wat_c.specs.Compiling.{LengthAt, MarkedLength, OneCheck};
 ghost use Rattle.wat_c.specs.inside.CompilerErrors.{GivesError, refusal_of};
 
 use crate::answers::{Answer, Checked, Refusal, give};
@@ -31,23 +14,20 @@ use std::str;
 use wat_c_records::at::token_at;
 use wat_lex::lexer::Settings;
 use wat_lexer_parser::Error;
-use wat_modules::{compile, compile_with_names};
+use wat_modules::{compile, compile_with_customs};
 
-/// Compiles a module from text to binary, with a name section if `names`.
+/// Compiles a module from text to binary, with a name section and custom sections if `names`.
 fn compile_as(alloc: Global, text: &str, names: bool) -> Result<Vec<u8>, Error>
     requires { length text.now < 2 ^ 32 }
     ensures bytes { IfOk result (λ bytes. IsBinary names text.now bytes.items) }
     ensures all { (binary : List ℕ) → IsBinary names text.now binary →
         parser.Answers true (λ bytes. bytes.items) (Ok binary) result }
-    ensures shown { (tokens : List Token) (last : Option Fault) →
-        TextShows (plain text.now) no_names tokens last →
-        parser.Answers true (λ bytes. bytes.items)
-        (compiled_with names text.now tokens last) result }
-    ensures some { (tokens : List Token) × (last : Option Fault) ×
-        TextShows (plain text.now) no_names tokens last }
+    ensures compiled { (wanted : Compilation) → CompilesTo names text.now wanted →
+        parser.Answers true (λ bytes. bytes.items) wanted result }
+    ensures some { (wanted : Compilation) × CompilesTo names text.now wanted }
 {
     if names {
-        compile_with_names(alloc, text)
+        compile_with_customs(alloc, text)
     } else {
         compile(alloc, text)
     }
@@ -75,9 +55,11 @@ fn give_binary(alloc: Global, text: &str, names: bool, out: &mut [u8]) -> Answer
 }
 
 /// Compiles a module from text to binary, and writes its binary to `out` if it fits. If `names` is
-/// true, the binary ends with a name section with the identifiers of the text, if it has any. Fails
-/// with status 1 if the text is not a module, or if its binary has more than 4,294,967,295 bytes,
-/// and with status 2 if an allocation fails. `wat_check` returns the error.
+/// true, the binary has a name section with the identifiers of the text and the names of its
+/// annotations `(@name ..)`, if it has any, and the custom sections of its annotations `(@custom
+/// ..)`. Fails with status 1 if the text is not a module, if `names` is true and such an annotation
+/// is ill-formed or misplaced, or if the binary has more than 4,294,967,295 bytes, and with status
+/// 2 if an allocation fails. `wat_check` returns the error.
 #[unsafe(no_mangle)]
 pub extern "C" fn wat_compile(alloc: Global, text: &[u8], names: bool, out: &mut [u8]) -> Answer
     requires utf8 { IsUtf8 text.now }

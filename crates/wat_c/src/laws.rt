@@ -118,6 +118,7 @@ pub fn one_binary()
 {
     wat_lex::laws::one_tiling();
     wat_lexer_parser::laws::all_shown();
+    wat_modules::laws::sections_are_one();
 }
 
 /// Theorem: the error of a text is unique, unless an allocation fails: its offset, its length, its
@@ -128,6 +129,7 @@ pub fn one_check()
     wat_lex::laws::one_answer();
     wat_lex::laws::one_tiling();
     wat_lexer_parser::laws::all_shown();
+    wat_modules::laws::sections_are_one();
 }
 
 /// Theorem: the formatted text of a text is unique, unless an allocation fails: the status, the

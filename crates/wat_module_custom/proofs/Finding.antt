@@ -1,5 +1,5 @@
 -- A token that is read, and the custom sections by the items of a text.
-use Rattle.std.proofs.Common.{◌≡◌, ◌∙◌, ◌<◌, ◌+◌, ◌-◌, ℕ, Bool, List, [], refl, sym, ap, subst, arith, Option, Some, None, Result, Ok, Err, true, false}
+use Rattle.std.proofs.Common.{◌≡◌, ◌∙◌, ◌<◌, ◌+◌, ◌-◌, ℕ, Bool, List, [], refl, sym, ap, subst, arith, Option, Some, Result, Ok, Err, true, false}
 use Rattle.std.specs.Prelude.{if◌then◌else◌}
 use Rattle.wat_lex.specs.errors.Errors.{Report}
 use Rattle.wat_lex.specs.declared.lexer.kinds.Token.{Token}

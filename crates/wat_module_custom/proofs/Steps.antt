@@ -1,6 +1,6 @@
 -- The custom sections among items, one item at a time.
 use Rattle.std.proofs.Common.{◌≡◌, ◌∙◌, ◌≤◌, arith, length, map, ℕ, suc, zero, List, [], ◌∷◌, ◌++◌, refl, sym, ap, append_assoc, append-nil, Result, Ok, Err}
-use Rattle.std.specs.Prelude.{◌==◌, ◌&&◌, true, false, Bool, if◌then◌else◌}
+use Rattle.std.specs.Prelude.{◌==◌, ◌&&◌, true, false, if◌then◌else◌}
 use Rattle.wat_module_custom.specs.Customs.{Annotated, CustomSection, Item, Plain, level, sections_from, with_first}
 use Rattle.wat_module_custom.specs.declared.reading.Piece.{Piece}
 use Rattle.wat_module_custom.specs.declared.reading.Piece.TheVariants as piece

@@ -5,7 +5,7 @@
 -- so on. Without these it is put after the last section. 3.0 requires that the section is in the binary; here, as in the
 -- crate `wat`, the custom section is put where that section would be. An annotation of this name with other contents, or
 -- where no field may be, is an error.
-use Rattle.std.specs.Prelude.{◌≡◌, refl, ℕ, suc, zero, ◌==◌, ◌&&◌, ◌||◌, Bool, false, true, bytes_eq, if◌then◌else◌, is_some, List, [], ◌∷◌, codes, unwrap_or, Option, Some, None, Result, Ok, Err}
+use Rattle.std.specs.Prelude.{◌≡◌, refl, ℕ, suc, zero, ◌==◌, ◌&&◌, Bool, false, true, bytes_eq, if◌then◌else◌, List, [], ◌∷◌, codes, unwrap_or, Option, Some, None, Result, Ok, Err}
 use Rattle.std.specs.List.{flat_map}
 use Rattle.std.specs.Option.{option_map}
 use Rattle.wat_lex.specs.errors.Errors.{Report, Custom, report_in}
@@ -14,8 +14,7 @@ use Rattle.wat_lex.specs.tokens.Setting.{Setting}
 use Rattle.wat_lexer_parser.specs.parser.Takers.{Reader, as_keyword}
 use Rattle.wat_lexer_parser.specs.places.Source.{IsRead, Source}
 use Rattle.wat_lexer_parser.specs.readings.Readings.{Reading, under, whole}
-use Rattle.memchr.specs.Find.{first_of, matches}
-use Rattle.wat_lexer_parser.specs.rules.Formats.{Format, a_named, a_token, a_word, and_then, checked, group, many, mapped, optional, second, spanned, token, where_seen, while_seen}
+use Rattle.wat_lexer_parser.specs.rules.Formats.{Format, a_named, a_token, and_then, checked, group, many, mapped, optional, second, spanned, token, where_seen, while_seen}
 use Rattle.wat_lexer_parser.specs.rules.FormatTypes.{a_group, a_keyword, annotation, bytes, keyword, text}
 use Rattle.wat_module_custom.specs.declared.sections.Anchor.{Anchor}
 use Rattle.wat_module_custom.specs.declared.sections.Anchor.TheVariants as anchor
@@ -25,6 +24,8 @@ use Rattle.wat_module_custom.specs.declared.sections.Side.{Side}
 use Rattle.wat_module_custom.specs.declared.sections.Side.TheVariants.{After, Before}
 use Rattle.wat_module_custom.specs.declared.reading.Piece.{Piece}
 use Rattle.wat_module_custom.specs.declared.reading.Piece.TheVariants as piece
+use Rattle.wat_module_custom.specs.declared.search.Sought.TheVariants as sought
+use Rattle.wat_module_custom.specs.Search.{may_have}
 
 -- A custom section: its name, its placement and its bytes.
 pub record CustomSection : Type 0 where
@@ -171,14 +172,10 @@ abbrev pub placed : List ℕ → Result (List Item) Report → Result (List Cust
 placed text (Ok is) = placed_by text (sections_in is)
 placed text (Err r) = Err r
 
--- Returns `true` if a text contains these bytes.
-abbrev pub contains : List ℕ → List ℕ → Bool
-contains needle text = is_some (first_of (matches text needle 0))
-
--- 6.2.5 (annotations): an annotation of the name `custom` begins with `(@custom`, or with `(@"` if the name is a string.
--- A text without these has none. No theorem says so: `custom_sections` is defined by it.
+-- Returns `true` if an annotation of the name `custom` may begin at a byte of the text. Otherwise the text has no custom
+-- sections, as `custom_sections` defines.
 abbrev pub may_have_customs : List ℕ → Bool
-may_have_customs text = contains (codes "(@custom") text || contains (codes "(@\"") text
+may_have_customs text = may_have sought.Customs text
 
 -- The custom sections of a text that is a module, or the first error in the contents of an annotation, or, if there is
 -- none, that of the first annotation where no field may be.

@@ -5,20 +5,22 @@
 ghost use Rattle.std.specs.Prelude.{◌≡◌, ◌<◌, ◌^◌, length, map, false, true};
 ghost use Rattle.wat_lexer_parser.specs.parser.State.{Answers};
 ghost use Rattle.wat_lexer_parser.specs.places.Source.{IsRead, Source};
-ghost use Rattle.wat_module_custom.specs.Customs.{contains, custom_sections, may_have_customs, plain};
+ghost use Rattle.wat_module_custom.specs.Customs.{custom_sections, plain};
 ghost use Rattle.wat_module_custom.specs.Values.{section_of};
 
 pub mod kw;
+pub mod laws;
 mod placing;
 pub mod reading;
+pub mod search;
 pub mod sections;
 #[cfg(test)]
 mod tests;
 
 use crate::placing::placed;
 use crate::reading::AllItems;
+use crate::search::{Sought, may_have};
 use crate::sections::CustomSection;
-use memchr::{memchr, memmem};
 use std::alloc::Global;
 use wat_lexer_parser::Error;
 use wat_lexer_parser::lexer::{Lexer, Settings};
@@ -61,30 +63,11 @@ pub fn custom_sections<'b>(
     buffer.lemma_sound();
     let lexer = buffer.lexer();
     let text = lexer.input();
-    if may_have_customs(text) {
+    if may_have(text, Sought::Customs) {
         return match buffer.parse::<AllItems<'b>>() {
             Ok(items) => placed(alloc, text, items.items.items),
             Err(error) => Err(error),
         };
     }
     Ok(Vec::new(alloc))
-}
-
-/// Returns `false` only if a text has no custom annotations. Few texts have an `@`, which is found
-/// faster.
-fn may_have_customs(text: &str) -> bool
-    ensures { result ≡ may_have_customs text.now }
-{
-    let bytes = text.as_bytes();
-    if memchr(b'@', bytes).is_none() {
-        return false;
-    }
-    contains(bytes, b"(@custom") || contains(bytes, b"(@\"")
-}
-
-/// Returns `true` if `needle` occurs in `bytes`.
-fn contains(bytes: &[u8], needle: &[u8]) -> bool
-    ensures { result ≡ contains needle.now bytes.now }
-{
-    memmem::find(bytes, needle).is_some()
 }

@@ -1,7 +1,7 @@
 -- WebAssembly 2.0, 7.4.1 (appendix, custom sections: name section), and the extended-name-section proposal, whose
 -- subsection 3 has the form of the local names, and whose subsections 4 to 9 have that of the function names. The name of
 -- an item is its identifier (6.3.5): the bytes after `$`, or, for `$".."`, which 2.0 does not have, the value of the
--- string. The annotation `(@name "..")` names nothing. The standard makes every name optional. There are the subsections 0
+-- string; or the name that an annotation gives instead. The standard makes every name optional. There are the subsections 0
 -- (module), 1 (functions), 2 (locals), 3 (labels) and 4 to 9 (types, tables, memories, globals, element segments, data
 -- segments). The parameters of an imported function and those of a type have no entry, even if they have identifiers:
 -- these are not in the abstract syntax (2.5.11). This is a choice, and that of the crate `wat`.

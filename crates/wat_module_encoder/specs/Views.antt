@@ -1,12 +1,15 @@
 -- The imports, exports, counts, segments and runs of the code, as definitions, and the steps by which the
 -- code encodes them. Not part of the standard.
 use Rattle.std.specs.Prelude.{suc, ◌∷◌, ◌<◌, ◌==◌, ◌+◌, ◌++◌, ℕ, List, [], length, map, Option, Some, None, if◌then◌else◌}
+use Rattle.std.specs.List.{flat_map}
+use Rattle.wat_module_ast.specs.declared.fields.Locals.{Locals}
+use Rattle.wat_module_ast.specs.Types.{type_byte}
+use Rattle.wat_module_ast.specs.Views.{local_types}
 use Rattle.wat_module_ast.specs.declared.fields.Import as declared_import
 use Rattle.wat_module_ast.specs.declared.fields.Export as declared_export
 use Rattle.wat_module_ast.specs.declared.fields.IndexSpace.{IndexSpace}
 use Rattle.wat_module_ast.specs.declared.fields.IndexSpace.TheVariants as space
 use Rattle.wat_module_encoder.specs.declared.indices.Counts as declared_counts
-use Rattle.wat_module_encoder.specs.declared.code.Run as declared_run
 use Rattle.wat_module_encoder.specs.declared.data.Segment as declared_segment
 use Rattle.wat_module_encoder.specs.declared.data.DataTarget.{DataTarget}
 use Rattle.wat_module_encoder.specs.declared.data.DataTarget.TheVariants as places
@@ -20,7 +23,7 @@ use Rattle.wat_module_encoder.specs.declared.names.NameSpace.TheVariants as name
 use Rattle.wat_lex.specs.binary.Leb128.{unsigned_leb128}
 use Rattle.wat_module_ast.specs.Types.{FunctionType}
 use Rattle.wat_module_tokens.specs.Terminals.{Label}
-use Rattle.wat_module_encoder.specs.Binary.{mode_bytes, Export, ImportEntry, Run, export, next_index, run, section, ElementSegment, element_segment, DataSegment, at_zero, data_segment}
+use Rattle.wat_module_encoder.specs.Binary.{mode_bytes, Export, ImportEntry, export, next_index, section, ElementSegment, element_segment, DataSegment, at_zero, data_segment}
 use Rattle.wat_module_ast.specs.Fields.{Field, TypeField, Import, Func, Table, Memory, Global, Start, extern_space, Data, Elem, ElemMode, Passive, Active, Declarative, Target, target, binding_of, bindings_of, definition_name, definition_of, definitions_of, elem_of, elems_of, data_of, datas_of, names_in}
 use Rattle.wat_module_ast.specs.Fields as field
 use Rattle.wat_module_ast.specs.Names.{NameAssociation}
@@ -161,14 +164,9 @@ abbrev pub put_before : List ℕ → Option (List ℕ) → Option (List ℕ)
 put_before xs (Some ys) = Some (xs ++ ys)
 put_before xs None = None
 
--- The runs of `n` locals of the type `b`, followed by locals whose types have the given bytes.
-abbrev pub runs_after : ℕ → ℕ → List ℕ → List Run
-runs_after n b [] = run n b ∷ []
-runs_after n b (c ∷ cs) = if c == b then runs_after (suc n) b cs else run n b ∷ runs_after 1 c cs
-
--- A run of locals of the code.
-abbrev pub run_of : declared_run.Run → Run
-run_of r = run r.count r.byte
+-- 5.5.13: the byte of the type of each local, one byte per local.
+abbrev pub bytes_of : List Locals → List ℕ
+bytes_of ls = map type_byte (flat_map local_types ls)
 
 -- 5.5.2: a section of `count` items, which are encoded in the bytes `items`. It is omitted if `count` is 0.
 abbrev pub counted_section : ℕ → ℕ → List ℕ → List ℕ

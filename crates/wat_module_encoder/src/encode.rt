@@ -38,8 +38,8 @@ const HEADER: [u8; 8] = [0x00, 0x61, 0x73, 0x6D, 0x01, 0x00, 0x00, 0x00];
 ///
 /// # Errors
 ///
-/// Fails if an allocation fails, or if the strings of a data segment have 2^63 bytes or more
-/// together.
+/// Fails if an allocation fails, if the strings of a data segment have 2^63 bytes or more together,
+/// or if a function has 2^64 or more consecutive locals of one type.
 #[tactic(auto, unfolding(crate::specs::Binary::module_bytes))]
 pub fn module_bytes(alloc: Global, fields: &[Field<'_>]) -> Result<Vec<u8>, AllocError>
     ensures { IfOk result (λ bytes. bytes.items ≡ binary.module_bytes (fields_of fields.now)) }
@@ -87,8 +87,8 @@ pub fn put_name_section(
 ///
 /// # Errors
 ///
-/// Fails if an allocation fails, or if the strings of a data segment have 2^63 bytes or more
-/// together.
+/// Fails if an allocation fails, if the strings of a data segment have 2^63 bytes or more together,
+/// or if a function has 2^64 or more consecutive locals of one type.
 #[tactic(auto, unfolding(crate::specs::CustomSections::complete_bytes))]
 pub fn complete_bytes(
     alloc: Global,

@@ -1,6 +1,6 @@
 -- Variables by their types and by runs of identifiers: one variable more, and one run more.
-use Rattle.std.proofs.Common.{◌≡◌, ◌∙◌, ◌+◌, ◌<◌, ◌≤◌, ℕ, zero, suc, List, [], ◌∷◌, ◌++◌, Some, None, length, length-append, map, drop, get_or, refl, sym, ap, append-nil, append_assoc, arith}
-use Rattle.std.specs.Prelude.{replicate}
+use Rattle.std.proofs.Common.{◌≡◌, ◌∙◌, ◌+◌, ◌<◌, ◌≤◌, ℕ, zero, suc, true, false, List, [], ◌∷◌, ◌++◌, Some, None, length, length-append, map, drop, get_or, refl, sym, ap, append-nil, append_assoc, arith}
+use Rattle.std.specs.Prelude.{if◌then◌else◌, replicate}
 use Rattle.std.specs.List.{flat_map}
 use Rattle.std.proofs.lemmas.Grind.{flat_map-append}
 use Rattle.std.proofs.lemmas.List.{drop_more, length-replicate, replicate-append-replicate}
@@ -8,7 +8,8 @@ use Rattle.wat_module_ast.specs.declared.instruction.ValueType.{ValueType}
 use Rattle.wat_module_ast.specs.declared.fields.Locals.{Locals}
 use Rattle.wat_module_ast.specs.Views.{local_types}
 use Rattle.wat_module_ast.specs.Fields.{name_of, type_of, unnamed, variable}
-use Rattle.wat_module_ast.specs.Names.{association, associations}
+use Rattle.wat_module_ast.specs.Grammar.{is_name}
+use Rattle.wat_module_ast.specs.Names.{are_distinct, association, associations, has_name}
 use Rattle.wat_module_instructions.specs.Indices.{labels_of, run_labels}
 use Rattle.wat_module_instructions.specs.declared.names.NameRun.{NameRun}
 use Rattle.wat_module_instructions.specs.declared.names.NameRun.TheVariants.{Absent}
@@ -68,6 +69,19 @@ associations_nones (Some x ∷ ls) n k = ap (λ rest. association k x ∷ rest) 
 
 pub associations_given : (k : ℕ) (x : List ℕ) (ls : List Label) → associations k (Some x ∷ ls) ≡ association k x ∷ associations (k + 1) ls
 associations_given k x ls = ap (λ k'. association k x ∷ associations k' ls) (omega arith)
+
+-- Items without identifiers at the end have no name.
+has_nones : (x : List ℕ) (ls : List Label) (n : ℕ) → has_name x (ls ++ replicate n None) ≡ has_name x ls
+has_nones x [] zero = refl
+has_nones x [] (suc n) = has_nones x [] n
+has_nones x (l ∷ ls) n = ap (λ b. if is_name x l then true else b) (has_nones x ls n)
+
+-- Items without identifiers at the end do not count.
+pub distinct_nones : (ls : List Label) (n : ℕ) → are_distinct (ls ++ replicate n None) ≡ are_distinct ls
+distinct_nones [] zero = refl
+distinct_nones [] (suc n) = distinct_nones [] n
+distinct_nones (None ∷ ls) n = distinct_nones ls n
+distinct_nones (Some x ∷ ls) n = ap (λ b. if b then false else are_distinct (ls ++ replicate n None)) (has_nones x ls n) ∙ ap (λ b. if has_name x ls then false else b) (distinct_nones ls n)
 
 -- A local of the type of the run before it.
 pub run_on : (n : ℕ) (t : ValueType) (ts : List ValueType) (i : ℕ) (d : ValueType) → i < length ts → get_or ts i d ≡ t → replicate n t ++ drop i ts ≡ replicate (n + 1) t ++ drop (i + 1) ts

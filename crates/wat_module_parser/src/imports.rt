@@ -9,11 +9,11 @@ ghost use Rattle.wat_module_instructions.specs.Parts.{ReadsAs, ReadsExactly};
 ghost use Rattle.wat_module_tokens.specs.Terminals.{label};
 
 use crate::header::{closed, utf8_text};
-use crate::names::{Names, variable_names};
+use crate::names::Names;
 use crate::places::duplicate_variable;
 use crate::types::{global_type, limits, skip_two_closes, space_of, table_type};
 use crate::uses::type_use;
-use crate::variables::{NamedUse, Variables, without_names};
+use crate::variables::{NamedUse, are_parameters_distinct, without_names};
 use std::alloc::Global;
 use wat_module_ast::error::{Expected, Fault, ParseFailure};
 use wat_module_ast::fields::{ExternType, Field, Import, IndexSpace};
@@ -78,11 +78,10 @@ fn func_type<'p, 'a>(
         (reading.func_type (use_of uses.entry) (terminals_of all.entry) (terminals_of rest.entry))
         result }
 {
-    if variable_names(alloc, &uses, &Variables::none(alloc))?.is_none() {
+    if !are_parameters_distinct(alloc, &uses)? {
         return Err(ParseFailure::Text(duplicate_variable(alloc, all)?));
     }
-    let uses = without_names(alloc, &uses)?;
-    Ok((ExternType::Func(uses), rest))
+    Ok((ExternType::Func(without_names(uses)), rest))
 }
 
 /// Parses an inline import, after the identifier and inline exports of its field and `(import`, up

@@ -11,7 +11,7 @@ ghost use Rattle.wat_module_ast.specs.TypeViews.{type_of};
 use crate::header::{closed, variables};
 use crate::names::Names;
 use crate::types::skip_two_closes;
-use crate::variables::{ListedUse, NamedUse, Variables, function_type};
+use crate::variables::{ListedUse, NamedUse, Variables, function_type, into_function_type};
 use std::alloc::Global;
 use wat_module_ast::error::{Expected, FaultKind, ParseFailure, Space};
 use wat_module_ast::fields::Definition;
@@ -184,6 +184,6 @@ fn type_lists<'p, 'a>(
     let (params, rest) = variables(alloc, "param", true, cursor)?;
     let (results, rest) = variables(alloc, "result", false, rest)?;
     let rest = skip_two_closes(rest)?;
-    let of = function_type(alloc, &params, &results)?;
+    let of = into_function_type(params, results);
     Ok((Definition { name, of }, rest))
 }

@@ -2,7 +2,7 @@
 ghost use Rattle.std.specs.Prelude.{◌≡◌, ◌==◌, ◌<◌, ◌^◌, ◌+◌, ◌++◌, ◌∷◌, [], Some, length, map, IfOk};
 ghost use Rattle.std.specs.List.{flat_map};
 ghost use Rattle.wat_module_ast.specs.Fields as grammar;
-ghost use Rattle.wat_module_ast.specs.Names.{associations};
+ghost use Rattle.wat_module_ast.specs.Names.{are_distinct, associations};
 ghost use Rattle.wat_module_ast.specs.Views.{association_of, local_types};
 ghost use Rattle.wat_module_instructions.specs.Indices.{labels_of};
 ghost use Rattle.wat_module_parser.specs.Views.{listed_use_of, use_of};
@@ -14,7 +14,7 @@ use std::marker::Model;
 use wat_module_ast::fields::{Locals, NameAssociation};
 use wat_module_ast::instruction::ValueType;
 use wat_module_ast::types::{FunctionType, TypeUse};
-use wat_module_instructions::names::{NameRun, push_unnamed};
+use wat_module_instructions::names::{NameRun, have_distinct_names, push_unnamed};
 
 /// Parameters, results or locals, in the order of their indices.
 #[derive(Drop)]
@@ -117,6 +117,21 @@ impl<'a> Variables<'a> {
         &self.types
     }
 
+    /// Returns the types of the variables.
+    pub(crate) fn into_types(self) -> Vec<ValueType>
+        ensures { result.items ≡ map grammar.type_of self.entry }
+    {
+        self.types
+    }
+
+    /// Returns `true` if no two variables have the same identifier. Does not allocate if at most 8
+    /// variables have one.
+    pub(crate) fn are_distinct(&self, alloc: Global) -> Result<bool, AllocError>
+        ensures { IfOk result (λ b. b ≡ are_distinct (map grammar.name_of self.now)) }
+    {
+        have_distinct_names(alloc, &self.names)
+    }
+
     /// Appends the identifiers of the variables to runs of items.
     #[inline(always)]
     pub(crate) fn append_names(&self, names: &mut Vec<NameRun<'a>>) -> Result<(), AllocError>
@@ -176,7 +191,7 @@ fn locals_after(
     Ok(locals)
 }
 
-/// Returns the function type with these parameters and results.
+/// Returns a copy of the function type with these parameters and results.
 pub(crate) fn function_type(
     alloc: Global,
     params: &Variables<'_>,
@@ -189,27 +204,54 @@ pub(crate) fn function_type(
     Ok(FunctionType { params, results })
 }
 
-/// Returns the type use without the identifiers of its parameters.
-pub(crate) fn without_names(alloc: Global, uses: &NamedUse<'_, '_>) -> Result<TypeUse, AllocError>
-    ensures { IfOk result (λ u. bare.use_of u ≡ grammar.without_names (use_of uses.now)) }
+/// Returns the function type with these parameters and results, whose identifiers are dropped.
+pub(crate) fn into_function_type(params: Variables<'_>, results: Variables<'_>) -> FunctionType
+    ensures { type_of result ≡ grammar.function_type params.entry results.entry }
+{
+    FunctionType {
+        params: params.into_types(),
+        results: results.into_types(),
+    }
+}
+
+/// Returns `true` if no two parameters of a type use have the same identifier.
+#[tactic(auto, using(crate::proofs::Unnamed::distinct))]
+pub(crate) fn are_parameters_distinct(
+    alloc: Global,
+    uses: &NamedUse<'_, '_>,
+) -> Result<bool, AllocError>
+    ensures { IfOk result (λ b. b ≡
+        are_distinct (map grammar.name_of (use_of uses.now).params)) }
 {
     match uses {
-        NamedUse::Indexed(index, _) => Ok(TypeUse::Index(*index)),
-        NamedUse::Listed(listed) => listed_without_names(alloc, listed),
+        NamedUse::Listed(listed) => listed.params.are_distinct(alloc),
+        NamedUse::Indexed(_, _) => Ok(true),
+    }
+}
+
+/// Returns the type use without the identifiers of its parameters.
+pub(crate) fn without_names(uses: NamedUse<'_, '_>) -> TypeUse
+    ensures { bare.use_of result ≡ grammar.without_names (use_of uses.entry) }
+{
+    match uses {
+        NamedUse::Indexed(index, _) => TypeUse::Index(index),
+        NamedUse::Listed(listed) => listed_without_names(listed),
     }
 }
 
 /// Returns the type use without the identifiers of its parameters. Its type is not returned if it
 /// has an index.
-fn listed_without_names(alloc: Global, uses: &ListedUse<'_>) -> Result<TypeUse, AllocError>
-    ensures { IfOk result (λ u. bare.use_of u ≡ grammar.without_names (listed_use_of uses.now)) }
+fn listed_without_names(uses: ListedUse<'_>) -> TypeUse
+    ensures { bare.use_of result ≡ grammar.without_names (listed_use_of uses.entry) }
 {
-    match uses.index {
-        Some(index) => Ok(TypeUse::Index(index)),
-        None => {
-            let of = function_type(alloc, &uses.params, &uses.results)?;
-            Ok(TypeUse::Inline(of))
-        }
+    let ListedUse {
+        index,
+        params,
+        results,
+    } = uses;
+    match index {
+        Some(index) => TypeUse::Index(index),
+        None => TypeUse::Inline(into_function_type(params, results)),
     }
 }
 

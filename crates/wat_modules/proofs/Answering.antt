@@ -29,10 +29,13 @@ use Rattle.wat_module_parser.specs.Reading as reading
 use Rattle.wat_module_lexer.specs.TokenTerminals.{plain, terminal_of}
 use Rattle.wat_module_lexer.specs.Shown.{TerminalsShown, TextShown}
 use Rattle.wat_lexer_parser.specs.lemmas.SpellingLaws.{some_source}
-use Rattle.wat_module_custom.specs.Customs.{CustomSection, HasSections, custom_sections, plain as custom_plain}
+use Rattle.wat_module_annotations.specs.Names.{ModuleNames}
+use Rattle.wat_module_annotations.specs.Renaming.{HasNames, names_of}
+use Rattle.wat_module_custom.specs.Customs.{CustomSection, custom_sections, plain as custom_plain}
+use Rattle.wat_module_custom.specs.Customs as custom
 use Rattle.wat_module_encoder.specs.Binary.{module_bytes}
 use Rattle.wat_module_encoder.specs.CustomSections.{complete_bytes}
-use Rattle.wat_modules.specs.Compiling.{DenotesModule, DenotesNamed, Fits, FitsNamed, Sections, Wanted, Bare, Named, Complete, named_bytes, compiled_with, compiled_by, compiled_tokens, finished, fitted, module_name, too_long}
+use Rattle.wat_modules.specs.Compiling.{DenotesComplete, DenotesModule, DenotesNamed, Fits, FitsComplete, FitsNamed, AnnotationsDefine, Sections, annotations, both, named_fields, named_module, Wanted, Bare, Named, Complete, named_bytes, compiled_with, compiled_by, compiled_tokens, finished, fitted, module_name, too_long}
 use Rattle.wat_modules.specs.Messages.{message, place}
 
 -- The visible tokens of a text, and the error after them, are unique.
@@ -100,6 +103,10 @@ fault_of_tokens tilings one text items us shown kind left error s h k =
     let a = seen text items shown s in
     subst (λ ts. IsUnlessMemory error (fault_report text ts kind left)) (shows_one tilings one text items us a.fault None a.shows k).0 h
 
+pub tokens_again : TilingsAreUnique → AllShownIsOne → (text : List ℕ) (items us : List Token) (shown : Option (Option Report)) → TextShown text items shown → TextShows (plain text) no_names us None → items ≡ us
+tokens_again tilings one text items us shown s k =
+    let a = seen text items shown s in (shows_one tilings one text items us a.fault None a.shows k).0
+
 -- The result is that of all visible tokens of the text and the error after them.
 abbrev pub IsRefused : Wanted → List ℕ → Answer → Type 0
 IsRefused n text r = (tokens : List Token) (last : Option Fault) → TextShows (plain text) no_names tokens last → Is (compiled_with n text tokens last) r
@@ -117,7 +124,7 @@ spelled_by law n text r h = λ fs s.
 abbrev pub HasBytes : Wanted → List ℕ → Answer → Type 0
 HasBytes n text r = IfOk r (λ bytes. (fs : List Field) × (m : DenotesModule text fs) × (finished n text (module_name m.terminals) fs ≡ Ok bytes.items))
 
-fitted_is : (text : List ℕ) (bytes out : List ℕ) (b : Bool) → nat_lt (length bytes) (2 ^ 32) ≡ b → (if b then Ok bytes else Err (too_long text)) ≡ Ok out → (length bytes < 2 ^ 32) × (out ≡ bytes)
+pub fitted_is : (text : List ℕ) (bytes out : List ℕ) (b : Bool) → nat_lt (length bytes) (2 ^ 32) ≡ b → (if b then Ok bytes else Err (too_long text)) ≡ Ok out → (length bytes < 2 ^ 32) × (out ≡ bytes)
 fitted_is text bytes out true e h = let k : bytes ≡ out = cc in ((Decides-ltb (length bytes) (2 ^ 32)).0 e, sym k)
 fitted_is text bytes out false e h = cc
 
@@ -168,6 +175,24 @@ compiled_end n text ts r h k =
     let s = seen text h.tokens None h.shown in
     record { tokens = h.tokens; fault = s.fault; shows = s.shows; is = no_fault n text h.tokens s.fault r s.reported (k h.tokens (shows_end text h.tokens s.fault s.reported s.shows) h.are) }
 
+-- The tokens of a text without an error.
+pub record Ended (text : List ℕ) (ts : List Terminal) : Type 0 where
+  pub tokens : List Token
+  pub shows : TextShows (plain text) no_names tokens None
+  pub are : ts ≡ map (terminal_of text) tokens
+
+pub ended : (text : List ℕ) (ts : List Terminal) → TerminalsShown text ts None → Ended text ts
+ended text ts h =
+    let s = seen text h.tokens None h.shown in
+    record { tokens = h.tokens; shows = shows_end text h.tokens s.fault s.reported s.shows; are = h.are }
+
+-- A text with an error denotes no module.
+pub not_ended : TilingsAreUnique → AllShownIsOne → (text : List ℕ) (ts : List Terminal) (e : Option Report) → TerminalsShown text ts (Some e) → (fs : List Field) → DenotesModule text fs → ⊥
+not_ended tilings one text ts e h fs m =
+    let s = seen text h.tokens (Some e) h.shown in
+    let f : s.fault ≡ None = (shows_one tilings one text h.tokens m.shown.tokens s.fault None s.shows m.shown.shown).1 in
+    let r : Some e ≡ None = s.reported ∙ ap (λ f. option_map (λ f. Some (report_of text f)) f) f in cc
+
 pub compiled_refused : TilingsAreUnique → AllShownIsOne → (n : Wanted) (text : List ℕ) (r : Answer) → IsCompiled n text r → IsRefused n text r
 compiled_refused tilings one n text r h = refused_by tilings one n text h.tokens h.fault r h.shows h.is
 
@@ -191,13 +216,16 @@ named_by text (Ok out) (fs, m, e) =
     (l, fs, record { terminals = m.terminals; shown = m.shown; spelled = m.spelled; named = refl }, f.0, f.1)
 named_by text (Err e) h = tt
 
--- The bytes with a name section and custom sections.
-pub complete_by : (text : List ℕ) (x : Answer) (r : Sections) → HasSections text r → HasBytes (Complete r) text x
-    → IfOk x (λ bytes. (l : Label) × (fs : List Field) × (cs : List CustomSection) × DenotesNamed text l fs × HasSections text (Ok cs) × (length (complete_bytes l fs cs) < 2 ^ 32) × (bytes.items ≡ complete_bytes l fs cs))
-complete_by text (Ok out) (Ok cs) h (fs, m, e) =
+-- The bytes with a name section and what annotations define.
+pub complete_by : (text : List ℕ) (x : Answer) (r : Sections) → AnnotationsDefine text r → HasBytes (Complete r) text x
+    → IfOk x (λ bytes. (l : Label) × (fs : List Field) × (cs : List CustomSection) × DenotesComplete text l fs cs × FitsComplete l fs cs × (bytes.items ≡ complete_bytes l fs cs))
+complete_by text (Ok out) (Ok a) h (fs, m, e) =
     let l = module_name m.terminals in
-    let f = fitted_is text (complete_bytes l fs cs) out.items (nat_lt (length (complete_bytes l fs cs)) (2 ^ 32)) refl e in
-    (l, fs, cs, record { terminals = m.terminals; shown = m.shown; spelled = m.spelled; named = refl }, h, f.0, f.1)
+    let k = named_module a.names l in
+    let gs = named_fields a.names fs in
+    let f = fitted_is text (complete_bytes k gs a.customs) out.items (nat_lt (length (complete_bytes k gs a.customs)) (2 ^ 32)) refl e in
+    let n : DenotesNamed text l fs = record { terminals = m.terminals; shown = m.shown; spelled = m.spelled; named = refl } in
+    (k, gs, a.customs, record { identifier = l; fields = fs; names = a.names; denoted = n; sections = h; named = refl; renamed = refl }, f.0, f.1)
 complete_by text (Ok out) (Err f) h (fs, m, e) = cc
 complete_by text (Err e) r h k = tt
 
@@ -205,22 +233,41 @@ complete_by text (Err e) r h k = tt
 pub spelled_named : (w : Wanted) (text : List ℕ) (x : Answer) → ((fs : List Field) (m : DenotesModule text fs) → Is (finished w text (module_name m.terminals) fs) x) → (l : Label) (fs : List Field) → DenotesNamed text l fs → Is (finished w text l fs) x
 spelled_named w text x h = λ l fs d. subst (λ k. Is (finished w text k fs) x) d.named (h fs (record { terminals = d.terminals; shown = d.shown; spelled = d.spelled }))
 
--- An error in the custom sections is the result.
+-- The result for a module with names of annotations and custom sections, which its text determines.
+pub spelled_complete : (text : List ℕ) (x : Answer) → ((r : Sections) → AnnotationsDefine text r → (fs : List Field) (m : DenotesModule text fs) → Is (finished (Complete r) text (module_name m.terminals) fs) x)
+    → (l : Label) (fs : List Field) (cs : List CustomSection) → DenotesComplete text l fs cs → Is (fitted text (complete_bytes l fs cs)) x
+spelled_complete text x h l fs cs d =
+    let a = annotations cs d.names in
+    let is = spelled_named (Complete (Ok a)) text x (h (Ok a) d.sections) d.identifier d.fields d.denoted in
+    subst (λ k. Is (fitted text (complete_bytes k fs cs)) x) (sym d.named) (subst (λ gs. Is (fitted text (complete_bytes (named_module d.names d.identifier) gs cs)) x) (sym d.renamed) is)
+
+-- An error in the annotations is the result.
 finished_fault : (text : List ℕ) (l : Label) (fs : List Field) (r : Sections) (e : Report) → r ≡ Err e → finished (Complete r) text l fs ≡ Err e
 finished_fault text l fs r e h = ap (λ x. finished (Complete x) text l fs) h
 
-pub sections_fault : {T : Type 0} (f : T → List CustomSection) (text : List ℕ) (l : Label) (fs : List Field) (r : Sections) (e : Option Report) → Answers {T = T} true f r (Err e) → Is (finished (Complete r) text l fs) (Err e)
-sections_fault f text l fs r None h = refl
-sections_fault f text l fs r (Some e) h = finished_fault text l fs r e h
+pub customs_fault : {T : Type 0} (f : T → List CustomSection) (text : List ℕ) (l : Label) (fs : List Field) (r : Sections) (customs : Result (List CustomSection) Report) (names : Result ModuleNames Report) (e : Option Report) → r ≡ both customs names → Answers {T = T} true f customs (Err e) → Is (finished (Complete r) text l fs) (Err e)
+customs_fault f text l fs r customs names None are h = refl
+customs_fault f text l fs r customs names (Some e) are h = finished_fault text l fs r e (are ∙ ap (λ c. both c names) h)
 
-pub sections_bytes : (text : List ℕ) (l : Label) (fs : List Field) (r : Sections) (cs : List CustomSection) (bytes : List ℕ) (x : Answer) → r ≡ Ok cs → bytes ≡ complete_bytes l fs cs → Is (fitted text bytes) x → Is (finished (Complete r) text l fs) x
-sections_bytes text l fs r cs bytes x h e a = subst (λ q. Is (finished (Complete q) text l fs) x) (sym h) (subst (λ b. Is (fitted text b) x) e a)
+pub names_fault : {T : Type 0} (f : T → ModuleNames) (text : List ℕ) (l : Label) (fs : List Field) (r : Sections) (customs : Result (List CustomSection) Report) (names : Result ModuleNames Report) (cs : List CustomSection) (e : Option Report) → r ≡ both customs names → customs ≡ Ok cs → Answers {T = T} true f names (Err e) → Is (finished (Complete r) text l fs) (Err e)
+names_fault f text l fs r customs names cs None are are_customs h = refl
+names_fault f text l fs r customs names cs (Some e) are are_customs h = finished_fault text l fs r e (are ∙ ap (λ c. both c names) are_customs ∙ ap (both (Ok cs)) h)
 
--- Each text has custom sections or an error in them.
-pub some_sections : EachBoundaryHasTiling → (text : List ℕ) → IsUtf8 text → (r : Sections) × HasSections text r
+-- The bytes of a module with what its annotations define.
+pub both_bytes : (text : List ℕ) (l : Label) (fs : List Field) (r : Sections) (customs : Result (List CustomSection) Report) (names : Result ModuleNames Report) (cs : List CustomSection) (ns : ModuleNames) (x : Answer) → r ≡ both customs names → customs ≡ Ok cs → names ≡ Ok ns → Is (fitted text (complete_bytes (named_module ns l) (named_fields ns fs) cs)) x → Is (finished (Complete r) text l fs) x
+both_bytes text l fs r customs names cs ns x are are_customs are_names a =
+    let e : r ≡ Ok (annotations cs ns) = are ∙ ap (λ c. both c names) are_customs ∙ ap (both (Ok cs)) are_names in
+    subst (λ q. Is (finished (Complete q) text l fs) x) (sym e) a
+
+-- The annotations of each text define something, or have an error.
+pub some_sections : EachBoundaryHasTiling → (text : List ℕ) → IsUtf8 text → (r : Sections) × AnnotationsDefine text r
 some_sections tiled text u =
     let s = some_source tiled (custom_plain text) false u in
-    (custom_sections s.0, record { source = s.0; setting = s.2; track = s.3; read = s.1; are = refl })
+    let cs = custom_sections s.0 in
+    let ns = names_of s.0 in
+    let c : custom.HasSections text cs = record { source = s.0; setting = s.2; track = s.3; read = s.1; are = refl } in
+    let n : HasNames text ns = record { source = s.0; setting = s.2; track = s.3; read = s.1; are = refl } in
+    (both cs ns, record { customs = cs; names = ns; has_customs = c; has_names = n; are = refl })
 
 -- A text denotes at most one module.
 pub one_module : TilingsAreUnique → AllShownIsOne → ReadingIsGrammar → (text : List ℕ) (fs gs : List Field) → DenotesModule text fs → DenotesModule text gs → fs ≡ gs

@@ -1,5 +1,12 @@
 pub mod Answering
+pub mod BareLaws
+pub mod Checking
+pub mod CompleteLaws
+pub mod Counting
 pub mod Distances
 pub mod EditLaws
-pub mod Nearness
+pub mod Invalid
+pub mod KeptLaws
 pub mod NearestLaws
+pub mod Nearness
+pub mod RemovalLaws

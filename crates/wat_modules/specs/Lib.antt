@@ -3,3 +3,7 @@ pub mod Nearest
 pub mod Messages
 pub mod Views
 pub mod Compiling
+pub mod ValidityMessages
+pub mod Validity
+pub mod ValidityViews
+pub mod WithoutCustoms

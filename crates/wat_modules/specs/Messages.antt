@@ -1,12 +1,15 @@
 -- The messages of syntax errors of modules, in bytes, and their offsets. The standard does not define them. Each is a
 -- function of the kind of the error, the text and its visible tokens, and the count of tokens from the one in error on.
-use Rattle.std.specs.Prelude.{ℕ, Bool, true, false, ◌+◌, ◌*◌, ◌-◌, ◌++◌, ◌||◌, bytes_eq, nat_le, List, length, codes, slice_get, if◌then◌else◌, Option, Some, None}
+use Rattle.std.specs.Prelude.{ℕ, Bool, true, false, not, ◌+◌, ◌*◌, ◌-◌, ◌++◌, ◌&&◌, ◌||◌, bytes_eq, nat_le, List, length, codes, slice_get, if◌then◌else◌, Option, Some, None}
+use Rattle.std.specs.Char.{is_control}
 use Rattle.std.specs.Fmt.{decimal}
+use Rattle.std.specs.List.{list_any}
 use Rattle.wat_lex.specs.declared.lexer.kinds.Token.{Token}
 use Rattle.wat_lex.specs.declared.lexer.kinds.TokenKind.{TokenKind}
 use Rattle.wat_lex.specs.declared.lexer.kinds.TokenKind.TheVariants as kind
 use Rattle.wat_lex.specs.errors.Positions.{line_and_column}
-use Rattle.wat_lex.specs.tokens.ReadableTokens.{token_text}
+use Rattle.wat_lex.specs.grammar.Classes.{is_confusing}
+use Rattle.wat_lex.specs.tokens.ReadableTokens.{token_text, word_of}
 use Rattle.wat_module_ast.specs.declared.error.Expected.{Expected}
 use Rattle.wat_module_ast.specs.declared.error.Expected.TheVariants as expected
 use Rattle.wat_module_ast.specs.declared.error.FaultKind.{FaultKind}
@@ -15,7 +18,7 @@ use Rattle.wat_module_ast.specs.declared.error.Range.{Range}
 use Rattle.wat_module_ast.specs.declared.error.Range.TheVariants as range
 use Rattle.wat_module_ast.specs.declared.error.Space.{Space}
 use Rattle.wat_module_ast.specs.declared.error.Space.TheVariants as space
-use Rattle.wat_modules.specs.Nearest.{id_of, limit, names_in_scope, nearest}
+use Rattle.wat_modules.specs.Nearest.{block_label, id_of, limit, names_in_scope, nearest}
 
 -- Offsets.
 
@@ -31,7 +34,8 @@ token_at tokens left = slice_get tokens (length tokens - left)
 abbrev pub place : List ℕ → List Token → ℕ → ℕ
 place text tokens left = offset_or (length text) (token_at tokens left)
 
--- The location of an offset, with the line and the column in bytes, both from 1.
+-- A location by its line and its column, both from 0. A message has both from 1, and the column counts bytes, also those of
+-- characters of several bytes (`line_and_column`).
 abbrev pub location : ℕ × ℕ → List ℕ
 location p = codes "line " ++ (decimal (p.0 + 1) ++ (codes ", column " ++ decimal (p.1 + 1)))
 
@@ -52,40 +56,68 @@ abbrev pub is_string : TokenKind → Bool
 is_string kind.String = true
 is_string k = false
 
--- Returns `true` if messages have the lexeme of the token: it is not a string, and has at most 40 bytes.
-abbrev pub is_short : Token → Bool
-is_short t = if is_string t.kind then false else nat_le t.len 40
+-- Returns `true` if no message has the character: it is a control character (U+0000 to U+001F, and U+007F to U+009F), or
+-- one of the 9 confusing characters, which make a text display misleadingly.
+abbrev pub is_unprintable : ℕ → Bool
+is_unprintable c = is_control c || is_confusing c
+
+-- Returns `true` if messages have the lexeme of the token: it is not a string, has at most 40 bytes, and none of these
+-- characters.
+abbrev pub is_quotable : List ℕ → Token → Bool
+is_quotable text t = if is_string t.kind then false else (nat_le t.len 40 && not (list_any is_unprintable (word_of text t)))
 
 -- A lexeme in backticks.
 abbrev pub quoted : List ℕ → List ℕ
 quoted w = codes "`" ++ (w ++ codes "`")
 
--- The token in error, or the end of the text.
-abbrev pub found : List ℕ → Option Token → List ℕ
-found text None = codes "the end of the text"
-found text (Some t) = if is_short t then quoted (token_text text t) else kind_phrase t.kind
+-- The lexeme of a token, if messages have it, and otherwise nothing.
+abbrev pub quotable : List ℕ → Token → List ℕ
+quotable text t = if is_quotable text t then token_text text t else codes ""
+
+abbrev pub keyword_by : List ℕ → Token → TokenKind → List ℕ
+keyword_by text t kind.Keyword = quotable text t
+keyword_by text t k = codes ""
+
+-- The lexeme of a token, if it is a keyword and messages have its lexeme, and otherwise nothing.
+abbrev pub keyword_of : List ℕ → Option Token → List ℕ
+keyword_of text None = codes ""
+keyword_of text (Some t) = keyword_by text t t.kind
+
+-- What a message has after the lexeme of a token of this kind, which the token `next` follows: the keyword of a group after
+-- its `(`, without the whitespace between the two, and otherwise nothing.
+abbrev pub keyword_after : List ℕ → TokenKind → Option Token → List ℕ
+keyword_after text kind.LParen next = keyword_of text next
+keyword_after text k next = codes ""
+
+-- The token in error, which the token `next` follows, or the end of the text.
+abbrev pub found : List ℕ → Option Token → Option Token → List ℕ
+found text None next = codes "the end of the text"
+found text (Some t) next = if is_quotable text t then quoted (token_text text t ++ keyword_after text t.kind next) else kind_phrase t.kind
 
 -- The token in error after a noun, if messages have its lexeme, and otherwise nothing.
 abbrev pub named : List ℕ → Option Token → List ℕ
 named text None = codes ""
-named text (Some t) = if is_short t then codes " " ++ quoted (token_text text t) else codes ""
+named text (Some t) = if is_quotable text t then codes " " ++ quoted (token_text text t) else codes ""
 
 -- The identifier in scope that is nearest to an unknown one, which is the token at index `i`, if messages have its lexeme.
 abbrev pub nearest_to : List ℕ → Space → List Token → ℕ → Option Token → Option Token
 nearest_to text s ts i None = None
 nearest_to text s ts i (Some t) =
-    if is_short t then nearest text (limit (token_text text t)) (token_text text t) (names_in_scope text s ts i) else None
+    if is_quotable text t then nearest text (limit (token_text text t)) (token_text text t) (names_in_scope text s ts i) else None
 
--- The identifier that is nearest to the one in error, if this is unknown, from which on `left` tokens remain.
+-- The identifier that a message suggests for the token in error, from which on `left` tokens remain. If the token is an unknown
+-- identifier, it is the nearest one. If the token is a label after `end` or `else` that is not the label of its block, it is
+-- the label of the block.
 abbrev pub suggestion : List ℕ → List Token → FaultKind → ℕ → Option Token
 suggestion text ts (UnknownName s) left = nearest_to text s ts (length ts - left) (id_of (token_at ts left))
+suggestion text ts WrongLabel left = block_label text ts 0 (length ts - left - 1)
 suggestion text ts k left = None
 
--- This identifier after the unknown one, with its location.
+-- This identifier after the one in error, with its location, if messages have its lexeme.
 abbrev pub suggested : List ℕ → Option Token → List ℕ
 suggested text None = codes ""
 suggested text (Some t) =
-    codes "; did you mean `" ++ (token_text text t ++ (codes "` at " ++ (location (line_and_column text t.offset) ++ codes "?")))
+    if is_quotable text t then codes "; did you mean `" ++ (token_text text t ++ (codes "` at " ++ (location (line_and_column text t.offset) ++ codes "?"))) else codes ""
 
 -- Phrases.
 
@@ -113,7 +145,7 @@ index_phrase space.Data = codes "a data segment index"
 index_phrase space.Local = codes "a local index"
 index_phrase space.Label = codes "a label index"
 
--- What the grammar accepts.
+-- What the grammar accepts. Before `(then` of a folded `if` are the folded instructions of its condition (6.5.10).
 abbrev pub phrase : Expected → List ℕ
 phrase expected.Close = codes "`)`"
 phrase expected.OpenOrClose = codes "`(` or `)`"
@@ -124,7 +156,7 @@ phrase expected.FieldOrEnd = codes "a module field or the end of the text"
 phrase expected.Instruction = codes "an instruction"
 phrase expected.InstructionOrClose = codes "an instruction or `)`"
 phrase expected.InstructionOrEnd = codes "an instruction or `end`"
-phrase expected.Then = codes "`(then`"
+phrase expected.Then = codes "a folded instruction or `(then`"
 phrase expected.Else = codes "`else`"
 phrase expected.ElseOrClose = codes "`(else` or `)`"
 phrase expected.Expression = codes "an expression"
@@ -166,7 +198,8 @@ range_phrase (range.Signed half) = codes "-" ++ (decimal half ++ (codes " to " +
 range_phrase range.Float32 = codes "a 32-bit float"
 range_phrase range.Float64 = codes "a 64-bit float"
 
--- 6.4 to 6.6: returns `true` for the keywords that are unexpected, and not unknown, if they are in error.
+-- 6.4 to 6.6: returns `true` for ten keywords that the grammar has in other positions than those of value types, instructions
+-- and fields. If they are in error, they are unexpected, and not unknown.
 abbrev pub is_keyword : List ℕ → Bool
 is_keyword w =
     bytes_eq w (codes "end") || (bytes_eq w (codes "else") || (bytes_eq w (codes "then") || (bytes_eq w (codes "param") || (bytes_eq w (codes "result") || (bytes_eq w (codes "local") || (bytes_eq w (codes "type") || (bytes_eq w (codes "func") || (bytes_eq w (codes "import") || bytes_eq w (codes "export")))))))))
@@ -176,7 +209,8 @@ abbrev pub is_misplaced : List ℕ → Option Token → Bool
 is_misplaced text None = false
 is_misplaced text (Some t) = is_keyword (token_text text t)
 
--- The kind of an error in its message: a keyword that the grammar has is not unknown, but unexpected.
+-- The kind of an error in its message. If the token in error is one of these ten keywords (`b` is true), it is not unknown, but
+-- unexpected. Any other keyword is unknown, even if the grammar has it, such as `data` in the position of an instruction.
 abbrev pub kind_by : Bool → FaultKind → FaultKind
 kind_by true (UnknownWord e) = Unexpected e
 kind_by b k = k
@@ -189,12 +223,12 @@ first_of (LateImport left) = left
 first_of k = 0
 
 -- The message of a syntax error by its kind, the token in error, this token as it follows a noun, the location of the
--- first of two tokens, and the identifier that is nearest to an unknown one.
+-- first of two tokens, and the identifier that the message suggests.
 abbrev pub message_by : FaultKind → List ℕ → List ℕ → List ℕ → List ℕ → List ℕ
 message_by (Unexpected e) found named first near = codes "expected " ++ (phrase e ++ (codes ", found " ++ found))
 message_by (UnknownWord e) found named first near = codes "unknown " ++ (word_noun e ++ named)
 message_by (UnknownName s) found named first near = codes "unknown " ++ (noun s ++ (named ++ near))
-message_by WrongLabel found named first near = codes "mismatching label" ++ named
+message_by WrongLabel found named first near = codes "mismatching label" ++ (named ++ near)
 message_by (OutOfRange r) found named first near = codes "number out of range: expected " ++ (range_phrase r ++ (codes ", found " ++ found))
 message_by NotUtf8 found named first near = codes "name is not UTF-8"
 message_by (Duplicate s left) found named first near = codes "duplicate " ++ (noun s ++ (named ++ (codes ", first defined at " ++ first)))
@@ -205,4 +239,4 @@ message_by (LateImport left) found named first near = codes "import after the fi
 -- The message of a syntax error at the token from which on `left` tokens remain.
 abbrev pub message : List ℕ → List Token → FaultKind → ℕ → List ℕ
 message text tokens k left =
-    message_by (kind_by (is_misplaced text (token_at tokens left)) k) (found text (token_at tokens left)) (named text (token_at tokens left)) (location (line_and_column text (place text tokens (first_of k)))) (suggested text (suggestion text tokens k left))
+    message_by (kind_by (is_misplaced text (token_at tokens left)) k) (found text (token_at tokens left) (token_at tokens (left - 1))) (named text (token_at tokens left)) (location (line_and_column text (place text tokens (first_of k)))) (suggested text (suggestion text tokens k left))

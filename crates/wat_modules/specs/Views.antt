@@ -11,22 +11,22 @@ use Rattle.wat_modules.specs.Messages.{kind_phrase, location, quoted}
 
 -- The token in error, or the end of the text.
 abbrev pub found_of : Found → List ℕ
-found_of (declared.Lexeme w) = quoted w.now
+found_of (declared.Lexeme w k) = quoted (w.now ++ k.now)
 found_of (declared.Kind k) = kind_phrase k
 found_of declared.End = codes "the end of the text"
 
 -- The token in error after a noun.
 abbrev pub named_of : Found → List ℕ
-named_of (declared.Lexeme w) = codes " " ++ quoted w.now
+named_of (declared.Lexeme w k) = codes " " ++ quoted w.now
 named_of (declared.Kind k) = codes ""
 named_of declared.End = codes ""
 
--- The identifier that is nearest to an unknown one, after it.
+-- The identifier that a message suggests, after the one in error.
 abbrev pub suggestion_of : Suggestion → List ℕ
 suggestion_of (suggestion.Name w p) = codes "; did you mean `" ++ (w.now ++ (codes "` at " ++ (location p ++ codes "?")))
 suggestion_of suggestion.Absent = codes ""
 
--- What the code adds to a binary, in a text with these custom sections.
+-- What the code adds to a binary, in a text whose annotations define this.
 abbrev pub wanted_by : Extras → Sections → Wanted
 wanted_by extras.Nothing r = Bare
 wanted_by extras.Names r = Named

@@ -1,5 +1,7 @@
 //! Messages of syntax errors.
 ghost use Rattle.std.specs.Prelude.{◌≡◌, IfSome};
+ghost use Rattle.std.specs.List.{list_any};
+ghost use Rattle.std.specs.Str.{chars};
 ghost use Rattle.wat_lex.specs.tokens.ReadableTokens.{IsTokenOf};
 ghost use Rattle.wat_modules.specs.Messages as messages;
 ghost use Rattle.wat_modules.specs.Views.{found_of, named_of, suggestion_of};
@@ -21,40 +23,43 @@ pub(crate) struct Message<'t> {
     pub(crate) found: Found<'t>,
     /// Line and column, both from 0, of the first of two tokens, if the error has two.
     pub(crate) first: (usize, usize),
-    /// Identifier that is nearest to the token in error, if this is an unknown identifier.
+    /// Identifier that the message suggests for the token in error.
     pub(crate) near: Suggestion<'t>,
 }
 
 /// The token in error, as a message has it.
 #[derive(Clone, Copy)]
 pub(crate) enum Found<'t> {
-    /// The lexeme of the token.
-    Lexeme(&'t str),
-    /// The kind of the token, which is a string or a long lexeme.
+    /// The lexeme of the token, and the keyword after it if it is the `(` of a group, otherwise an
+    /// empty text.
+    Lexeme(&'t str, &'t str),
+    /// The kind of the token, whose lexeme messages do not have.
     Kind(TokenKind),
     /// The end of the text.
     End,
 }
 
-/// The identifier that is nearest to an unknown one, as a message has it.
+/// The identifier that a message suggests for the one in error: the nearest one in scope, or the
+/// label of a block.
 #[derive(Clone, Copy)]
 pub(crate) enum Suggestion<'t> {
     /// The lexeme of the identifier, and its line and column, both from 0.
     Name(&'t str, (usize, usize)),
-    /// No identifier is near, or none is unknown.
+    /// No identifier, or one whose lexeme messages do not have.
     Absent,
 }
 
-/// Returns the token in error, as a message has it.
-pub(crate) fn found_token<'t>(text: &'t str, token: Option<Token>) -> Found<'t>
-    requires { IfSome token (IsTokenOf text.now) }
-    ensures found { found_of result ≡ messages.found text.now token }
+/// Returns the token in error, which the token `next` follows, as a message has it.
+pub(crate) fn found_token<'t>(text: &'t str, token: Option<Token>, next: Option<Token>) -> Found<'t>
+    requires token { IfSome token (IsTokenOf text.now) }
+    requires next { IfSome next (IsTokenOf text.now) }
+    ensures found { found_of result ≡ messages.found text.now token next }
     ensures named { named_of result ≡ messages.named text.now token }
 {
     match token {
         Some(token) => {
-            if is_short(token) {
-                Found::Lexeme(token.src(text))
+            if is_quotable(text, token) {
+                Found::Lexeme(token.src(text), keyword_after(text, token.kind, next))
             } else {
                 Found::Kind(token.kind)
             }
@@ -63,28 +68,100 @@ pub(crate) fn found_token<'t>(text: &'t str, token: Option<Token>) -> Found<'t>
     }
 }
 
-/// Returns an identifier that is nearest to an unknown one, as a message has it.
+/// Returns what a message has after the lexeme of a token of this kind, which the token `next`
+/// follows: the keyword of a group after its `(`, and otherwise an empty text.
+fn keyword_after<'t>(text: &'t str, kind: TokenKind, next: Option<Token>) -> &'t str
+    requires { IfSome next (IsTokenOf text.now) }
+    ensures { result.now ≡ messages.keyword_after text.now kind next }
+{
+    match kind {
+        TokenKind::LParen => keyword_of(text, next),
+        _ => "",
+    }
+}
+
+/// Returns the lexeme of a token, if it is a keyword and messages have its lexeme. Otherwise
+/// returns an empty text.
+fn keyword_of<'t>(text: &'t str, token: Option<Token>) -> &'t str
+    requires { IfSome token (IsTokenOf text.now) }
+    ensures { result.now ≡ messages.keyword_of text.now token }
+{
+    match token {
+        Some(token) => match token.kind {
+            TokenKind::Keyword => quotable(text, token),
+            _ => "",
+        },
+        None => "",
+    }
+}
+
+/// Returns the lexeme of a token if messages have it, and otherwise an empty text.
+fn quotable<'t>(text: &'t str, token: Token) -> &'t str
+    requires { IsTokenOf text.now token }
+    ensures { result.now ≡ messages.quotable text.now token }
+{
+    if is_quotable(text, token) {
+        token.src(text)
+    } else {
+        ""
+    }
+}
+
+/// Returns an identifier as a message suggests it, or nothing if messages do not have its lexeme.
 pub(crate) fn suggested<'t>(text: &'t str, token: Option<Token>) -> Suggestion<'t>
     requires { IfSome token (IsTokenOf text.now) }
     ensures { suggestion_of result ≡ messages.suggested text.now token }
 {
     match token {
-        Some(token) => {
+        Some(token) if is_quotable(text, token) => {
             let location = Span::from_offset(token.offset).linecol_in(text);
             Suggestion::Name(token.src(text), location)
         }
-        None => Suggestion::Absent,
+        _ => Suggestion::Absent,
     }
 }
 
 /// Returns `true` if messages have the lexeme of a token.
-pub(crate) fn is_short(token: Token) -> bool
-    ensures { result ≡ messages.is_short token }
+pub(crate) fn is_quotable(text: &str, token: Token) -> bool
+    requires { IsTokenOf text.now token }
+    ensures { result ≡ messages.is_quotable text.now token }
 {
     match token.kind {
         TokenKind::String => false,
-        _ => token.len <= LONGEST,
+        _ => token.len <= LONGEST && !has_unprintable(token.src(text)),
     }
+}
+
+/// Returns `true` if a text has a character that no message has.
+fn has_unprintable(text: &str) -> bool
+    ensures { result ≡ list_any messages.is_unprintable (chars text.now) }
+{
+    for c in text.chars() {
+        if is_unprintable(c) {
+            return true;
+        }
+    }
+    false
+}
+
+/// Returns `true` for control characters, and for the 9 confusing characters, which make a text
+/// display misleadingly.
+fn is_unprintable(c: char) -> bool
+    ensures { result ≡ messages.is_unprintable c }
+{
+    c.is_control()
+        || matches!(
+            c,
+            '\u{202a}'
+                | '\u{202b}'
+                | '\u{202d}'
+                | '\u{202e}'
+                | '\u{2066}'
+                | '\u{2067}'
+                | '\u{2068}'
+                | '\u{2069}'
+                | '\u{206c}'
+        )
 }
 
 /// Returns the kind of an error in its message: a keyword that the grammar has is not unknown, but
@@ -164,7 +241,7 @@ impl fmt::Display for Message<'_> {
             FaultKind::UnknownName(space) => {
                 write!(f, "unknown {}{named}{}", noun(space), self.near)
             }
-            FaultKind::WrongLabel => write!(f, "mismatching label{named}"),
+            FaultKind::WrongLabel => write!(f, "mismatching label{named}{}", self.near),
             FaultKind::OutOfRange(range) => {
                 let values = Values(range);
                 write!(
@@ -202,7 +279,7 @@ impl fmt::Display for Found<'_> {
 
     fn fmt<W: fmt::Write>(&self, f: &mut fmt::Formatter<W>) -> fmt::Result {
         match self {
-            Found::Lexeme(lexeme) => write!(f, "`{lexeme}`"),
+            Found::Lexeme(lexeme, keyword) => write!(f, "`{lexeme}{keyword}`"),
             Found::Kind(kind) => write!(f, "{}", kind_phrase(*kind)),
             Found::End => write!(f, "the end of the text"),
         }
@@ -221,7 +298,7 @@ impl fmt::Display for Named<'_> {
 
     fn fmt<W: fmt::Write>(&self, f: &mut fmt::Formatter<W>) -> fmt::Result {
         match self.0 {
-            Found::Lexeme(lexeme) => write!(f, " `{lexeme}`"),
+            Found::Lexeme(lexeme, _) => write!(f, " `{lexeme}`"),
             Found::Kind(_) | Found::End => Ok(()),
         }
     }
@@ -351,7 +428,7 @@ fn phrase(expected: Expected) -> &'static str
         Expected::Instruction => "an instruction",
         Expected::InstructionOrClose => "an instruction or `)`",
         Expected::InstructionOrEnd => "an instruction or `end`",
-        Expected::Then => "`(then`",
+        Expected::Then => "a folded instruction or `(then`",
         Expected::Else => "`else`",
         Expected::ElseOrClose => "`(else` or `)`",
         Expected::Expression => "an expression",

@@ -5,7 +5,7 @@ use Rattle.std.specs.Option.{option_map}
 use Rattle.std.proofs.lemmas.Bool.Decides.{nat_tests}
 use Rattle.wat_tokens_args.specs.Arguments.{Word, Given, after_front, first_of, is_file, named_kind, times}
 use Rattle.wat_tokens_args.specs.Complaints.{Reason, asks_for_words, first_reason, is_mode, is_own_option, modes_in, plays, reason_beyond, reason_of, rejects, repeated, wrong_command, wrong_number, wrong_option, wrong_start, wrong_word}
-use Rattle.wat_tokens_args.specs.Complaints.Reason.{Usage, Twice, Nameless, Late, Unknown, Nothing, NoJson, NoFlags, NoCall, Mixed, TooMany, NoOutput, NoNames, Overwrites, NoMode, Modes, Terminal}
+use Rattle.wat_tokens_args.specs.Complaints.Reason.{Usage, Twice, Nameless, Late, Unknown, Nothing, NoJson, NoFlags, NoCall, Mixed, TooMany, NoOutput, NoNames, NoValidate, Overwrites, NoMode, Modes, Terminal}
 use Rattle.wat_tokens_args.specs.Options.{AsksMode, Parts, all_args, files_of, formats, looks_like_file, overwrites, parts_of, verb_named}
 use Rattle.wat_tokens_args.specs.declared.arguments.Kind.TheVariants as kind
 use Rattle.wat_tokens_args.specs.declared.complaint.Complaint.{Complaint}
@@ -27,6 +27,7 @@ is_usage Mixed = false
 is_usage TooMany = false
 is_usage NoOutput = false
 is_usage NoNames = false
+is_usage NoValidate = false
 is_usage Overwrites = false
 is_usage NoMode = false
 is_usage Modes = false
@@ -63,15 +64,16 @@ start_named there (word ∷ words) = by (is_own_option word || not (is_file word
     by false false = refl
 
 option_named : (p : Parts) → IsNamed (wrong_option p)
-option_named p = by (rejects p kind.Json) (rejects p kind.Allow || rejects p kind.Strict) (rejects p kind.Output) (rejects p kind.NoNames) (rejects p kind.Check || (rejects p kind.Write || rejects p kind.Diff))
+option_named p = by (rejects p kind.Json) (rejects p kind.Allow || rejects p kind.Strict) (rejects p kind.Output) (rejects p kind.NoNames) (rejects p kind.NoValidate) (rejects p kind.Check || (rejects p kind.Write || rejects p kind.Diff))
   where
-    by : (a b c d e : Bool) → IsNamed (if a then Some NoJson else if b then Some NoFlags else if c then Some NoOutput else if d then Some NoNames else if e then Some NoMode else None)
-    by true b c d e = refl
-    by false true c d e = refl
-    by false false true d e = refl
-    by false false false true e = refl
-    by false false false false true = refl
-    by false false false false false = tt
+    by : (a b c d e f : Bool) → IsNamed (if a then Some NoJson else if b then Some NoFlags else if c then Some NoOutput else if d then Some NoNames else if e then Some NoValidate else if f then Some NoMode else None)
+    by true b c d e f = refl
+    by false true c d e f = refl
+    by false false true d e f = refl
+    by false false false true e f = refl
+    by false false false false true f = refl
+    by false false false false false true = refl
+    by false false false false false false = tt
 
 argument_named : (word : Option Word) → IsNamed (option_map wrong_word word)
 argument_named None = tt

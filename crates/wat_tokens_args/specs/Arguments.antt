@@ -3,7 +3,7 @@ use Rattle.std.specs.Prelude.{◌≡◌, ◌+◌, ◌<◌, ◌||◌, nat_eq, not
 use Rattle.std.specs.Str.{bytes_eq}
 use Rattle.std.specs.declared.alloc.Global.{Global}
 use Rattle.wat_tokens_args.specs.declared.arguments.Kind.{Kind}
-use Rattle.wat_tokens_args.specs.declared.arguments.Kind.TheVariants.{Allow, Strict, Json, NoNames, Check, Write, Diff, Named, Output, File, Wrong}
+use Rattle.wat_tokens_args.specs.declared.arguments.Kind.TheVariants.{Allow, Strict, Json, NoNames, NoValidate, Check, Write, Diff, Named, Output, File, Wrong}
 
 abbrev pub Word : Type 0
 Word = String Global
@@ -30,6 +30,7 @@ alone_kind word =
     else if spells (codes "--strict-underscores") word then Strict
     else if spells (codes "--json") word then Json
     else if spells (codes "--no-names") word then NoNames
+    else if spells (codes "--no-validate") word then NoValidate
     else if spells (codes "--check") word then Check
     else if spells (codes "--write") word then Write
     else if spells (codes "--diff") word then Diff
@@ -61,6 +62,7 @@ leads Allow = true
 leads Strict = true
 leads Json = true
 leads NoNames = true
+leads NoValidate = true
 leads Check = false
 leads Write = false
 leads Diff = false
@@ -84,13 +86,14 @@ number Allow = 0
 number Strict = 1
 number Json = 2
 number NoNames = 3
-number Check = 4
-number Write = 5
-number Diff = 6
-number Named = 7
-number Output = 8
-number File = 9
-number Wrong = 10
+number NoValidate = 4
+number Check = 5
+number Write = 6
+number Diff = 7
+number Named = 8
+number Output = 9
+number File = 10
+number Wrong = 11
 
 abbrev pub is_kind : Kind → Kind → Bool
 is_kind kind other = nat_eq (number kind) (number other)

@@ -33,7 +33,7 @@ rest_goes_beyond there (word ∷ words) = by (verb_named word)
 -- The leading options, or the first word after them, go beyond the usage line. Later words do not matter.
 abbrev pub goes_beyond : Bool → List Word → Bool
 goes_beyond there words =
-    gives kind.Json || (gives kind.NoNames || (gives kind.Named || (gives kind.Output || rest_goes_beyond there (after_front words))))
+    gives kind.Json || (gives kind.NoNames || (gives kind.NoValidate || (gives kind.Named || (gives kind.Output || rest_goes_beyond there (after_front words)))))
   where
     gives : Kind → Bool
     gives k = nat_lt 0 (times k (parts_of words).front)
@@ -58,6 +58,7 @@ complaint variant.Mixed = codes "wat_tokens: files are before -- or after it, no
 complaint variant.TooMany = codes "wat_tokens: this command takes one file" ++ more
 complaint variant.NoOutput = codes "wat_tokens: -o goes with module and types alone" ++ more
 complaint variant.NoNames = codes "wat_tokens: --no-names goes with module alone" ++ more
+complaint variant.NoValidate = codes "wat_tokens: --no-validate goes with module alone" ++ more
 complaint variant.Overwrites = codes "wat_tokens: -o names the input file" ++ more
 complaint variant.NoMode = codes "wat_tokens: --check, --write and --diff go with fmt alone" ++ more
 complaint variant.Modes = codes "wat_tokens: fmt takes one of --check, --write and --diff" ++ more
@@ -78,6 +79,7 @@ pub data Reason : Type 0 where
   TooMany : Reason
   NoOutput : Reason
   NoNames : Reason
+  NoValidate : Reason
   Overwrites : Reason
   NoMode : Reason
   Modes : Reason
@@ -97,18 +99,20 @@ reason_of variant.Mixed = Mixed
 reason_of variant.TooMany = TooMany
 reason_of variant.NoOutput = NoOutput
 reason_of variant.NoNames = NoNames
+reason_of variant.NoValidate = NoValidate
 reason_of variant.Overwrites = Overwrites
 reason_of variant.NoMode = NoMode
 reason_of variant.Modes = Modes
 reason_of variant.Terminal = Terminal
 
--- The option that is given more than once, the first of these five.
+-- The option that is given more than once, the first of these six.
 abbrev pub repeated : List Given → Option (List ℕ)
 repeated args =
     if repeats kind.Allow then Some (codes "--allow-confusing")
     else if repeats kind.Strict then Some (codes "--strict-underscores")
     else if repeats kind.Json then Some (codes "--json")
     else if repeats kind.NoNames then Some (codes "--no-names")
+    else if repeats kind.NoValidate then Some (codes "--no-validate")
     else if repeats kind.Output then Some (codes "-o")
     else None
   where
@@ -141,14 +145,15 @@ wrong_start there (word ∷ words) =
 abbrev pub rejects : Parts → Kind → Bool
 rejects p k = nat_lt 0 (times k (all_args p)) && not (takes p.verb k)
 
--- The reason for an option that the command does not accept: `--json`, a lexer flag, `-o`, `--no-names`, or a mode of
--- `fmt`.
+-- The reason for an option that the command does not accept: `--json`, a lexer flag, `-o`, `--no-names`, `--no-validate`, or
+-- a mode of `fmt`.
 abbrev pub wrong_option : Parts → Option Reason
 wrong_option p =
     if rejects p kind.Json then Some NoJson
     else if rejects p kind.Allow || rejects p kind.Strict then Some NoFlags
     else if rejects p kind.Output then Some NoOutput
     else if rejects p kind.NoNames then Some NoNames
+    else if rejects p kind.NoValidate then Some NoValidate
     else if rejects p kind.Check || (rejects p kind.Write || rejects p kind.Diff) then Some NoMode
     else None
 

@@ -66,17 +66,17 @@ abbrev pub calls_of : Calls → List Call
 calls_of (Owned calls) = calls.items
 calls_of (Borrowed calls) = calls.now
 
--- A command, the presence of `--json`, the absence of `--no-names`, and the names or calls after the command determine
--- the task. Commands that write no JSON have no task with `--json`, and `fmt` has none at all.
-abbrev pub AsksTask : Verb → Bool → Bool → List Word → Task → Type 0
-AsksTask v json named words task.List = (v ≡ verb.List) × (json ≡ false)
-AsksTask v json named words (task.Sig names) = (v ≡ verb.Sig) × (json ≡ false) × (names.now ≡ words)
-AsksTask v json named words task.JsonList = (v ≡ verb.List) × (json ≡ true)
-AsksTask v json named words (task.JsonSig names) = (v ≡ verb.Sig) × (json ≡ true) × (names.now ≡ words)
-AsksTask v json named words (task.Play calls) = (v ≡ verb.Play) × (json ≡ false) × NamesCalls words (calls_of calls)
-AsksTask v json named words task.Blank = (v ≡ verb.Blank) × (json ≡ false)
-AsksTask v json named words task.Types = (v ≡ verb.Types) × (json ≡ false)
-AsksTask v json named words (task.Module names) = (v ≡ verb.Module) × (json ≡ false) × (names ≡ named)
+-- A command, the presence of `--json`, the absence of `--no-names` and of `--no-validate`, and the names or calls after the
+-- command determine the task. Commands that write no JSON have no task with `--json`, and `fmt` has none at all.
+abbrev pub AsksTask : Verb → Bool → Bool → Bool → List Word → Task → Type 0
+AsksTask v json named valid words task.List = (v ≡ verb.List) × (json ≡ false)
+AsksTask v json named valid words (task.Sig names) = (v ≡ verb.Sig) × (json ≡ false) × (names.now ≡ words)
+AsksTask v json named valid words task.JsonList = (v ≡ verb.List) × (json ≡ true)
+AsksTask v json named valid words (task.JsonSig names) = (v ≡ verb.Sig) × (json ≡ true) × (names.now ≡ words)
+AsksTask v json named valid words (task.Play calls) = (v ≡ verb.Play) × (json ≡ false) × NamesCalls words (calls_of calls)
+AsksTask v json named valid words task.Blank = (v ≡ verb.Blank) × (json ≡ false)
+AsksTask v json named valid words task.Types = (v ≡ verb.Types) × (json ≡ false)
+AsksTask v json named valid words (task.Module options) = (v ≡ verb.Module) × (json ≡ false) × (options.has_names ≡ named) × (options.is_checked ≡ valid)
 
 -- All words after the command are names or calls. After any other command they are options and files.
 abbrev pub owns_operands : Verb → Bool
@@ -138,7 +138,7 @@ compiles verb.Types = true
 compiles verb.Module = true
 compiles verb.Fmt = false
 
--- The command writes a name section, and accepts `--no-names`.
+-- The command writes a name section, and accepts `--no-names` and `--no-validate`.
 abbrev pub writes_names : Verb → Bool
 writes_names verb.List = false
 writes_names verb.Sig = false
@@ -154,6 +154,7 @@ takes v kind.Allow = takes_flags v
 takes v kind.Strict = takes_flags v
 takes v kind.Json = lists v
 takes v kind.NoNames = writes_names v
+takes v kind.NoValidate = writes_names v
 takes v kind.Check = formats v
 takes v kind.Write = formats v
 takes v kind.Diff = formats v
@@ -230,13 +231,18 @@ wants_json args = nat_lt 0 (times kind.Json args)
 abbrev pub wants_names : List Given → Bool
 wants_names args = not (nat_lt 0 (times kind.NoNames args))
 
--- The arguments select these settings: each flag is given once if its setting is on, and not at all otherwise. `--json`
--- and `--no-names` are given at most once.
+-- `--no-validate` is not given.
+abbrev pub validates : List Given → Bool
+validates args = not (nat_lt 0 (times kind.NoValidate args))
+
+-- The arguments select these settings: each flag is given once if its setting is on, and not at all otherwise. `--json`,
+-- `--no-names` and `--no-validate` are given at most once.
 pub record Selects (args : List Given) (settings : Settings) : Type 0 where
   pub allow : times kind.Allow args ≡ once_if settings.allow
   pub strict : times kind.Strict args ≡ once_if settings.strict
   pub json : times kind.Json args ≡ once_if (wants_json args)
   pub names : times kind.NoNames args ≡ once_if (not (wants_names args))
+  pub checks : times kind.NoValidate args ≡ once_if (not (validates args))
 
 abbrev pub is_check : Mode → Bool
 is_check mode.Print = false
@@ -295,7 +301,7 @@ wants_help words = asks_help (after_front words) || (begins_with_files (after_fr
 pub record AsksRun (words : List Word) (settings : Settings) (task : Task) (target : Option (List ℕ)) (files : List Word) : Type 0 where
   pub taken : take_all (parts_of words).verb (all_args (parts_of words)) ≡ true
   pub selects : Selects (all_args (parts_of words)) settings
-  pub asked : AsksTask (parts_of words).verb (wants_json (all_args (parts_of words))) (wants_names (all_args (parts_of words))) (parts_of words).own task
+  pub asked : AsksTask (parts_of words).verb (wants_json (all_args (parts_of words))) (wants_names (all_args (parts_of words))) (validates (all_args (parts_of words))) (parts_of words).own task
   pub target_is : target ≡ target_of (parts_of words)
   pub once : times kind.Output (all_args (parts_of words)) ≤ 1
   pub apart : overwrites (parts_of words) ≡ false

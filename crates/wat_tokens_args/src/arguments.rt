@@ -17,6 +17,8 @@ pub(crate) enum Kind {
     Json,
     /// The option `--no-names`.
     NoNames,
+    /// The option `--no-validate`.
+    NoValidate,
     /// The option `--check`.
     Check,
     /// The option `--write`.
@@ -55,7 +57,8 @@ impl Kind {
         ensures { result ≡ leads self }
     {
         match self {
-            Kind::Allow | Kind::Strict | Kind::Json | Kind::NoNames => true,
+            Kind::Allow | Kind::Strict | Kind::Json => true,
+            Kind::NoNames | Kind::NoValidate => true,
             Kind::Named | Kind::Output => true,
             Kind::Check | Kind::Write | Kind::Diff | Kind::File | Kind::Wrong => false,
         }
@@ -96,6 +99,7 @@ fn alone_kind(word: &String) -> Kind
         "--strict-underscores" => Kind::Strict,
         "--json" => Kind::Json,
         "--no-names" => Kind::NoNames,
+        "--no-validate" => Kind::NoValidate,
         "--check" => Kind::Check,
         "--write" => Kind::Write,
         "--diff" => Kind::Diff,

@@ -11,10 +11,15 @@ use Rattle.wat_lex.specs.declared.lexer.kinds.Token.{Token}
 use Rattle.wat_lexer_parser.specs.declared.parser.fault.Fault.{Fault}
 use Rattle.wat_lexer_parser.specs.laws.Blanking.{TextShows}
 use Rattle.wat_lexer_parser.specs.names.RegisteredNames.{no_names}
+use Rattle.wat_module_custom.specs.Customs.{CustomSection}
 use Rattle.wat_modules.specs.Compiling as modules
+use Rattle.wat_modules.specs.Validity.{IsErrorOf}
+use Rattle.wat_tokens_args.specs.declared.options.ModuleOptions.{ModuleOptions}
+use Rattle.wat_valid.specs.Modules.{ModuleIsValid}
 use Rattle.wat_module_lexer.specs.TokenTerminals as lexer
 use Rattle.wat_module_tokens.specs.Terminals.{Label}
 use Rattle.wat_module_encoder.specs.Binary as encoder
+use Rattle.wat_module_encoder.specs.CustomSections as sections
 use Rattle.wat_types.specs.Binary as binary
 use Rattle.wat_types.specs.Compiling as types
 use Rattle.wat_types.specs.Signatures.{Signature}
@@ -56,32 +61,79 @@ pub record IsTypesError (text : List ℕ) (refusal : Report) : Type 0 where
 abbrev pub CompilesTypes : List ℕ → List ℕ → Option (Option Report) → Type 0
 CompilesTypes = Compiles {V = List Signature} types.SpellsTypes binary.Fits binary.module_bytes IsTypesError
 
--- `IsModuleError has_names text refusal`: `module`, with a name section if `has_names` is true, rejects the text's
--- visible tokens, or the error after them, with the error `refusal`.
-pub record IsModuleError (has_names : Bool) (text : List ℕ) (refusal : Report) : Type 0 where
+-- `IsUnnamedError text refusal`: `module --no-names --no-validate` rejects the text's visible tokens, or the error after them, with the
+-- error `refusal`.
+pub record IsUnnamedError (text : List ℕ) (refusal : Report) : Type 0 where
   pub tokens : List Token
   pub last : Option Fault
   pub shown : TextShows (lexer.plain text) no_names tokens last
-  pub refused : modules.compiled_as has_names text tokens last ≡ Err refusal
+  pub refused : modules.compiled text tokens last ≡ Err refusal
 
--- The output of `module --no-names`, for a module of any fields.
+-- The output of `module --no-names --no-validate`, for a module of any fields.
 abbrev pub CompilesUnnamed : List ℕ → List ℕ → Option (Option Report) → Type 0
-CompilesUnnamed = Compiles {V = List Field} modules.DenotesModule modules.Fits encoder.module_bytes (IsModuleError false)
+CompilesUnnamed = Compiles {V = List Field} modules.DenotesModule modules.Fits encoder.module_bytes IsUnnamedError
 
--- The output of `module`, for a module of any fields and its identifier: its bytes and those of its name section.
-abbrev pub CompilesNamed : List ℕ → List ℕ → Option (Option Report) → Type 0
-CompilesNamed = Compiles {V = Label × List Field} denotes fits bytes (IsModuleError true)
-  where
-    denotes : List ℕ → Label × List Field → Type 0
-    denotes text m = modules.DenotesNamed text m.0 m.1
+-- 3.4.10: the text denotes a module with these fields, which is valid.
+abbrev pub DenotesValid : List ℕ → List Field → Type 0
+DenotesValid text fs = modules.DenotesModule text fs × ModuleIsValid fs
 
-    fits : Label × List Field → Type 0
-    fits m = modules.FitsNamed m.0 m.1
+-- The output of `module --no-names`, for a valid module of any fields.
+abbrev pub CompilesValidUnnamed : List ℕ → List ℕ → Option (Option Report) → Type 0
+CompilesValidUnnamed = Compiles {V = List Field} DenotesValid modules.Fits encoder.module_bytes (IsErrorOf modules.Bare)
 
-    bytes : Label × List Field → List ℕ
-    bytes m = modules.named_bytes m.0 m.1
+-- A module of a text: its identifier and its fields, with the names of annotations instead of identifiers, and the custom
+-- sections of its annotations.
+pub record Complete : Type 0 where
+  pub label : Label
+  pub fields : List Field
+  pub sections : List CustomSection
 
--- The output of `module`, with a name section or without one.
-abbrev pub CompilesModule : Bool → List ℕ → List ℕ → Option (Option Report) → Type 0
-CompilesModule true = CompilesNamed
-CompilesModule false = CompilesUnnamed
+abbrev pub DenotesComplete : List ℕ → Complete → Type 0
+DenotesComplete text m = modules.DenotesComplete text m.label m.fields m.sections
+
+abbrev pub FitsComplete : Complete → Type 0
+FitsComplete m = modules.FitsComplete m.label m.fields m.sections
+
+abbrev pub complete_bytes : Complete → List ℕ
+complete_bytes m = sections.complete_bytes m.label m.fields m.sections
+
+-- `IsModuleError text refusal`: `module --no-validate` rejects the text's visible tokens, the error after them, or its annotations, which
+-- define `customs`, with the error `refusal`.
+pub record IsModuleError (text : List ℕ) (refusal : Report) : Type 0 where
+  pub tokens : List Token
+  pub last : Option Fault
+  pub shown : TextShows (lexer.plain text) no_names tokens last
+  pub customs : modules.Sections
+  pub are : modules.AnnotationsDefine text customs
+  pub refused : modules.compiled_complete customs text tokens last ≡ Err refusal
+
+-- The output of `module --no-validate`, for a module of any fields: its bytes, with those of its name section and of its custom
+-- sections.
+abbrev pub CompilesComplete : List ℕ → List ℕ → Option (Option Report) → Type 0
+CompilesComplete = Compiles {V = Complete} DenotesComplete FitsComplete complete_bytes IsModuleError
+
+-- A valid module of a text.
+abbrev pub DenotesValidComplete : List ℕ → Complete → Type 0
+DenotesValidComplete text m = (d : DenotesComplete text m) × ModuleIsValid d.fields
+
+-- `IsValidModuleError text refusal`: `module` rejects the text, whose annotations define `customs`, with the error `refusal`.
+pub record IsValidModuleError (text : List ℕ) (refusal : Report) : Type 0 where
+  pub customs : modules.Sections
+  pub are : modules.AnnotationsDefine text customs
+  pub refused : IsErrorOf (modules.Complete customs) text refusal
+
+-- The output of `module`, for a valid module of any fields: its bytes, with those of its name section and of its custom
+-- sections.
+abbrev pub CompilesValid : List ℕ → List ℕ → Option (Option Report) → Type 0
+CompilesValid = Compiles {V = Complete} DenotesValidComplete FitsComplete complete_bytes IsValidModuleError
+
+-- The output of `module`, with a name section and custom sections, or with neither (`named`), and of valid modules alone, or
+-- of all (`checked`).
+abbrev pub CompilesAs : Bool → Bool → List ℕ → List ℕ → Option (Option Report) → Type 0
+CompilesAs true true = CompilesValid
+CompilesAs true false = CompilesComplete
+CompilesAs false true = CompilesValidUnnamed
+CompilesAs false false = CompilesUnnamed
+
+abbrev pub CompilesModule : ModuleOptions → List ℕ → List ℕ → Option (Option Report) → Type 0
+CompilesModule options = CompilesAs options.has_names options.is_checked

@@ -29,7 +29,7 @@ task_prints s file (task.JsonSig names) = JsonShows s file names.now
 task_prints s file (task.Play calls) = Plays s (calls_of calls)
 task_prints s file task.Blank = Blanks s
 task_prints s file task.Types = CompilesTypes
-task_prints s file (task.Module names) = CompilesModule names
+task_prints s file (task.Module options) = CompilesModule options
 
 -- If the bytes of the output are known, they grow from `old` to `new` by a text that is printed and returns `error`.
 pub record AppendsText (prints : List ℕ → Option (Option Report) → Type 0) (error : Option (Option Report)) (old new : Option (List ℕ)) : Type 0 where

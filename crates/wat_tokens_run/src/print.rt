@@ -10,8 +10,10 @@ ghost use Rattle.wat_tokens_output.specs.JsonLists.{JsonLists, JsonShows, json_r
 ghost use Rattle.wat_tokens_output.specs.Lists.{Lists};
 ghost use Rattle.wat_tokens_output.specs.Refusals.{IsNotUtf8, IsFailedWrite, answered};
 ghost use Rattle.wat_tokens_output.specs.Shows.{Shows};
-ghost use Rattle.wat_tokens_run.specs.Compiles.{CompilesModule, CompilesNamed, CompilesTypes};
-ghost use Rattle.wat_tokens_run.specs.Compiles.{CompilesUnnamed};
+ghost use Rattle.wat_tokens_run.specs.Compiles.{CompilesComplete, CompilesModule, CompilesTypes};
+ghost use Rattle.wat_tokens_run.specs.Compiles.{CompilesAs, CompilesUnnamed, CompilesValid};
+ghost use Rattle.wat_tokens_run.specs.Compiles.{CompilesValidUnnamed};
+ghost use Rattle.std.specs.Prelude.{false, true};
 ghost use Rattle.wat_tokens_run.specs.Printed.{task_prints};
 ghost use Rattle.wat_tokens_run.specs.JsonWrites.{AppendsRows, AppendsRowsCut};
 ghost use Rattle.wat_tokens_run.specs.Writes.{Writes};
@@ -21,8 +23,8 @@ use std::alloc::{AllocError, Global};
 use wat_lex::error::Error;
 use wat_lex::lexer::{Lexer, Settings};
 use wat_lexer_parser::laws;
-use wat_modules::{compile, compile_with_names};
-use wat_tokens_args::options::Task;
+use wat_modules::{compile, compile_valid, compile_valid_without_names, compile_with_customs};
+use wat_tokens_args::options::{ModuleOptions, Task};
 use wat_tokens_io::ends::{Failed, Sink};
 use wat_tokens_io::row::object_open;
 use wat_tokens_output::blank::write_blanked;
@@ -244,8 +246,8 @@ fn print_types<W: Sink>(
     }
 }
 
-/// Writes the bytes of a module without a name section. If the text does not compile, writes
-/// nothing and returns the error.
+/// Writes the bytes of a module without a name section and custom sections. If the text does not
+/// compile, writes nothing and returns the error.
 fn print_unnamed<W: Sink>(
     alloc: Global,
     text: &str,
@@ -266,20 +268,20 @@ fn print_unnamed<W: Sink>(
     }
 }
 
-/// Writes the bytes of a module with a name section. If the text does not compile, writes nothing
-/// and returns the error.
-fn print_named<W: Sink>(
+/// Writes the bytes of a module with a name section and custom sections. If the text does not
+/// compile, writes nothing and returns the error.
+fn print_complete<W: Sink>(
     alloc: Global,
     text: &str,
     output: &mut W,
 ) -> Result<Option<Error>, RunFailure>
     requires text { length text.now < 2 ^ 32 }
     requires output { W.failure output.old ≡ None }
-    ensures printed { Writes W.held W.failure (CompilesNamed text.now)
+    ensures printed { Writes W.held W.failure (CompilesComplete text.now)
         output.old output.new result }
     ensures refused { IfErr result (λ e. IsFailedWrite e ⊎ (e ≡ RunFailure.Memory alloc_error)) }
 {
-    match compile_with_names(alloc, text) {
+    match compile_with_customs(alloc, text) {
         Ok(bytes) => print_text(&bytes, None, output),
         Err(failure) => match failure.alloc_error() {
             Some(refused) => Err(RunFailure::from(refused)),
@@ -288,24 +290,110 @@ fn print_named<W: Sink>(
     }
 }
 
-/// Writes the bytes of a module, with a name section if `names`. If the text does not compile,
-/// writes nothing and returns the error.
-fn print_module<W: Sink>(
+/// Writes the bytes of a valid module without a name section and custom sections. If the text does
+/// not compile, or the module is not valid, writes nothing and returns the error.
+fn print_valid_unnamed<W: Sink>(
     alloc: Global,
     text: &str,
-    names: bool,
     output: &mut W,
 ) -> Result<Option<Error>, RunFailure>
     requires text { length text.now < 2 ^ 32 }
     requires output { W.failure output.old ≡ None }
-    ensures printed { Writes W.held W.failure (CompilesModule names text.now)
+    ensures printed { Writes W.held W.failure (CompilesValidUnnamed text.now)
         output.old output.new result }
     ensures refused { IfErr result (λ e. IsFailedWrite e ⊎ (e ≡ RunFailure.Memory alloc_error)) }
 {
-    if names {
-        print_named(alloc, text, output)
+    match compile_valid_without_names(alloc, text) {
+        Ok(bytes) => print_text(&bytes, None, output),
+        Err(report) => match report.alloc_error() {
+            Some(refused) => Err(RunFailure::from(refused)),
+            None => print_text(b"", Some(report), output),
+        },
+    }
+}
+
+/// Writes the bytes of a valid module with a name section and custom sections. If the text does not
+/// compile, or the module is not valid, writes nothing and returns the error.
+fn print_valid<W: Sink>(
+    alloc: Global,
+    text: &str,
+    output: &mut W,
+) -> Result<Option<Error>, RunFailure>
+    requires text { length text.now < 2 ^ 32 }
+    requires output { W.failure output.old ≡ None }
+    ensures printed { Writes W.held W.failure (CompilesValid text.now)
+        output.old output.new result }
+    ensures refused { IfErr result (λ e. IsFailedWrite e ⊎ (e ≡ RunFailure.Memory alloc_error)) }
+{
+    match compile_valid(alloc, text) {
+        Ok(bytes) => print_text(&bytes, None, output),
+        Err(problem) => match problem.alloc_error() {
+            Some(refused) => Err(RunFailure::from(refused)),
+            None => print_text(b"", Some(problem), output),
+        },
+    }
+}
+
+/// Writes the bytes of a module, with a name section and custom sections if `has_names`. If the
+/// text does not compile, writes nothing and returns the error.
+fn print_any<W: Sink>(
+    alloc: Global,
+    text: &str,
+    has_names: bool,
+    output: &mut W,
+) -> Result<Option<Error>, RunFailure>
+    requires text { length text.now < 2 ^ 32 }
+    requires output { W.failure output.old ≡ None }
+    ensures printed { Writes W.held W.failure (CompilesAs has_names false text.now)
+        output.old output.new result }
+    ensures refused { IfErr result (λ e. IsFailedWrite e ⊎ (e ≡ RunFailure.Memory alloc_error)) }
+{
+    if has_names {
+        print_complete(alloc, text, output)
     } else {
         print_unnamed(alloc, text, output)
+    }
+}
+
+/// Writes the bytes of a valid module, with a name section and custom sections if `has_names`. If
+/// the text does not compile, or the module is not valid, writes nothing and returns the error.
+fn print_checked<W: Sink>(
+    alloc: Global,
+    text: &str,
+    has_names: bool,
+    output: &mut W,
+) -> Result<Option<Error>, RunFailure>
+    requires text { length text.now < 2 ^ 32 }
+    requires output { W.failure output.old ≡ None }
+    ensures printed { Writes W.held W.failure (CompilesAs has_names true text.now)
+        output.old output.new result }
+    ensures refused { IfErr result (λ e. IsFailedWrite e ⊎ (e ≡ RunFailure.Memory alloc_error)) }
+{
+    if has_names {
+        print_valid(alloc, text, output)
+    } else {
+        print_valid_unnamed(alloc, text, output)
+    }
+}
+
+/// Writes the bytes of a module, with these options. If the text does not compile, or the module
+/// must be valid and is not, writes nothing and returns the error.
+fn print_module<W: Sink>(
+    alloc: Global,
+    text: &str,
+    options: ModuleOptions,
+    output: &mut W,
+) -> Result<Option<Error>, RunFailure>
+    requires text { length text.now < 2 ^ 32 }
+    requires output { W.failure output.old ≡ None }
+    ensures printed { Writes W.held W.failure (CompilesModule options text.now)
+        output.old output.new result }
+    ensures refused { IfErr result (λ e. IsFailedWrite e ⊎ (e ≡ RunFailure.Memory alloc_error)) }
+{
+    if options.is_checked {
+        print_checked(alloc, text, options.has_names, output)
+    } else {
+        print_any(alloc, text, options.has_names, output)
     }
 }
 
@@ -337,7 +425,7 @@ fn print_of<W: Sink>(
         }
         Task::Blank => print_blank(alloc, text, settings, output),
         Task::Types => print_types(alloc, text, output),
-        Task::Module(names) => print_module(alloc, text, *names, output),
+        Task::Module(options) => print_module(alloc, text, *options, output),
     }
 }
 

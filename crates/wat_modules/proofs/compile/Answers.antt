@@ -1,12 +1,16 @@
+use Rattle.wat_modules.specs.Compiling.{Bare}
 use Rattle.wat_modules.proofs.Answering.{unnamed_by}
+use Rattle.wat_modules.proofs.Checking.{unchecked_bytes, unchecked_refused, unchecked_spelled}
 use Rattle.wat_modules.proofs.compile.Goals as goal
 
 pub returns-clause-bytes : goal.returns-clause-bytes
 returns-clause-bytes c =
-    let s = c.compile_as.ensures.sections in unnamed_by c.args.text.now c.compile_as.result (c.compile_as.ensures.bytes s.0 s.1)
+    let s = c.compile_as.ensures.sections in
+    let text = c.args.text.now in
+    unnamed_by text c.compile_as.result (unchecked_bytes Bare text c.compile_as.result (c.compile_as.ensures.bytes s.0 s.1))
 
 pub returns-clause-spelled : goal.returns-clause-spelled
-returns-clause-spelled c = let s = c.compile_as.ensures.sections in c.compile_as.ensures.spelled s.0 s.1
+returns-clause-spelled c = let s = c.compile_as.ensures.sections in unchecked_spelled Bare c.args.text.now c.compile_as.result (c.compile_as.ensures.spelled s.0 s.1)
 
 pub returns-clause-refused : goal.returns-clause-refused
-returns-clause-refused c = let s = c.compile_as.ensures.sections in c.compile_as.ensures.refused s.0 s.1
+returns-clause-refused c = let s = c.compile_as.ensures.sections in unchecked_refused Bare c.args.text.now c.compile_as.result (c.compile_as.ensures.refused s.0 s.1)

@@ -1,0 +1,5 @@
+pub mod Examples
+pub mod Finding
+pub mod PlacedLaws
+pub mod Renamed
+pub mod Steps

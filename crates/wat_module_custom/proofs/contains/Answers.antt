@@ -1,7 +1,0 @@
-use Rattle.std.proofs.Common.{◌∙◌, ap}
-use Rattle.std.specs.Prelude.{is_some}
-use Rattle.memchr.proofs.lemmas.ValueLemmas.{FindsNeedle-value}
-use Rattle.wat_module_custom.proofs.contains.Goals as goal
-
-pub returns : goal.returns
-returns c = c.is_some.ensures ∙ ap is_some (FindsNeedle-value c.args.bytes.now c.args.needle.now c.find.result c.find.ensures)

@@ -1,0 +1,5 @@
+pub mod Examples
+pub mod Fields
+pub mod Law
+pub mod Places
+pub mod Walk
