@@ -42,7 +42,7 @@ function ran(words, input) {
 const flagsOf = (words) => Object.fromEntries(words.filter((word) => word in FLAGS).map((word) => [FLAGS[word], true]));
 const lineOf = (tokens, i) => `${tokens.start(i)}..${tokens.end(i)} ${tokens.kind(i)}\n`;
 
-const seen = { stored: 0, tokens: 0, faults: 0, edits: 0, stretches: 0, signatures: 0, counting: 0, wrong: 0, modules: 0, refused: 0, compiled: 0, uncompiled: 0, valid: 0, other: [] };
+const seen = { stored: 0, tokens: 0, faults: 0, edits: 0, stretches: 0, signatures: 0, counting: 0, wrong: 0, modules: 0, refused: 0, compiled: 0, uncompiled: 0, valid: 0, invalid: 0, other: [] };
 
 // Compares the list and the reported error with both streams of the program.
 function compareTokens(name, bytes, words) {
@@ -120,11 +120,19 @@ function compareTypes(name, bytes) {
 function compareModules(name, bytes) {
   if (!whole.isServed) return;
   const { bytes: mine, error } = whole.compile(bytes);
-  const its = ran(['module'], bytes);
+  const its = ran(['module', '--no-validate'], bytes);
   seen[mine ? 'compiled' : 'uncompiled'] += 1;
   const isSame = its.isRefused ? error && its.fault === `${error.printed}\n` && error.printed.startsWith(error.message) : mine && its.output.equals(mine);
   if (!isSame) seen.other.push(`${name}: module`);
+  if (mine) compareValidity(name, bytes, mine);
   if (mine && WebAssembly.validate(mine)) compareInterfaces(name, mine);
+}
+
+// Compares whether a module is valid with node's engine.
+function compareValidity(name, bytes, mine) {
+  const { bytes: checked, error } = whole.compile(bytes, { validate: true }), isValid = WebAssembly.validate(mine);
+  seen.invalid += isValid ? 0 : 1;
+  if (isValid ? !checked || Buffer.compare(checked, mine) !== 0 : !error) seen.other.push(`${name}: validity`);
 }
 
 // Compares the imports and the exports of a valid module with those that node's engine lists.
@@ -226,4 +234,4 @@ for (const strict of [false, true]) {
 const { other, ...counts } = seen;
 for (const name of other.slice(0, 20)) console.log(`other than the program: ${name.slice(0, 200)}`);
 console.log(`agree.mjs: ${Object.entries(counts).map(([what, count]) => `${what} ${count}`).join(', ')}; ${other.length} differ`);
-process.exit(other.length > 0 || seen.stored === 0 || (whole.isServed && Math.min(seen.modules, seen.compiled, seen.uncompiled, seen.valid) === 0) ? 1 : 0);
+process.exit(other.length > 0 || seen.stored === 0 || (whole.isServed && Math.min(seen.modules, seen.compiled, seen.uncompiled, seen.valid, seen.invalid) === 0) ? 1 : 0);

@@ -381,7 +381,7 @@ async function whatCounts() {
   assert.equal((await ask(SHOWN)).options.length, 8);
 }
 
-const compiledBy = (text) => spawnSync(program, ['module'], { input: text });
+const compiledBy = (text) => spawnSync(program, ['module', '--no-validate'], { input: text });
 
 // The compiler's result on the page: the size and bytes, or the error, its offset and the mark's text.
 const COMPILED = `(() => {
@@ -394,13 +394,18 @@ async function modules() {
   for (const text of ['(module (type $a (func (param $p i32) (param i64 f32) (result f64))) (@x y) (type (func)))', '(module)', '', '(func (export "a") (result i32) i32.const 7)']) {
     const page = await type(text), wanted = compiledBy(text).stdout;
     assert.equal(page.bytes?.replaceAll(' ', ''), wanted.toString('hex'), text);
-    assert.deepEqual(await ask(COMPILED), { said: `The text is a module, whose binary form has ${wanted.length} bytes.`, go: null, message: null, mark: null });
+    assert.deepEqual(await ask(COMPILED), { said: `The text is a valid module, whose binary form has ${wanted.length} bytes.`, go: null, message: null, mark: null });
   }
   for (const [text, mark] of [['(func\n\u{e9} )', null], ['(module\n  (func \u{1f600}))', null], ['(module\n  (func frob))', [16, 'frob', '']], ['(module) x', [9, 'x', '']], ['(module (func)', [14, '', '\u258f']]]) {
     const page = await type(text), { stderr } = compiledBy(text);
     const { message, mark: shown } = await ask(COMPILED);
     assert.deepEqual([page.bytes, page.message || message, shown], [null, stderr.toString().trimEnd(), mark], text);
   }
+  // A module that is not valid has bytes and an error.
+  const invalid = '(func (; \u{1f600} ;) drop)', { stdout } = compiledBy(invalid);
+  assert.equal((await type(invalid)).bytes?.replaceAll(' ', ''), stdout.toString('hex'));
+  const { said, go, mark } = await ask(COMPILED);
+  assert.deepEqual([said, go, mark], [`The text is a module that is not valid, whose binary form has ${stdout.length} bytes.`, 'Line 1, column 16: instruction 0 of function 0 is not valid', [17, 'drop', '']]);
   await type(`(module\n${'\n'.repeat(100)} frob)`);
   await press('#module-go');
   assert.deepEqual(await ask("[document.activeElement.id, document.querySelector('#text').selectionStart, document.querySelector('#text').scrollTop > 0]"), ['text', 109, true]);
@@ -408,7 +413,7 @@ async function modules() {
   const long = `(module ${'(func nop)'.repeat(10_000)})`;
   await type(long);
   for (let i = 0; i < 200 && !(await ask(SHOWN)).bytes; i += 1) await pause(50);
-  assert.equal((await ask(COMPILED)).said, `The text is a module, whose binary form has ${compiledBy(long).stdout.length.toLocaleString('en')} bytes, of which the first 4096 are shown.`);
+  assert.equal((await ask(COMPILED)).said, `The text is a valid module, whose binary form has ${compiledBy(long).stdout.length.toLocaleString('en')} bytes, of which the first 4096 are shown.`);
 }
 
 // Waits until the worker has replied, and returns the state of the module's instance.

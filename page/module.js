@@ -1,5 +1,5 @@
-// The part of the page on the binary module: its size and bytes, or the compiler's error; a button that saves it; and its instance, whose functions can
-// be called. All of the module's code runs in a worker.
+// The part of the page on the binary module: its size and bytes, and whether it is valid, or the compiler's error; a button that saves it; and its
+// instance, whose functions can be called. All of the module's code runs in a worker.
 import { dumped, interfaceOf } from './binary.js';
 import { $, cutLines, element, plural, summaryOf, tell, visible } from './dom.js';
 import { LIMIT, Runner } from './run.js';
@@ -32,7 +32,8 @@ export class ModulePart {
     });
   }
 
-  // Shows the result of the compiler, or a note instead. Without both, the part is hidden. An instance of an earlier module ends.
+  // Shows the result of the compiler, or a note instead. Without both, the part is hidden. A module with an error is not valid. An instance of an earlier
+  // module ends.
   show(compiled, note = '', longest = Infinity) {
     const { bytes = null, error = null } = compiled ?? {};
     $('module-part').hidden = !compiled && !note;
@@ -40,7 +41,7 @@ export class ModulePart {
     this.#bytes = bytes;
     tell('module-go', error ? summaryOf(error.printed) : '');
     tell('module-message', error ? cutLines(error.printed, longest) : '');
-    tell('module-said', bytes ? `The text is a module, whose binary form has ${plural(bytes.length, 'byte')}${this.#rest(bytes)}.` : note);
+    tell('module-said', bytes ? `The text is a ${error ? 'module that is not valid' : 'valid module'}, whose binary form has ${plural(bytes.length, 'byte')}${this.#rest(bytes)}.` : note);
     tell('bytes', bytes ? dumped(bytes, DUMPED) : '');
     $('built').hidden = !bytes;
   }

@@ -53,7 +53,7 @@ function compiled(text) {
 // Compares the binary module, or the error and its location, with the output of `module`.
 function compareCompiled(text) {
   const { bytes, error } = compiled(text);
-  const { stdout, stderr, status } = spawnSync(program, ['module'], { input: text });
+  const { stdout, stderr, status } = spawnSync(program, ['module', '--no-validate'], { input: text });
   seen[bytes ? 'compiled' : 'uncompiled'] += 1;
   if (bytes) {
     assert.deepEqual([bytes, status], [stdout, 0]);

@@ -347,7 +347,8 @@ function showCounts() {
   list.redraw();
 }
 
-// Compiles a text without a lexical error, by the standard's rules whatever the switches, and shows the binary module or the compiler's error.
+// Compiles a text without a lexical error, by the standard's rules whatever the switches, and shows the binary module or the compiler's error. Validates
+// the module, and shows its first error too.
 const compiling = {
   timer: null,
 
@@ -367,9 +368,9 @@ const compiling = {
   },
 
   end() {
-    const compiled = whole.compile(bytes);
-    rejected = compiled?.error?.offset ?? null;
-    modulePart.show(compiled, compiled ? '' : 'There is no memory to compile the text.', 2 * LONGEST);
+    const compiled = whole.compile(bytes), checked = compiled?.bytes ? whole.compile(bytes, { validate: true }) : compiled;
+    rejected = checked?.error?.offset ?? null;
+    modulePart.show(checked && { ...compiled, error: checked.error }, checked ? '' : 'There is no memory to compile the text.', 2 * LONGEST);
   },
 };
 

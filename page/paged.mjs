@@ -504,7 +504,7 @@ function counted() {
 // The binary form, with a name section for `$a`.
 function binaries() {
   const text = '(module (type $a (func (param $p i32) (param i64 f32) (result f64))) (@x y) (type (func)))';
-  const compiled = { bytes: '00000000  00 61 73 6d 01 00 00 00 01 0b 02 60 03 7f 7e 7d\n00000010  01 7c 60 00 00 00 0b 04 6e 61 6d 65 04 04 01 00\n00000020  01 61', moduleSaid: 'The text is a module, whose binary form has 34 bytes.', moduleGo: null, moduleMessage: null, rejected: [] };
+  const compiled = { bytes: '00000000  00 61 73 6d 01 00 00 00 01 0b 02 60 03 7f 7e 7d\n00000010  01 7c 60 00 00 00 0b 04 6e 61 6d 65 04 04 01 00\n00000020  01 61', moduleSaid: 'The text is a valid module, whose binary form has 34 bytes.', moduleGo: null, moduleMessage: null, rejected: [] };
   type(text);
   expect(compiled);
   check('allow', true);
@@ -514,10 +514,10 @@ function binaries() {
   expect({ bytes: null, moduleSaid: null, moduleGo: null, moduleMessage: null });
   assert.equal($('module-part').hidden, true);
   type('');
-  expect({ bytes: '00000000  00 61 73 6d 01 00 00 00', moduleSaid: 'The text is a module, whose binary form has 8 bytes.' });
+  expect({ bytes: '00000000  00 61 73 6d 01 00 00 00', moduleSaid: 'The text is a valid module, whose binary form has 8 bytes.' });
   for (const [count, size] of [[1361, '4,096 bytes.'], [1362, '4,099 bytes, of which the first 4096 are shown.']]) {
     type(`(module ${'(type (func))'.repeat(count)})`);
-    expect({ moduleSaid: `The text is a module, whose binary form has ${size}` });
+    expect({ moduleSaid: `The text is a valid module, whose binary form has ${size}` });
     assert.equal(STATE.bytes().split('\n').length, 256);
   }
 }
@@ -548,11 +548,35 @@ function rejectedTexts() {
   assert.match(STATE.moduleGo(), / at byte offset 3$/);
 }
 
+// Modules that are not valid: their marks and reports, as for errors of the compiler, and their bytes.
+function invalidTexts() {
+  for (const [text, mark, line, column, message, size] of [
+    ['(func\n  drop)', 'Keyword rejected 8 drop', 2, 3, 'instruction 0 of function 0 is not valid', 25],
+    ['(func (block (result i32))\n(drop))', 'RParen rejected 25 )', 1, 26, 'instruction 1 of function 0 is not valid', 28],
+    ['(func)\n(func (result i64))', 'Keyword rejected 8 func', 2, 2, 'type mismatch at the end of function 1', 32],
+    ['(memory 1) (memory 1)', 'Keyword rejected 12 memory', 1, 13, 'more than one memory', 15],
+  ]) {
+    type(text, 1);
+    expect({ rejected: [mark], moduleGo: `Line ${line}, column ${column}: ${message}`, moduleSaid: `The text is a module that is not valid, whose binary form has ${size} bytes.`, ending: 'whole', said: 'No lexical error.' }, text);
+    assert.ok($('module-message').textContent.startsWith(`${message}\n     --> <anon>:${line}:${column}\n`));
+    assert.deepEqual([STATE.bytes().startsWith('00000000  00 61 73 6d 01 00 00 00'), $('built').hidden], [true, false]);
+  }
+  type('(func\n  drop)');
+  press('module-go');
+  expect({ selection: [8, 8], active: 'text' });
+  type('(func\n  nop)');
+  expect({ rejected: [], moduleGo: null, moduleMessage: null, moduleSaid: 'The text is a valid module, whose binary form has 25 bytes.' });
+}
+
 // Longer texts are compiled after a pause, and the longest are not.
 async function longModules() {
   const timers = [], ended = [];
-  await replacing(Whole.prototype, 'compile', () => null, () => type('(func)'));
-  expect({ moduleSaid: 'There is no memory to compile the text.', bytes: null, rejected: [] });
+  for (const refused of [[false, true], [true]]) {
+    const { compile } = Whole.prototype;
+    const refusing = function (text, options) { return refused.includes(options?.validate ?? false) ? null : compile.call(this, text, options); };
+    await replacing(Whole.prototype, 'compile', refusing, () => type('(func)'));
+    expect({ moduleSaid: 'There is no memory to compile the text.', bytes: null, rejected: [] });
+  }
   await replacing(globalThis, 'setTimeout', (call, milliseconds) => timers.push({ call, milliseconds }), () => replacing(globalThis, 'clearTimeout', (timer) => ended.push(timer), () => {
     type(`x${' '.repeat((1 << 16) - 1)}`);
     assert.deepEqual([timers.length, STATE.rejected().length], [0, 1]);
@@ -565,7 +589,7 @@ async function longModules() {
     expect({ rejected: [] });
     assert.equal(ended.at(-1), 1);
     timers[1].call();
-    expect({ moduleSaid: 'The text is a module, whose binary form has 8 bytes.' });
+    expect({ moduleSaid: 'The text is a valid module, whose binary form has 8 bytes.' });
   }));
   for (const [size, said] of [[1 << 20, 'The text is compiled after a pause.'], [(1 << 20) + 1, 'A text of more than a megabyte is not compiled.']]) {
     await drop(' '.repeat(size));
@@ -573,7 +597,7 @@ async function longModules() {
     expect({ moduleSaid: said, bytes: null });
   }
   type('(module)');
-  expect({ moduleSaid: 'The text is a module, whose binary form has 8 bytes.' });
+  expect({ moduleSaid: 'The text is a valid module, whose binary form has 8 bytes.' });
 }
 
 // A worker that records what is posted to it, and whose replies the test posts.
@@ -867,7 +891,7 @@ async function flagsOfWorkers() {
   assert.deepEqual(seen, [{ allow: false, strict: false }, { allow: false, strict: true }]);
 }
 
-const checks = [opening, typing, theList, theListByKeys, shownTexts, clicks, selections, lineEnds, scrolling, settings, faults, files, counted, binaries, rejectedTexts, longModules, running, notRun, saving, formatting, links, longLinks, longLines, partsOfTexts, loading];
+const checks = [opening, typing, theList, theListByKeys, shownTexts, clicks, selections, lineEnds, scrolling, settings, faults, files, counted, binaries, rejectedTexts, invalidTexts, longModules, running, notRun, saving, formatting, links, longLinks, longLines, partsOfTexts, loading];
 for (const it of checks) await it();
 console.log(`paged.mjs: ${checks.length} checks passed`);
 process.exit(0);

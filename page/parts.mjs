@@ -453,7 +453,7 @@ function significant() {
 
 // Compiles a text by the program.
 function bytesBy(text) {
-  const { stdout, stderr, status } = spawnSync(program, ['module'], { input: text });
+  const { stdout, stderr, status } = spawnSync(program, ['module', '--no-validate'], { input: text });
   assert.equal(status, 0, stderr.toString());
   return new Uint8Array(stdout);
 }
@@ -545,10 +545,11 @@ const rejecting = (length, body = 'i32.const 0') => compiled(`(module (memory (e
 function compiledTexts() {
   const whole = new Whole(module), given = encoder.encode('(func \u{1f600})');
   assert.deepEqual(whole.compile(encoder.encode('(func nop)')), { bytes: bytesBy('(func nop)') });
-  const { stderr } = spawnSync(program, ['module'], { input: '(module\n frob)' });
+  const { stderr } = spawnSync(program, ['module', '--no-validate'], { input: '(module\n frob)' });
   const { error } = whole.compile(encoder.encode('(module\n frob)'));
   assert.deepEqual([error.offset, `${error.printed}\n`, error.printed.startsWith(`${error.message}\n`)], [9, stderr.toString(), true]);
   assert.deepEqual([whole.compile(Uint8Array.of(97, 255)), whole.compile(new Uint8Array())], [null, { bytes: bytesBy('') }]);
+  validatedTexts(whole);
   assert.deepEqual(new Whole(rejecting(4)).compile(given), { error: { message: 'ab', offset: 2 ** 32 - 1, printed: 'ab:c' } });
   // There is no memory for the result, or for the error's message: the next text is compiled by another instance.
   assert.equal(new Whole(rejecting(0)).compile(given), null);
@@ -556,6 +557,26 @@ function compiledTexts() {
   for (let i = 0; i < 2; i += 1) assert.equal(trapping.compile(given), null);
   const unserved = new Whole(compiled('(module (memory (export "memory") 1))'));
   assert.throws(() => unserved.compile(given), { message: 'this module only reads tokens' });
+}
+
+// Texts of modules, and the error of those that are not valid: its offset and its message.
+const VALIDATED = [
+  ['(func nop)', null],
+  ['(func)\n(func (result i32) (i32.add (i32.const 1) (local.get 0)))', [50, 'instruction 1 of function 1 is not valid']],
+  ['(func (result f32))', [1, 'type mismatch at the end of function 0']],
+  ['(memory 1) (export "a" (memory 0)) (export "a" (memory 0))', [36, 'duplicate export name']],
+];
+
+function validatedTexts(whole) {
+  for (const [text, wanted] of VALIDATED) {
+    const given = encoder.encode(text), bytes = bytesBy(text);
+    for (const options of [undefined, {}, { validate: false }]) assert.deepEqual(whole.compile(given, options), { bytes });
+    const checked = whole.compile(given, { validate: true });
+    if (!wanted) assert.deepEqual(checked, { bytes });
+    else assert.deepEqual([checked.bytes, checked.error.offset, checked.error.message, checked.error.printed.startsWith(`${wanted[1]}\n     --> <anon>:`)], [undefined, ...wanted, true], text);
+  }
+  // A syntax error is the same.
+  assert.deepEqual(whole.compile(encoder.encode('(func drop frob)'), { validate: true }), whole.compile(encoder.encode('(func drop frob)')));
 }
 
 // ---- the package
@@ -597,13 +618,19 @@ function compiledDocuments() {
   const error = thrownBy(() => it.compile());
   assert.ok(error instanceof CompileError && error instanceof Error);
   const { name, message, offset, line, column, printed } = error;
-  const { stderr } = spawnSync(program, ['module'], { input: it.text });
+  const { stderr } = spawnSync(program, ['module', '--no-validate'], { input: it.text });
   assert.deepEqual([name, offset, line, column, `${printed}\n`, printed.startsWith(`${message}\n`)], ['CompileError', 25, 1, 17, stderr.toString(), true]);
   assert.deepEqual(thrownBy(() => wat.compile(it.text)).message, message);
   it.change(25, 29, 'nop');
   assert.deepEqual([it.compile(), wat.compile(it.text)], [bytesBy(it.text), bytesBy(it.text)]);
   // The standard allows confusing characters, and not two underscores in a row, whatever the flags of the lexer.
   assert.deepEqual([thrownBy(() => wat.compile('(module "\\q')).offset, wat.compile(';;\u202e'), thrownBy(() => wat.compile('(data "\\u{1__0}")')).offset], [10, bytesBy(''), 12]);
+  it.replace('(; \u{1f600} ;)\n(func drop)');
+  assert.deepEqual([it.compile(), it.compile({}), wat.compile(it.text), wat.compile('(func)', { validate: true })], [it.text, it.text, it.text, '(func)'].map(bytesBy));
+  for (const call of [() => it.compile({ validate: true }), () => wat.compile(it.text, { validate: true })]) {
+    const invalid = thrownBy(call);
+    assert.deepEqual([invalid instanceof CompileError, invalid.message, invalid.offset, invalid.line, invalid.column], [true, 'instruction 0 of function 0 is not valid', 15, 1, 6]);
+  }
   const { compile } = Whole.prototype;
   Whole.prototype.compile = () => null;
   assert.throws(() => it.compile(), { name: 'RangeError', message: 'there is no memory to compile the text' });

@@ -18,7 +18,7 @@ function checkString(given) {
   if (typeof given !== 'string') throw new TypeError(`a string was expected, not ${typeof given}`);
 }
 
-// The error of the compiler in a text that is not a module. Its offset is in UTF-16 code units; its line and column count from 0.
+// The error of the compiler in a text that is not a module, or not a valid one. Its offset is in UTF-16 code units; its line and column count from 0.
 export class CompileError extends Error {
   name = 'CompileError';
 
@@ -124,9 +124,10 @@ export class Document {
     return laidOut && decoder.decode(laidOut);
   }
 
-  // Returns the binary module. Throws a `CompileError` if the text is not a module by the standard's rules, and a `RangeError` if memory runs out.
-  compile() {
-    const compiled = this.#whole.compile(this.#reader.bytes);
+  // Returns the binary module. Throws a `CompileError` if the text is not a module by the standard's rules, or with `validate` if the module is not valid,
+  // and a `RangeError` if memory runs out.
+  compile({ validate = false } = {}) {
+    const compiled = this.#whole.compile(this.#reader.bytes, { validate });
     if (!compiled) throw new RangeError('there is no memory to compile the text');
     const { bytes, error } = compiled;
     if (error) throw new CompileError({ ...error, ...this.#locate(error.offset) });

@@ -25,7 +25,10 @@ export interface Fault {
   printed: string;
 }
 
-/** The error of the compiler in a text that is not a module: a lexical error, or a syntax error at the token that no rule accepts. */
+/**
+ * The error of the compiler in a text that is not a module: a lexical error, or a syntax error at the token that no rule accepts. With `validate`, also
+ * the error in the first field that is not valid: in a function at the instruction, in others at an expression or at the keyword of the field.
+ */
 export declare class CompileError extends Error {
   readonly name: 'CompileError';
   /** Offset in UTF-16 code units. */
@@ -44,6 +47,12 @@ export interface Flags {
   allowConfusingUnicode?: boolean;
   /** Rejects two consecutive underscores inside `\u{..}`. */
   strictUnderscores?: boolean;
+}
+
+/** The options of the compiler, which are off by default. */
+export interface CompileOptions {
+  /** Rejects modules that are not valid by chapter 3 of the standard, WebAssembly 2.0. */
+  validate?: boolean;
 }
 
 /**
@@ -85,10 +94,10 @@ export declare class Document implements Iterable<Token> {
   /** Returns the formatted text, or null if the text has a lexical error or memory runs out. */
   format(): string | null;
   /**
-   * Returns the binary module, which is not validated. Throws a `CompileError` if the text is not a module of WebAssembly 2.0 by the standard's rules,
-   * whatever the flags, and a `RangeError` if memory runs out.
+   * Returns the binary module, which is not validated by default. Throws a `CompileError` if the text is not a module of WebAssembly 2.0 by the
+   * standard's rules, whatever the flags, or with `validate` if the module is not valid, and a `RangeError` if memory runs out.
    */
-  compile(): Uint8Array;
+  compile(options?: CompileOptions): Uint8Array;
   /** Returns the binary module, or null if the text is not a module of function types alone or memory runs out. */
   types(): Uint8Array | null;
   /** Iterates over all tokens. */
@@ -106,10 +115,10 @@ export declare class WatLex {
   /** Returns the formatted text, or null if the text has a lexical error or memory runs out. */
   format(text: string): string | null;
   /**
-   * Returns the binary module, which is not validated. Throws a `CompileError` if the text is not a module of WebAssembly 2.0, and a `RangeError` if
-   * memory runs out.
+   * Returns the binary module, which is not validated by default. Throws a `CompileError` if the text is not a module of WebAssembly 2.0, or with
+   * `validate` if the module is not valid, and a `RangeError` if memory runs out.
    */
-  compile(text: string): Uint8Array;
+  compile(text: string, options?: CompileOptions): Uint8Array;
   /** Returns the binary module, or null if the text is not a module of function types alone or memory runs out. */
   types(text: string): Uint8Array | null;
 }

@@ -24,8 +24,9 @@ export class WatLex {
   // Returns the formatted text, or null if the text has a lexical error or memory runs out.
   format(text) { return this.#once(text).format(); }
 
-  // Returns the binary module. Throws a `CompileError` if the text is not a module, and a `RangeError` if memory runs out.
-  compile(text) { return this.#once(text).compile(); }
+  // Returns the binary module. Throws a `CompileError` if the text is not a module, or with `validate` if the module is not valid, and a `RangeError` if
+  // memory runs out.
+  compile(text, options) { return this.#once(text).compile(options); }
 
   // Returns the binary module, or null if the text is not a module of function types alone or memory runs out.
   types(text) { return this.#once(text).types(); }

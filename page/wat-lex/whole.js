@@ -15,11 +15,11 @@ export class Whole {
   // Returns the formatted text, or null if the text has a lexical error or an allocation fails.
   layOut(bytes, { allow = false, strict = false } = {}) { return this.#make(bytes, ({ wat_page_lay_out }) => wat_page_lay_out(allow, strict)); }
 
-  // Compiles a text by the standard's rules. Returns the binary module as `bytes`, or the compiler's `error`: its message, its byte offset, and the
-  // error as the program prints it. Returns null if an allocation fails.
-  compile(text) {
+  // Compiles a text by the standard's rules; with `validate`, the module must be valid. Returns the binary module as `bytes`, or the compiler's `error`:
+  // its message, its byte offset, and the error as the program prints it. Returns null if an allocation fails.
+  compile(text, { validate = false } = {}) {
     try {
-      const bytes = this.#make(text, ({ wat_page_compile }) => wat_page_compile());
+      const bytes = this.#make(text, ({ wat_page_compile }) => wat_page_compile(validate));
       return bytes ? { bytes } : this.#rejected();
     } catch (error) {
       if (!(error instanceof WebAssembly.RuntimeError)) throw error;

@@ -56,6 +56,15 @@ def test_names_are_optional():
     assert b"\x04name" in wat_lex.compile(text) and b"\x04name" not in wat_lex.compile(text, names=False)
 
 
+def test_custom_sections_are_written_with_names():
+    text = '(@custom "a" "A") (func)'
+    with_names, without = wat_lex.compile(text), wat_lex.compile(text, names=False)
+    assert with_names == without + b"\x00\x03\x01aA"
+    misplaced = '(func (@custom "a"))'
+    assert wat_lex.compile(misplaced, names=False) == without and wat_lex.check(misplaced, names=False) is None
+    assert outcome(misplaced) == "annotation `@custom` where no field may be at 6"
+
+
 def test_buffers_that_are_too_small_at_first():
     data = "(data \"a\") " * 3 + "(memory 1)"
     many = "(func) " * 20000
@@ -74,7 +83,7 @@ def test_the_type_of_a_formatted_text_is_that_of_the_text():
 
 def compiled(program, text):
     """Returns status, standard output and standard error of the program's command `module`."""
-    done = subprocess.run([program, "module"], input=text.encode(), capture_output=True, check=False)
+    done = subprocess.run([program, "module", "--no-validate"], input=text.encode(), capture_output=True, check=False)
     return done.returncode, done.stdout, done.stderr.decode()
 
 

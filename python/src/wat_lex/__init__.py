@@ -89,8 +89,10 @@ def line_col(text, offsets):
 
 
 def compile(text, *, names=True):
-    """Returns the binary of a module of WebAssembly 2.0, which is not validated. If `names` is true, it has a section of the module's names. Raises
-    `CompileError` if the text is not a module. Confusing characters are always allowed, and underscores are always strict."""
+    """Returns the binary of a module of WebAssembly 2.0, which is not validated. If `names` is true, it has a section of the module's names, by
+    identifiers and annotations `(@name ..)`, and the custom sections of its annotations `(@custom ..)`. Raises `CompileError` if the text is not a
+    module, or if `names` is true and such an annotation has other contents or is where none may be. If `names` is false, these annotations are skipped.
+    Confusing characters are always allowed, and underscores are always strict."""
     read = Text(text)
     result, binary = called(lib.wat_compile, read.pointer, read.length, bool(names), capacity=read.length + 256)
     if result.status != lib.WAT_GIVEN:
@@ -99,7 +101,7 @@ def compile(text, *, names=True):
 
 
 def check(text, *, names=True):
-    """Returns the `CompileError` that `compile` raises for a text, or `None` if it is a module."""
+    """Returns the `CompileError` that `compile` raises for a text and the same `names`, or `None` if it raises none."""
     return compile_error(Text(text), bool(names))
 
 

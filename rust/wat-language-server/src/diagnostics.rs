@@ -12,18 +12,17 @@ pub const MOST_DIAGNOSTICS: usize = 1000;
 /// tokens, folding ranges and formatting only.
 pub const LONGEST_ANALYZED: usize = 1 << 23;
 
-/// Returns the first lexical errors, at most [`MOST_DIAGNOSTICS`]. If there are none, returns the error of the compiler, unless the document is a script
-/// or has more than [`LONGEST_ANALYZED`] bytes.
+/// Returns the first lexical errors, at most [`MOST_DIAGNOSTICS`]. If there are none, returns the error of the compiler, or that of validation if the
+/// text is a module, unless the document is a script or has more than [`LONGEST_ANALYZED`] bytes.
 pub fn diagnostics(open: &OpenDocument) -> Value {
     let document = open.document();
     let faults = document.faults().take(MOST_DIAGNOSTICS);
     let lexical = |fault: Fault| diagnostic(open, fault.range(), &fault.to_string());
     let found: Vec<_> = faults.map(lexical).collect();
-    let is_compiled = !open.is_script() && document.text().len() <= LONGEST_ANALYZED;
-    if !found.is_empty() || !is_compiled {
+    if !found.is_empty() || !open.is_compiled() {
         return found.into();
     }
-    let error = wat_modules::parse_str(document.text()).err();
+    let error = wat_modules::parse_valid_str(document.text()).err();
     let error = error.map(|error| {
         let range = token_range(document, error.span().offset());
         diagnostic(open, range, &error.message())

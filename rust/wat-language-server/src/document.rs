@@ -47,9 +47,9 @@ impl OpenDocument {
         &self.document
     }
 
-    /// Returns `true` for a script of modules and assertions.
-    pub fn is_script(&self) -> bool {
-        self.is_script
+    /// Returns `true` if the text is compiled: if it is not a script, and has at most [`LONGEST_ANALYZED`] bytes.
+    pub fn is_compiled(&self) -> bool {
+        !self.is_script && self.document.text().len() <= LONGEST_ANALYZED
     }
 
     /// Returns the definitions of the text, or `None` if it has more than [`LONGEST_ANALYZED`] bytes.

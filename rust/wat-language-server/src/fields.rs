@@ -138,7 +138,7 @@ pub struct Definition {
     pub index: Option<usize>,
     /// Index of the identifier's token, or of the keyword or value type if there is none.
     pub selection: usize,
-    /// The tokens of the definition.
+    /// The tokens of the definition. Of a block that is not folded, only the keyword.
     pub tokens: Range<usize>,
     /// Index of the `(` of the field.
     pub field: usize,

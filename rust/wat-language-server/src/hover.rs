@@ -1,10 +1,11 @@
-//! Information about the token at a position: the header of a definition, or the type and opcode of an instruction.
+//! Information about the token at a position: the header of a definition, or the type and opcode of an instruction, and the operands before it.
 
 use crate::analysis::Analysis;
 use crate::definitions::found;
 use crate::document::OpenDocument;
 use crate::fields::Definition;
 use crate::index_spaces::{Space, instruction};
+use crate::operands::describe_operands;
 use crate::syntax::Syntax;
 use crate::walker::Occurrence;
 use serde_json::{Value, json};
@@ -20,11 +21,11 @@ const HEADER_GROUPS: [&str; 10] = [
     "import", "export", "type", "param", "result", "mut", "func", "table", "memory", "global",
 ];
 
-/// Returns the type and the opcode of the instruction at a position, or the kind, the index and the header of the definition that the identifier or
-/// index there names. Returns `null` for any other token.
+/// Returns the type and the opcode of the instruction at a position, and the operands before it if the text is a module, or the kind, the index and
+/// the header of the definition that the identifier or index there names. Returns `null` for any other token.
 pub fn hover(open: &OpenDocument, params: &Value) -> Value {
-    let keyword = open.offset(params).and_then(|at| keyword_at(open, at));
-    if let Some(text) = keyword.and_then(describe_instruction) {
+    let offset = open.offset(params);
+    if let Some(text) = offset.and_then(|at| describe_keyword(open, at)) {
         return contents(&text);
     }
     found(open, params, |analysis, occurrence| {
@@ -45,6 +46,20 @@ fn keyword_at(open: &OpenDocument, offset: usize) -> Option<&str> {
         is_keyword.then(|| token.src(document.text()))
     };
     keyword(offset).or_else(|| keyword(offset.checked_sub(1)?))
+}
+
+/// Returns the type and the opcode of the instruction whose keyword is at a byte offset, and the operands before it. `else` and `end` have only
+/// operands.
+fn describe_keyword(open: &OpenDocument, offset: usize) -> Option<String> {
+    let word = keyword_at(open, offset)?;
+    let described = describe_instruction(word);
+    let is_instruction = described.is_some() || matches!(word, "else" | "end");
+    let operands = is_instruction.then(|| describe_operands(open, offset));
+    let Some(operands) = operands.flatten() else {
+        return described;
+    };
+    let described = described.unwrap_or_else(|| format!("```wat\n{word}\n```"));
+    Some(format!("{described}\n\n{operands}"))
 }
 
 /// Returns the type of an instruction, and its opcode, unless the binary format has it in several instructions.

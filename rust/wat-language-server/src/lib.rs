@@ -17,6 +17,7 @@ mod hover;
 #[doc(hidden)]
 pub mod index_spaces;
 mod messages;
+mod operands;
 mod scopes;
 mod semantic_tokens;
 mod server;

@@ -214,6 +214,17 @@ impl<'a> Syntax<'a> {
         token.map(|token| token.src(self.text))
     }
 
+    /// Returns the index of the keyword that contains a byte offset, or that ends at it.
+    #[must_use]
+    pub fn keyword_at(&self, offset: usize) -> Option<usize> {
+        let after = self.first_after(offset);
+        let mut tokens = [Some(after), after.checked_sub(1)].into_iter().flatten();
+        tokens.find(|at| {
+            let bytes = self.bytes(*at..at + 1);
+            self.word(*at).is_some() && bytes.start <= offset && offset <= bytes.end
+        })
+    }
+
     /// Returns the keyword after the `(` of the group that contains the token, or `None` outside all groups.
     #[must_use]
     pub fn group_word(&self, at: usize) -> Option<&'a str> {

@@ -309,7 +309,6 @@ impl<'a, 's> Walker<'a, 's> {
         }
         if is_end {
             self.labels.end();
-            self.found.definitions[definition].tokens.end = at + 1;
         }
     }
 

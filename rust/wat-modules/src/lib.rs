@@ -14,7 +14,8 @@
 //! # Ok::<(), wat_modules::Error>(())
 //! ```
 //!
-//! [`parse_str`] documents the modules that it accepts. For any other text it returns an error with its location. [`parse_bytes`] and
+//! [`parse_str`] documents the modules that it accepts. For any other text it returns an error with its location. [`parse_valid_str`] and
+//! [`validate`](validate()) also check that the module is valid (WebAssembly 2.0, chapter 3), as does [`Parser::validate`]. [`parse_bytes`] and
 //! [`parse_file`] also accept binaries, which they return unchanged, and [`Detect`] tells the two apart.
 //!
 //! The crate is `no_std` with `alloc`. The feature `std`, which is on by default, adds `parse_file`, the methods of [`Parser`] with a path, and
@@ -41,15 +42,18 @@ mod error;
 )]
 #[allow(clippy::style, clippy::complexity, clippy::pedantic)]
 mod generated {
+    pub mod wat_module_annotations;
     pub mod wat_module_ast;
     pub mod wat_module_custom;
     pub mod wat_module_encoder;
     pub mod wat_module_instructions;
     pub mod wat_module_lexer;
     pub mod wat_module_parser;
+    pub mod wat_module_places;
     pub mod wat_module_tokens;
     pub mod wat_modules;
     pub mod wat_types;
+    pub mod wat_valid;
 }
 
 use alloc::borrow::Cow;
@@ -59,17 +63,19 @@ use core::str;
 pub use detect::Detect;
 pub use error::Error;
 #[doc(hidden)]
-pub use generated::wat_module_ast as ast;
-#[doc(hidden)]
-pub use generated::wat_modules as proved;
+pub use generated::{
+    wat_module_ast as ast, wat_module_lexer as lexer, wat_module_parser as parser,
+    wat_module_places as places, wat_module_tokens as tokens, wat_modules as proved,
+    wat_valid as validation,
+};
 /// The verified compiler of modules that contain only function types, and its contracts. [`wat_lex::proved`] explains how to read a contract.
 ///
 /// `compile_types` returns the bytes of [`parse_str`] wherever both return bytes; it alone compiles two types of one name.
 #[doc(inline)]
 pub use generated::wat_types as types;
 use generated::{
-    wat_module_custom as custom, wat_module_encoder as encoder, wat_module_instructions as instructions,
-    wat_module_lexer as lexer, wat_module_parser as parser, wat_module_tokens as tokens,
+    wat_module_annotations as annotations, wat_module_custom as custom,
+    wat_module_encoder as encoder, wat_module_instructions as instructions,
 };
 #[cfg(feature = "std")]
 use std::path::Path;
@@ -87,8 +93,9 @@ pub type Result<T, E = Error> = core::result::Result<T, E>;
 ///
 /// The underlying compiler is verified. Unless an allocation fails or the module has more than `u32::MAX` bytes, it returns bytes if and only if the
 /// text is such a module, and these are the module's bytes. A text matches the grammar of at most one module. The module is not validated: the types
-/// of operands are not checked. After the last section is a name section if the module, or one of its functions, types, tables, memories, globals or
-/// segments, or a parameter, local or label of a function that it defines, has an identifier.
+/// of operands are not checked. [`parse_valid_str`] validates it. After the last section is a name section if the module, or one of its functions, types, tables, memories, globals or
+/// segments, or a parameter, local or label of a function that it defines, has a name: its identifier, or the string of an annotation
+/// `(@name "..")` after it.
 ///
 /// Where a field may be, an annotation `(@custom "name" placement? "data"..)` defines a custom section. Its placement is `(before first)`,
 /// `(after last)`, which is the default, or `(before code)`, `(after code)` and so on. All other annotations are skipped.
@@ -104,11 +111,54 @@ pub type Result<T, E = Error> = core::result::Result<T, E>;
 ///   location of the first;
 /// - an import after a definition, or a second start function, at its keyword; the message has the location of the first definition or start function;
 /// - a text or a module of more than `u32::MAX` bytes, at offset 0;
-/// - without any other error, an annotation `(@custom` with other contents, or where no field may be.
+/// - without any other error, an annotation `(@custom` with other contents, or where no field may be;
+/// - without any of these, an annotation `(@name` with other contents, or where no identifier may be, or before the identifier.
 ///
 /// `Display` prints the location, and the line of the text unless it is long. If an allocation fails, the error is out of memory.
 pub fn parse_str(text: impl AsRef<str>) -> Result<Vec<u8>> {
     Parser::new().compile(text.as_ref())
+}
+
+/// Compiles a valid module from the text format to the binary format, and returns its bytes.
+///
+/// These are the bytes of [`parse_str`], if the module is valid by chapter 3 of the standard, WebAssembly 2.0. Unless an allocation fails or the
+/// module has more than `u32::MAX` bytes, the function returns bytes if and only if the text is a module and it is valid.
+///
+/// ```
+/// let error = wat_modules::parse_valid_str("(module (func (result i32)\n  i64.const 1))").unwrap_err();
+/// assert_eq!(error.message(), "type mismatch at the end of function 0");
+/// # wat_modules::parse_str("(module (func (result i32)\n  i64.const 1))")?;
+/// # Ok::<(), wat_modules::Error>(())
+/// ```
+///
+/// # Errors
+///
+/// Returns the errors of [`parse_str`]. For a module that is not valid, returns an error in the first field that is not valid: at the first such
+/// instruction of a function, at the first instruction of an initial value or offset, and otherwise, also at the end of a function, at the keyword of
+/// the field. Such an error precedes those of annotations.
+pub fn parse_valid_str(text: impl AsRef<str>) -> Result<Vec<u8>> {
+    Parser::new().validate(true).compile(text.as_ref())
+}
+
+/// Validates a module in the text format.
+///
+/// Returns `Ok(())` if and only if the text is a module that is valid by chapter 3 of the standard, WebAssembly 2.0, unless an allocation fails or
+/// the module has more than `u32::MAX` bytes. Annotations are skipped, whatever they contain.
+///
+/// ```
+/// assert!(wat_modules::validate("(module (func (param i32) (result i32) local.get 0))").is_ok());
+/// assert!(wat_modules::validate("(module (func (param i32) (result i64) local.get 0))").is_err());
+/// ```
+///
+/// # Errors
+///
+/// Returns the errors of [`parse_valid_str`], except those of annotations.
+pub fn validate(text: impl AsRef<str>) -> Result<()> {
+    let bytes = Parser::new()
+        .names(false)
+        .validate(true)
+        .compile(text.as_ref());
+    bytes.map(|_| ())
 }
 
 /// Compiles a module from the text format, or returns a binary unchanged.
@@ -152,6 +202,7 @@ pub fn parse_file(path: impl AsRef<Path>) -> Result<Vec<u8>> {
 #[derive(Clone, Debug)]
 pub struct Parser {
     names: bool,
+    validates: bool,
 }
 
 impl Default for Parser {
@@ -164,13 +215,30 @@ impl Parser {
     /// Creates a compiler with the default options.
     #[must_use]
     pub fn new() -> Parser {
-        Parser { names: true }
+        Parser {
+            names: true,
+            validates: false,
+        }
     }
 
     /// Sets whether the binary has a name section with the identifiers of the text and the custom sections of its annotations, which is the
-    /// default.
+    /// default. Otherwise annotations `(@name ..)` and `(@custom ..)` are skipped, whatever they contain.
     pub fn names(&mut self, names: bool) -> &mut Parser {
         self.names = names;
+        self
+    }
+
+    /// Sets whether modules are validated, like those of [`parse_valid_str`]. By default they are not. Binaries are not validated.
+    ///
+    /// ```
+    /// use wat_modules::Parser;
+    ///
+    /// let text = "(module (func (drop (i32.const 0)) drop))";
+    /// assert!(Parser::new().compile(text).is_ok());
+    /// assert!(Parser::new().validate(true).compile(text).is_err());
+    /// ```
+    pub fn validate(&mut self, validates: bool) -> &mut Parser {
+        self.validates = validates;
         self
     }
 
@@ -178,14 +246,14 @@ impl Parser {
     ///
     /// # Errors
     ///
-    /// Returns the errors of [`parse_str`](parse_str()).
+    /// Returns the errors of [`parse_str`](parse_str()), or those of [`parse_valid_str`] if modules are validated.
     pub fn compile(&self, text: &str) -> Result<Vec<u8>> {
         // `requires` of the functions of `proved`.
         if u32::try_from(text.len()).is_err() {
             let message = format!("the text has more than {} bytes", u32::MAX);
             return Err(wat_lex::Error::new(Span::from_offset(0), message).into());
         }
-        compile(text, self.names)
+        compile(text, self.names, self.validates)
     }
 
     /// Compiles a module from the text format, or returns a binary unchanged.
@@ -259,12 +327,13 @@ fn text_of(bytes: &[u8]) -> Result<&str> {
     })
 }
 
-/// Compiles a text of at most `u32::MAX` bytes, with or without a name section and custom sections.
-fn compile(text: &str, names: bool) -> Result<Vec<u8>> {
-    let compiled = if names {
-        proved::compile_with_customs(Global, text)
-    } else {
-        proved::compile(Global, text)
+/// Compiles a text of at most `u32::MAX` bytes, with or without a name section and custom sections, and with or without validation.
+fn compile(text: &str, names: bool, validates: bool) -> Result<Vec<u8>> {
+    let compiled = match (names, validates) {
+        (true, true) => proved::compile_valid(Global, text),
+        (true, false) => proved::compile_with_customs(Global, text),
+        (false, true) => proved::compile_valid_without_names(Global, text),
+        (false, false) => proved::compile(Global, text),
     };
     let bytes = compiled.map_err(wat_lex::Error::from)?;
     Ok(bytes.into())

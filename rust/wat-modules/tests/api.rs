@@ -176,10 +176,9 @@ fn texts_that_only_wat_accepts() {
 /// Compiles a text of each kind that `wat` rejects or gives other bytes, by the README's list of differences.
 #[test]
 fn texts_with_other_bytes_than_by_wat() {
-    let function: &[u8] = b"\x01\x04\x01\x60\0\0\x03\x02\x01\0\x0a\x04\x01\x02\0\x0b";
     let segment: &[u8] = b"\x01\x04\x01\x60\0\0\x03\x02\x01\0\x04\x04\x01\x70\0\x01\x09\x07\x01\0\x41\0\x0b\x01\0\x0a\x04\x01\x02\0\x0b";
     let zero: &[u8] = b"\x01\x04\x01\x60\0\0\x03\x02\x01\0\x0a\x0a\x01\x08\0\x43\0\0\0\0\x1a\x0b";
-    let rows: [(&str, &[u8]); 12] = [
+    let rows: [(&str, &[u8]); 11] = [
         ("", b""),
         ("(;\u{202e};)", b""),
         ("(data \"\u{202e}\")", b"\x0b\x06\x01\x01\x03\xe2\x80\xae"),
@@ -189,7 +188,6 @@ fn texts_with_other_bytes_than_by_wat() {
             b"\0\x03\x01ab",
         ),
         ("(module (@producers (language \"x\" \"1\")))", b""),
-        ("(func (@name \"s\"))", function),
         (
             "(type (func (param i32))) (func (type 0) (param) (result))",
             b"\x01\x05\x01\x60\x01\x7f\0\x03\x02\x01\0\x0a\x04\x01\x02\0\x0b",

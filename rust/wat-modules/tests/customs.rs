@@ -9,13 +9,21 @@ const A: &[u8] = b"\x00\x03\x01aA";
 const B: &[u8] = b"\x00\x03\x01bB";
 
 /// Each text with the sections of its binary.
-const CASES: [(&str, &[&[u8]]); 20] = [
+const CASES: [(&str, &[&[u8]]); 21] = [
     ("", &[]),
     ("(@custom \"a\" \"A\")", &[A]),
     ("(module (@custom \"a\" \"A\"))", &[A]),
     (
         "(module $m (@custom \"a\" \"A\"))",
         &[b"\x00\x09\x04name\x00\x02\x01m", A],
+    ),
+    // A section of this name does not replace the name section.
+    (
+        "(module $m (@custom \"name\" \"\\00\\02\\01x\"))",
+        &[
+            b"\x00\x09\x04name\x00\x02\x01m",
+            b"\x00\x09\x04name\x00\x02\x01x",
+        ],
     ),
     ("(@custom \"a\" \"A\") (func)", &[TYPE, FUNC, CODE, A]),
     (

@@ -23,7 +23,9 @@ fn a_file_is_compiled_or_returned() {
         (b"\0asm\xff", Ok(b"\0asm\xff")),
         (
             b"(module\n ?)",
-            Err("expected a module field or `)`, found `?`\n     --> PATH:2:2\n      |\n    2 |  ?)\n      |  ^"),
+            Err(
+                "expected a module field or `)`, found `?`\n     --> PATH:2:2\n      |\n    2 |  ?)\n      |  ^",
+            ),
         ),
         (
             b"\xff",

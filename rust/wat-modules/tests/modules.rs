@@ -104,6 +104,66 @@ fn an_error_shows_its_line() {
     assert!(!error.is_out_of_memory());
 }
 
+/// Checks that messages have neither control characters nor confusing characters, and that they have other characters of two and three bytes.
+#[test]
+fn messages_have_only_characters_that_are_shown_as_they_are() {
+    let message = |text: String| parse_str(text).unwrap_err().message();
+    let hidden = "\u{80}\u{9b}\u{9f}\u{202a}\u{202b}\u{202d}\u{202e}\u{2066}\u{2067}\u{2068}\u{2069}\u{206c}";
+    let shown = "\u{a0}éß\u{2029}\u{202c}\u{202f}\u{2065}\u{206a}\u{206b}\u{206d}€";
+    for (c, is_shown) in hidden
+        .chars()
+        .map(|c| (c, false))
+        .chain(shown.chars().map(|c| (c, true)))
+    {
+        let (name, quoted) = (format!("$\"a{c}b\""), format!(" `$\"a{c}b\"`"));
+        let or_nothing = |text: &str| {
+            if is_shown {
+                text.to_owned()
+            } else {
+                String::new()
+            }
+        };
+        assert_eq!(
+            message(format!("(start {name})")),
+            format!("unknown function{}", or_nothing(&quoted))
+        );
+        assert_eq!(
+            message(format!("(start 0 {name})")),
+            format!(
+                "expected `)`, found{}",
+                if is_shown { &quoted } else { " an identifier" }
+            )
+        );
+        let near = format!("; did you mean `{name}` at line 1, column 13?");
+        assert_eq!(
+            message(format!("(func block {name} end $c)")),
+            format!("mismatching label `$c`{}", or_nothing(&near))
+        );
+        // A third of the 9 bytes of the unknown identifier may differ, and `c` has at most 3 bytes.
+        let near = format!("; did you mean `$\"abc{c}def\"` at line 1, column 7?");
+        assert_eq!(
+            message(format!("(func $\"abc{c}def\") (start $\"abcdef\")")),
+            format!("unknown function `$\"abcdef\"`{}", or_nothing(&near))
+        );
+    }
+}
+
+/// Checks that no message suggests a label of more than 40 bytes.
+#[test]
+fn long_labels_are_not_suggested() {
+    let message = |label: &str| {
+        parse_str(format!("(func block ${label} end $b)"))
+            .unwrap_err()
+            .message()
+    };
+    let near = |label: &str| {
+        format!("mismatching label `$b`; did you mean `${label}` at line 1, column 13?")
+    };
+    let (short, long) = ("a".repeat(39), "a".repeat(40));
+    assert_eq!(message(&short), near(&short));
+    assert_eq!(message(&long), "mismatching label `$b`");
+}
+
 /// Rejects a text of more than `u32::MAX` bytes. Its zeroed memory is never written.
 #[cfg(target_pointer_width = "64")]
 #[test]

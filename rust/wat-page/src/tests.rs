@@ -10,7 +10,7 @@ use crate::whole::{
     wat_page_lay_out, wat_page_message_len, wat_page_room, wat_page_types,
 };
 use refusing::granting;
-use wat_modules::parse_str;
+use wat_modules::{parse_str, parse_valid_str};
 
 const EMPTY: Row = Row { end: 0, kind: 99 };
 const UNWRITTEN: Report = Report {
@@ -132,9 +132,9 @@ fn answer() -> Vec<u8> {
     unsafe { std::slice::from_raw_parts(wat_page_answer(), wat_page_answer_len()).to_vec() }
 }
 
-/// Returns the bytes of a module, or its error: the message, its byte offset, and the excerpt after the message.
-fn compiled(text: &[u8]) -> Result<Vec<u8>, (String, usize, String)> {
-    made(text, || wat_page_compile()).ok_or_else(|| {
+/// Returns the bytes of a module, which must be valid if `validates`, or its error: the message, its byte offset, and the excerpt after the message.
+fn compiled(text: &[u8], validates: bool) -> Result<Vec<u8>, (String, usize, String)> {
+    made(text, || wat_page_compile(validates)).ok_or_else(|| {
         let mut message = String::from_utf8(answer()).unwrap();
         let excerpt = message.split_off(wat_page_message_len());
         (message, wat_page_error_offset(), excerpt)
@@ -144,29 +144,48 @@ fn compiled(text: &[u8]) -> Result<Vec<u8>, (String, usize, String)> {
 /// Checks the results of the compiler, and its errors. After an allocation failure, there is no result.
 fn modules() {
     let bytes = b"\0asm\x01\0\0\0\x01\x04\x01\x60\0\0\x03\x02\x01\0\x0a\x04\x01\x02\0\x0b";
-    assert_eq!(compiled(b"(module (func))").unwrap(), bytes);
-    for (text, offset) in [
-        ("", None),
-        ("(func\n (; \u{e9} ;)\tfrob)", Some(16)),
-        ("(func", Some(5)),
-        ("(func \"\\q\")", Some(8)),
+    assert_eq!(compiled(b"(module (func))", false).unwrap(), bytes);
+    assert_eq!(compiled(b"(module (func))", true).unwrap(), bytes);
+    for (text, offset, invalid_offset) in [
+        ("", None, None),
+        ("(func\n (; \u{e9} ;)\tfrob)", Some(16), Some(16)),
+        ("(func", Some(5), Some(5)),
+        ("(func \"\\q\")", Some(8), Some(8)),
+        ("(func (; \u{e9} ;)\n drop)", None, Some(16)),
+        ("(func) (func (result i32))", None, Some(8)),
     ] {
-        let result = compiled(text.as_bytes());
-        let wanted = parse_str(text).map_err(|error| {
-            let (message, printed) = (error.message(), error.to_string());
-            let excerpt = printed.strip_prefix(&message).unwrap().to_string();
-            (message, error.span().offset(), excerpt)
-        });
-        assert_eq!(result, wanted);
-        assert_eq!(result.err().map(|it| it.1), offset, "{text}");
+        compare(compiled(text.as_bytes(), false), parse_str(text), offset);
+        compare(
+            compiled(text.as_bytes(), true),
+            parse_valid_str(text),
+            invalid_offset,
+        );
     }
-    let (message, _, excerpt) = compiled(b"(func \"\\q\")").unwrap_err();
+    let (message, _, excerpt) = compiled(b"(func \"\\q\")", false).unwrap_err();
     assert_eq!(message, "invalid string escape 'q'");
     assert!(excerpt.starts_with("\n     --> <anon>:1:9\n"));
-    assert_eq!(made(b"(a\xff", || wat_page_compile()), None);
-    assert_eq!(wat_page_answer_len(), 0);
-    made(b"(module (func (export \"a\")))", || true);
-    fail_each_allocation(|| wat_page_compile());
+    for validates in [false, true] {
+        assert_eq!(made(b"(a\xff", || wat_page_compile(validates)), None);
+        assert_eq!(wat_page_answer_len(), 0);
+    }
+    made(b"(module (func (export \"a\") nop))", || true);
+    fail_each_allocation(|| wat_page_compile(false));
+    fail_each_allocation(|| wat_page_compile(true));
+}
+
+/// Compares a result of the compiler with that of `wat_modules`, whose error is at this offset.
+fn compare(
+    result: Result<Vec<u8>, (String, usize, String)>,
+    wanted: wat_modules::Result<Vec<u8>>,
+    offset: Option<usize>,
+) {
+    let wanted = wanted.map_err(|error| {
+        let (message, printed) = (error.message(), error.to_string());
+        let excerpt = printed.strip_prefix(&message).unwrap().to_string();
+        (message, error.span().offset(), excerpt)
+    });
+    assert_eq!(result, wanted);
+    assert_eq!(result.err().map(|it| it.1), offset);
 }
 
 // This is a single test, since the tests of a process share one buffer.

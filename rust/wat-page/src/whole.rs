@@ -1,5 +1,5 @@
-//! Functions over a whole text that allocate: [`wat_page_lay_out`] formats it, [`wat_page_compile`] compiles a module, and [`wat_page_types`] a module
-//! of function types. The formatter and the compilers are verified; this file is tested.
+//! Functions over a whole text that allocate: [`wat_page_lay_out`] formats it, [`wat_page_compile`] compiles a module, validated or not, and
+//! [`wat_page_types`] a module of function types. The formatter and the compilers are verified; this file is tested.
 //!
 //! The caller writes the text into the buffer that [`wat_page_room`] returns. If one of the functions then returns `true`, its result is at
 //! [`wat_page_answer`]. Buffer and result are valid until the next call of [`wat_page_room`]; a result is also replaced by the next one. Such an
@@ -12,7 +12,7 @@ use std::sync::{Mutex, PoisonError};
 use wat_format::Options;
 use wat_lex::shim::alloc::Global;
 use wat_modules::types::compile_types;
-use wat_modules::{Error, parse_str};
+use wat_modules::{Error, Parser};
 
 /// The text, the result of the last function over it, and the location of the last error of [`wat_page_compile`].
 struct Whole {
@@ -91,13 +91,19 @@ pub extern "C" fn wat_page_types() -> bool {
     keep(|text| copied(compile_types(Global, text).ok()?.as_slice()))
 }
 
-/// Compiles the module in the buffer. Returns `true` if the result is the module's bytes, and `false` if the text is not a module or if an allocation
-/// fails. If the text is UTF-8 and not a module, the result is the error with its excerpt, which begins with its message; [`wat_page_error_offset`]
-/// and [`wat_page_message_len`] return its offset and the length of its message. Otherwise the result is empty.
+/// Compiles the module in the buffer, which must be valid if `validates` is `true`. Returns `true` if the result is the module's bytes, and `false` if
+/// the text is not such a module or if an allocation fails. If the text is UTF-8 and not such a module, the result is the error with its excerpt, which
+/// begins with its message; [`wat_page_error_offset`] and [`wat_page_message_len`] return its offset and the length of its message. Otherwise the
+/// result is empty.
 #[unsafe(no_mangle)]
-pub extern "C" fn wat_page_compile() -> bool {
+pub extern "C" fn wat_page_compile(validates: bool) -> bool {
+    let mut parser = Parser::new();
+    parser.validate(validates);
     let mut error = None;
-    let is_compiled = keep(|text| parse_str(text).map_err(|it| error = Some(it)).ok());
+    let is_compiled = keep(|text| {
+        let compiled = parser.compile(text);
+        compiled.map_err(|it| error = Some(it)).ok()
+    });
     if let Some(error) = error.filter(|it| !it.is_out_of_memory()) {
         reject(&error);
     }

@@ -11,7 +11,7 @@ _wat_tokens() {
     case $command in
         '') words="$options list sig play blank fmt module types help" ;;
         fmt) words="$options --check --diff --write" ;;
-        module) words="$options -o --output --no-names" ;;
+        module) words="$options -o --output --no-names --no-validate" ;;
         types) words="$options -o --output" ;;
         play) words='look take comment reg= unreg= parens=' ;;
         sig | help) words= ;;

@@ -15,6 +15,7 @@ complete -c wat_tokens -n '__fish_seen_subcommand_from fmt' -l diff -d 'Write th
 complete -c wat_tokens -n '__fish_seen_subcommand_from fmt' -l write -d 'Rewrite the files'
 complete -c wat_tokens -n '__fish_seen_subcommand_from module types' -s o -l output -r -F -d 'Write the binary to this file'
 complete -c wat_tokens -n '__fish_seen_subcommand_from module' -l no-names -d 'Write no name section'
+complete -c wat_tokens -n '__fish_seen_subcommand_from module' -l no-validate -d 'Write modules that are not valid, too'
 complete -c wat_tokens -n '__fish_seen_subcommand_from play' -f -a 'look take comment reg= unreg= parens='
 
 complete -c wat_tokens -l json -d 'Write tokens and errors as lines of JSON'

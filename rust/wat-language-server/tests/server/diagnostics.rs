@@ -1,11 +1,12 @@
-//! The errors that the server sends: lexical errors, or that of the compiler.
+//! The errors that the server sends: lexical errors, or that of the compiler or of validation.
 
 use super::marked::{Marked, opened_as, ranges_of};
 use super::responses_when_initialized;
 use serde_json::Value;
 use wat_language_server::LONGEST_ANALYZED;
 
-/// Modules without lexical errors, with the range of the compiler's error. At the end of the text that is the last significant token.
+/// Modules without lexical errors, with the range of the error of the compiler or of validation. At the end of the text that is the last significant
+/// token.
 const MODULES: &[&str] = &[
     "",
     "(module)",
@@ -26,6 +27,30 @@ const MODULES: &[&str] = &[
     "(func «local.gett» 0)",
     "(func (local $x i32) (local.set «$y»))",
     "(table 1 «i32»)",
+    // Modules that are not valid: an instruction, or the field.
+    "(func (result i32) i32.const 1)",
+    "(func (result i32) i32.const 1 «i64.eqz»)",
+    "(func (result i32) («i64.eqz» (i32.const 1)))",
+    "(;;) (module\n (func)\n (func (drop (i32.add (i32.const 1)\n («local.get» 0)))))",
+    "(func (local i64) (drop («i32.add» (i32.const 1)\n (local.get 0))))",
+    "(func block (result i32) «end» drop)",
+    "(func (block (result i32)«)» drop)",
+    "(func («if» (i64.const 1) (then)))",
+    "(func (if (result i32) (i32.const 1) (then) («else» (i32.const 2))) drop)",
+    "(func (if (result i32) (i32.const 1) (then (i32.const 2)) (else)«)» drop)",
+    "(«func» (result i32))",
+    "(module (func) («func» (result i32) nop) (func drop))",
+    // A syntax error precedes them.
+    "(module (func) (func (result i32) nop) (func «frob»))",
+    "(func (type «0»))",
+    "(memory 1) («memory» 1)",
+    "(func) («export» \"a\" (func 1))",
+    "(func (export \"a\")) («export» \"a\" (func 0))",
+    "(func $f (param i32)) («start» $f)",
+    "(global i32 («i64.const» 1))",
+    "(memory 1) (data («i64.const» 1) \"\")",
+    "(«data» (i32.const 1) \"\")",
+    "(«table» 2 1 funcref)",
 ];
 
 /// Returns the diagnostics of a document.
@@ -40,7 +65,7 @@ fn the_compiler_reports_an_error_at_its_token() {
         let marked = Marked::new(case);
         let found = diagnostics("u", "wat", &marked.text);
         assert_eq!(ranges_of(&found), marked.ranges, "{case}");
-        let error = wat_modules::parse_str(&marked.text).err();
+        let error = wat_modules::parse_valid_str(&marked.text).err();
         let message = error.map(|error| error.message());
         assert_eq!(found[0]["message"].as_str(), message.as_deref(), "{case}");
     }

@@ -53,8 +53,12 @@ const DEFINITIONS: &[&str] = &[
     "(func (type $t) (local «i32») (local.get ‸2)) (type $t (func (param i32 i64)))",
     "(func (type 0) (param «$a» i32) (local.get ‸0)) (type (func (param i32)))",
     "(type (func (param «i64»))) (func (export \"f\") (type 0) (local.get ‸0))",
+    "(type (func (param «i64»))) (func (import \"a\" \"b\") (type 0) (local.get ‸0))",
     // Labels.
     "(func block «$l» loop $m br ‸$l end end)",
+    "(func i32.const 0 if «$l» else br ‸0 end)",
+    "(«func» $f end br ‸0)",
+    "(func (if $a (i32.const 0) (then (if «$b» (i32.const 1) (then (br ‸0))))))",
     "(func block $l «loop» br ‸0 end end)",
     "(func («block» (loop $m (br ‸1))))",
     "(func block «$l» block $m end br ‸$l end)",
@@ -108,6 +112,14 @@ const UNDEFINED: &[&str] = &[
     "(global i32 (local.get ‸0))",
     "(module (func $f)) (module (start ‸$f))",
     ";; $f‸\n(func $f)",
+    // Other tokens before the index, and labels that have ended.
+    "(func $f) (func call \"a\" ‸$f)",
+    "(func $f) (table 1 func ‸$f)",
+    "(func $f) (elem funcref ‸$f)",
+    "(global i32 (block $l (br ‸$l)))",
+    "(func (if $a (i32.const 0) (then)) (then (br ‸$a)))",
+    "(func (if $a (i32.const 0) (then (if $b (i32.const 1) (then)) (then (br ‸$b)))))",
+    "(func block end ‸)",
 ];
 
 /// Texts with the position of a request, and all tokens of the definition.

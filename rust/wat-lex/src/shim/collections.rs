@@ -3,7 +3,7 @@ use crate::shim::alloc::{AllocError, Global};
 use crate::shim::string::String;
 use crate::shim::vec::Vec;
 use core::borrow::Borrow;
-use core::ops::Range;
+use core::ops::{Deref, Range};
 
 /// A key of a map. An integer of 8 of its bytes, a lead, distinguishes most keys without comparing them in full.
 pub trait Key: Ord {
@@ -98,7 +98,7 @@ macro_rules! by_bytes {
     )*};
 }
 
-by_bytes! { str: as_bytes &str: as_bytes String: as_bytes Vec<u8>: as_slice }
+by_bytes! { str: as_bytes &str: as_bytes String: as_bytes Vec<u8>: as_slice &[u8]: deref }
 
 impl Key for u64 {
     fn shared(&self, _: &u64) -> usize {

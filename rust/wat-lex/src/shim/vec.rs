@@ -59,6 +59,14 @@ impl<T> Vec<T> {
         Ok(())
     }
 
+    /// Moves all items of another list to the end of this one.
+    #[inline]
+    pub fn append(&mut self, other: &mut Vec<T>) -> Result<(), AllocError> {
+        self.reserve(other.0.len())?;
+        self.0.append(&mut other.0);
+        Ok(())
+    }
+
     /// Inserts an item at an index, which must be at most the length.
     pub(crate) fn insert(&mut self, place: usize, item: T) -> Result<(), AllocFailed<T>> {
         if self.reserve(1).is_err() {

@@ -4,14 +4,16 @@
 
 use wat_lex::shim::prelude::*;
 pub mod kw;
+pub mod laws;
 mod placing;
 pub mod reading;
+pub mod search;
 pub mod sections;
 
 use crate::custom::placing::placed;
 use crate::custom::reading::AllItems;
+use crate::custom::search::{Sought, may_have};
 use crate::custom::sections::CustomSection;
-use memchr::{memchr, memmem};
 use wat_lex::shim::alloc::Global;
 use wat_parser::proved::Error;
 use wat_parser::proved::lexer::{Lexer, Settings};
@@ -62,38 +64,11 @@ pub fn custom_sections<'b>(
     buffer.lemma_sound();
     let lexer = buffer.lexer();
     let text = lexer.input();
-    if may_have_customs(text) {
+    if may_have(text, Sought::Customs) {
         return match buffer.parse::<AllItems<'b>>() {
             Ok(items) => placed(alloc, text, items.items.items),
             Err(error) => Err(error),
         };
     }
     Ok(Vec::new(alloc))
-}
-
-/// Returns `false` only if a text has no custom annotations. Few texts have an `@`, which is found
-/// faster.
-///
-/// # Proved
-///
-/// ```text
-/// ensures { result ≡ may_have_customs text.now }
-/// ```
-fn may_have_customs(text: &str) -> bool {
-    let bytes = text.as_bytes();
-    if memchr(b'@', bytes).is_none() {
-        return false;
-    }
-    contains(bytes, b"(@custom") || contains(bytes, b"(@\"")
-}
-
-/// Returns `true` if `needle` occurs in `bytes`.
-///
-/// # Proved
-///
-/// ```text
-/// ensures { result ≡ contains needle.now bytes.now }
-/// ```
-fn contains(bytes: &[u8], needle: &[u8]) -> bool {
-    memmem::find(bytes, needle).is_some()
 }

@@ -7,15 +7,21 @@ mod edits;
 pub mod laws;
 mod messages;
 mod nearest;
+mod validity;
 
 use messages::{Message, first_of, found_token, is_misplaced, kind_by, suggested};
 use nearest::suggestion;
 use wat_lex::shim::alloc::{AllocError, Global};
+use validity::check_valid;
 use wat_parser::proved::Error;
 use wat_parser::proved::lexer::Token;
 use wat_parser::proved::token::Span;
+use crate::annotations::names::ModuleNames;
+use crate::annotations::renaming::{named, renamed};
 use crate::ast::error::{FaultKind, ParseFailure};
 use crate::ast::fields;
+use crate::custom::search::{Sought, may_have};
+use crate::custom::sections;
 use crate::encoder::encode;
 use crate::instructions::reading;
 use crate::lexer::{PackedText, PackedTokens, pack_tokens, shown_tokens};
@@ -58,7 +64,7 @@ use crate::tokens::token::Name;
 ///     TextShows (plain text.now) no_names tokens last }
 /// ```
 pub fn compile(alloc: Global, text: &str) -> Result<Vec<u8>, Error> {
-    compile_as(alloc, text, Extras::Nothing)
+    compile_as(alloc, text, Extras::Nothing, false)
 }
 
 /// Compiles a module from text to binary, with a name section.
@@ -99,21 +105,24 @@ pub fn compile(alloc: Global, text: &str) -> Result<Vec<u8>, Error> {
 ///     TextShows (plain text.now) no_names tokens last }
 /// ```
 pub fn compile_with_names(alloc: Global, text: &str) -> Result<Vec<u8>, Error> {
-    compile_as(alloc, text, Extras::Names)
+    compile_as(alloc, text, Extras::Names, false)
 }
 
 /// Compiles a module from text to binary, with a name section and custom sections.
 ///
-/// Returns the bytes of [`compile_with_names`], and among them the custom sections that the
-/// annotations `(@custom ..)` define (`specs/Customs` of `wat_module_custom`), each where its
-/// placement says (`specs/CustomSections` of `wat_module_encoder`). The text must be shorter than
-/// 2^32 bytes.
+/// Returns the bytes of [`compile_with_names`], with the names of annotations `(@name ..)` instead
+/// of identifiers (`specs/Renaming` of `wat_module_annotations`), and among them the custom
+/// sections that the annotations `(@custom ..)` define (`specs/Customs` of `wat_module_custom`),
+/// each where its placement says (`specs/CustomSections` of `wat_module_encoder`). The text must be
+/// shorter than 2^32 bytes.
 ///
 /// # Errors
 ///
 /// Returns the errors of [`compile`]. If the text is a module, returns the first error in the
 /// contents of an annotation `(@custom ..)`, or, if there is none, the error of the first one that
-/// is where no field may be. The limit on the size, which is checked last, includes all sections.
+/// is where no field may be. Without these, returns the first error in the contents of an
+/// annotation `(@name ..)`, or, if there is none, the error of the first one that is where no
+/// identifier may be. The limit on the size, which is checked last, includes all sections.
 ///
 /// # Proved
 ///
@@ -123,33 +132,136 @@ pub fn compile_with_names(alloc: Global, text: &str) -> Result<Vec<u8>, Error> {
 /// // The bytes encode a module from which the grammar derives the text, its names and its custom
 /// // sections.
 /// ensures bytes { IfOk result (λ bytes. (l : Label) × (fs : List Field)
-///     × (cs : List CustomSection) × DenotesNamed text.now l fs × HasSections text.now (Ok cs)
-///     × (length (complete_bytes l fs cs) < 2 ^ 32)
+///     × (cs : List CustomSection) × DenotesComplete text.now l fs cs × FitsComplete l fs cs
 ///     × (bytes.items ≡ complete_bytes l fs cs)) }
 ///
 /// // If the grammar derives the text from a module, and its annotations define custom sections,
 /// // the result is the encoding of that module, of its names and of these custom sections, the
 /// // error that it is too long, or an allocation failure.
 /// ensures spelled { (l : Label) (fs : List Field) (cs : List CustomSection) →
-///     DenotesNamed text.now l fs → HasSections text.now (Ok cs) →
-///     Answers true (λ bytes. bytes.items)
+///     DenotesComplete text.now l fs cs → Answers true (λ bytes. bytes.items)
 ///     (fitted text.now (complete_bytes l fs cs)) result }
 ///
 /// // The result is that of the visible tokens and the lexical error after them, if there is one,
 /// // and of the custom sections.
 /// ensures refused { (tokens : List Token) (last : Option Fault) (r : Sections) →
-///     TextShows (plain text.now) no_names tokens last → HasSections text.now r →
+///     TextShows (plain text.now) no_names tokens last → AnnotationsDefine text.now r →
 ///     Answers true (λ bytes. bytes.items) (compiled_complete r text.now tokens last) result }
 ///
 /// // A text has visible tokens, with or without a lexical error after them.
 /// ensures some { (tokens : List Token) × (last : Option Fault) ×
 ///     TextShows (plain text.now) no_names tokens last }
 ///
-/// // A text has custom sections, or an error in them.
-/// ensures sections { (r : Sections) × HasSections text.now r }
+/// // The annotations of a text define something, or have an error.
+/// ensures sections { (r : Sections) × AnnotationsDefine text.now r }
 /// ```
 pub fn compile_with_customs(alloc: Global, text: &str) -> Result<Vec<u8>, Error> {
-    compile_as(alloc, text, Extras::Customs)
+    compile_as(alloc, text, Extras::Customs, false)
+}
+
+/// Compiles a valid module from text to binary, with a name section and custom sections.
+///
+/// Returns the bytes of [`compile_with_customs`] if the module is valid (`specs/Modules` of
+/// `wat_valid`). The text must be shorter than 2^32 bytes.
+///
+/// # Errors
+///
+/// Returns the errors of [`compile_with_customs`], but if the text is a module that is not valid,
+/// returns an error at its first instruction that is not valid, or at the keyword of its first
+/// field that is not valid (`specs/ValidityMessages`).
+///
+/// # Proved
+///
+/// ```text
+/// requires { length text.now < 2 ^ 32 }
+///
+/// // The bytes encode a valid module from which the grammar derives the text, its names and its
+/// // custom sections.
+/// ensures bytes { IfOk result (λ bytes. (l : Label) × (fs : List Field)
+///     × (cs : List CustomSection) × (d : DenotesComplete text.now l fs cs)
+///     × ModuleIsValid d.fields × FitsComplete l fs cs
+///     × (bytes.items ≡ complete_bytes l fs cs)) }
+///
+/// // If the grammar derives the text from a valid module, and its annotations define custom
+/// // sections, the result is the encoding of that module, of its names and of these custom
+/// // sections, the error that it is too long, or an allocation failure.
+/// ensures spelled { (l : Label) (fs : List Field) (cs : List CustomSection)
+///     (d : DenotesComplete text.now l fs cs) → ModuleIsValid d.fields →
+///     Answers true (λ bytes. bytes.items)
+///     (fitted text.now (complete_bytes l fs cs)) result }
+///
+/// // If the grammar derives the text from a module that is not valid, the result is the error of
+/// // the first field that is not valid, or an allocation failure.
+/// ensures invalid { (fs : List Field) (m : DenotesModule text.now fs) →
+///     (ModuleIsValid fs → ⊥) → IsErrAnd result (IsInvalid text.now fs m) }
+///
+/// // Otherwise the result is that of the visible tokens and the lexical error after them, if there
+/// // is one, and of the custom sections.
+/// ensures refused { (tokens : List Token) (last : Option Fault) (r : Sections) →
+///     TextShows (plain text.now) no_names tokens last → AnnotationsDefine text.now r →
+///     IsValidText text.now →
+///     Answers true (λ bytes. bytes.items) (compiled_complete r text.now tokens last) result }
+///
+/// // An error is that of a module that is not valid, or otherwise that of `compile_with_customs`.
+/// ensures errors { (r : Sections) → AnnotationsDefine text.now r →
+///     IfErr result (λ e. IfSome e (IsErrorOf (Complete r) text.now)) }
+///
+/// // A text has visible tokens, with or without a lexical error after them.
+/// ensures some { (tokens : List Token) × (last : Option Fault) ×
+///     TextShows (plain text.now) no_names tokens last }
+///
+/// // The annotations of a text define something, or have an error.
+/// ensures sections { (r : Sections) × AnnotationsDefine text.now r }
+/// ```
+pub fn compile_valid(alloc: Global, text: &str) -> Result<Vec<u8>, Error> {
+    compile_as(alloc, text, Extras::Customs, true)
+}
+
+/// Compiles a valid module from text to binary, without a name section and custom sections.
+///
+/// Returns the bytes of [`compile`] if the module is valid (`specs/Modules` of `wat_valid`). The
+/// text must be shorter than 2^32 bytes.
+///
+/// # Errors
+///
+/// Returns the errors of [`compile`], but if the text is a module that is not valid, returns an
+/// error at its first instruction that is not valid, or at the keyword of its first field that is
+/// not valid (`specs/ValidityMessages`).
+///
+/// # Proved
+///
+/// ```text
+/// requires { length text.now < 2 ^ 32 }
+///
+/// // The bytes encode a valid module from which the grammar derives the text.
+/// ensures bytes { IfOk result (λ bytes. (fs : List Field) × DenotesModule text.now fs
+///     × ModuleIsValid fs × Fits fs × (bytes.items ≡ module_bytes fs)) }
+///
+/// // If the grammar derives the text from a valid module, the result is the encoding of that
+/// // module, the error that it is too long, or an allocation failure.
+/// ensures spelled { (fs : List Field) → DenotesModule text.now fs → ModuleIsValid fs →
+///     Answers true (λ bytes. bytes.items) (fitted text.now (module_bytes fs)) result }
+///
+/// // If the grammar derives the text from a module that is not valid, the result is the error of
+/// // the first field that is not valid, or an allocation failure.
+/// ensures invalid { (fs : List Field) (m : DenotesModule text.now fs) →
+///     (ModuleIsValid fs → ⊥) → IsErrAnd result (IsInvalid text.now fs m) }
+///
+/// // Otherwise the result is that of the visible tokens and the lexical error after them, if there
+/// // is one.
+/// ensures refused { (tokens : List Token) (last : Option Fault) →
+///     TextShows (plain text.now) no_names tokens last → IsValidText text.now →
+///     Answers true (λ bytes. bytes.items) (compiled text.now tokens last) result }
+///
+/// // An error is that of a module that is not valid, or otherwise that of `compile`.
+/// ensures errors { IfErr result (λ e. IfSome e (IsErrorOf Bare text.now)) }
+///
+/// // A text has visible tokens, with or without a lexical error after them.
+/// ensures some { (tokens : List Token) × (last : Option Fault) ×
+///     TextShows (plain text.now) no_names tokens last }
+/// ```
+pub fn compile_valid_without_names(alloc: Global, text: &str) -> Result<Vec<u8>, Error> {
+    compile_as(alloc, text, Extras::Nothing, true)
 }
 
 /// What a binary has besides the fields of a module.
@@ -163,39 +275,52 @@ enum Extras {
     Customs,
 }
 
-/// Compiles a module from text to binary, with what `extras` names.
+/// Compiles a module from text to binary, with what `extras` names. Fails if the module is not
+/// valid, if `is_checked` is true.
 ///
 /// # Proved
 ///
 /// ```text
 /// requires { length text.now < 2 ^ 32 }
-/// ensures bytes { (r : Sections) → HasSections text.now r → IfOk result (λ bytes.
+/// ensures bytes { (r : Sections) → AnnotationsDefine text.now r → IfOk result (λ bytes.
 ///     (fs : List Field) × (m : DenotesModule text.now fs)
+///     × (is_checked ≡ true → ModuleIsValid fs)
 ///     × (finished (wanted_by extras r) text.now (module_name m.terminals) fs
 ///     ≡ Ok bytes.items)) }
-/// ensures spelled { (r : Sections) → HasSections text.now r →
+/// ensures spelled { (r : Sections) → AnnotationsDefine text.now r →
 ///     (fs : List Field) (m : DenotesModule text.now fs) →
+///     (is_checked ≡ true → ModuleIsValid fs) →
 ///     Answers true (λ bytes. bytes.items)
 ///     (finished (wanted_by extras r) text.now (module_name m.terminals) fs) result }
-/// ensures refused { (r : Sections) → HasSections text.now r →
+/// ensures invalid { is_checked ≡ true → (fs : List Field) (m : DenotesModule text.now fs) →
+///     (ModuleIsValid fs → ⊥) → IsErrAnd result (IsInvalid text.now fs m) }
+/// ensures refused { (r : Sections) → AnnotationsDefine text.now r →
 ///     (tokens : List Token) (last : Option Fault) →
 ///     TextShows (plain text.now) no_names tokens last →
+///     (is_checked ≡ true → IsValidText text.now) →
 ///     Answers true (λ bytes. bytes.items)
 ///     (compiled_with (wanted_by extras r) text.now tokens last) result }
+/// ensures errors { (r : Sections) → AnnotationsDefine text.now r → is_checked ≡ true →
+///     IfErr result (λ e. IfSome e (IsErrorOf (wanted_by extras r) text.now)) }
 /// ensures some { (tokens : List Token) × (last : Option Fault) ×
 ///     TextShows (plain text.now) no_names tokens last }
-/// ensures sections { (r : Sections) × HasSections text.now r }
+/// ensures sections { (r : Sections) × AnnotationsDefine text.now r }
 /// ```
-fn compile_as(alloc: Global, text: &str, extras: Extras) -> Result<Vec<u8>, Error> {
+fn compile_as(
+    alloc: Global,
+    text: &str,
+    extras: Extras,
+    is_checked: bool,
+) -> Result<Vec<u8>, Error> {
     wat_lex::proved::laws::one_tiling();
     wat_parser::proved::laws::all_shown();
     crate::parser::laws::reading_is_grammar();
     has_tokens(text);
-    has_sections(text);
+    annotations_define(text);
     let PackedText { packed, error } = pack_tokens(alloc, text)?;
     match error {
         Some(error) => Err(error),
-        None => compile_packed(alloc, text, extras, packed),
+        None => compile_packed(alloc, text, extras, is_checked, packed),
     }
 }
 
@@ -207,20 +332,26 @@ fn compile_as(alloc: Global, text: &str, extras: Extras) -> Result<Vec<u8>, Erro
 /// requires short { length text.now < 2 ^ 32 }
 /// requires readable { AreReadable text.now (length packed.kept.items) packed.tokens.items }
 /// requires linked { AreLinked (draft_terminals text.now packed) packed.tokens.items }
-/// ensures { (r : Sections) → HasSections text.now r →
+/// ensures { (r : Sections) → AnnotationsDefine text.now r →
 ///     (tokens : List Token) → TextShows (plain text.now) no_names tokens None →
 ///     draft_terminals text.now packed.entry ≡ map (terminal_of text.now) tokens →
-///     Answers true (λ bytes. bytes.items)
-///     (compiled_tokens (wanted_by extras r) text.now tokens) result }
+///     Compiles (wanted_by extras r) is_checked text.now tokens result }
 /// ```
 fn compile_packed(
     alloc: Global,
     text: &str,
     extras: Extras,
+    is_checked: bool,
     packed: PackedTokens<'_>,
 ) -> Result<Vec<u8>, Error> {
     let PackedTokens { tokens, kept } = packed;
-    compile_tokens(alloc, text, extras, TokenStream::new(text, tokens, &kept))
+    compile_tokens(
+        alloc,
+        text,
+        extras,
+        is_checked,
+        TokenStream::new(text, tokens, &kept),
+    )
 }
 
 /// Compiles a text without lexical errors from its significant tokens.
@@ -229,16 +360,16 @@ fn compile_packed(
 ///
 /// ```text
 /// requires { length text.now < 2 ^ 32 }
-/// ensures { (r : Sections) → HasSections text.now r →
+/// ensures { (r : Sections) → AnnotationsDefine text.now r →
 ///     (tokens : List Token) → TextShows (plain text.now) no_names tokens None →
 ///     source.entry ≡ map (terminal_of text.now) tokens →
-///     Answers true (λ bytes. bytes.items)
-///     (compiled_tokens (wanted_by extras r) text.now tokens) result }
+///     Compiles (wanted_by extras r) is_checked text.now tokens result }
 /// ```
 fn compile_tokens(
     alloc: Global,
     text: &str,
     extras: Extras,
+    is_checked: bool,
     source: TokenStream<'_>,
 ) -> Result<Vec<u8>, Error> {
     crate::parser::laws::reading_is_grammar();
@@ -246,10 +377,15 @@ fn compile_tokens(
     let name = module_name(cursor);
     match module::module(alloc, cursor) {
         Ok(fields) => {
-            // Fields borrow from the text and from the side table, but not from the packed tokens.
-            // These are freed before the bytes are allocated.
-            drop(source);
-            finish(alloc, text, name, &fields, extras)
+            match check_valid(alloc, text, cursor, &fields, is_checked) {
+                Ok(()) => {
+                    // Fields borrow from the text and from the side table, but not from the packed
+                    // tokens. These are freed before the bytes are allocated.
+                    drop(source);
+                    finish(alloc, text, name, fields, extras)
+                }
+                Err(error) => Err(error),
+            }
         }
         Err(ParseFailure::Memory(refused)) => Err(Error::from(refused)),
         Err(ParseFailure::Text(fault)) => Err(fault_at(alloc, text, fault.kind, fault.left.len())),
@@ -276,20 +412,20 @@ fn module_name<'a>(cursor: TokenCursor<'_, 'a>) -> Name<'a> {
 ///
 /// ```text
 /// requires { length text.now < 2 ^ 32 }
-/// ensures { (r : Sections) → HasSections text.now r → Answers true (λ bytes. bytes.items)
-///     (finished (wanted_by extras r) text.now (label name.entry) (fields_of fields.now))
+/// ensures { (r : Sections) → AnnotationsDefine text.now r → Answers true (λ bytes. bytes.items)
+///     (finished (wanted_by extras r) text.now (label name.entry) (fields_of fields.entry.items))
 ///     result }
 /// ```
-fn finish(
+fn finish<'a>(
     alloc: Global,
     text: &str,
-    name: Name<'_>,
-    fields: &[fields::Field<'_>],
+    name: Name<'a>,
+    fields: Vec<fields::Field<'a>>,
     extras: Extras,
 ) -> Result<Vec<u8>, Error> {
     match extras {
-        Extras::Nothing => bound_size(alloc, text, encode::module_bytes(alloc, fields)?),
-        Extras::Names => bound_size(alloc, text, named_bytes(alloc, name, fields)?),
+        Extras::Nothing => bound_size(alloc, text, encode::module_bytes(alloc, &fields)?),
+        Extras::Names => bound_size(alloc, text, named_bytes(alloc, name, &fields)?),
         Extras::Customs => complete(alloc, text, name, fields),
     }
 }
@@ -312,30 +448,61 @@ fn named_bytes(
     Ok(bytes)
 }
 
-/// Returns the encoding of a module, with its name section and the custom sections of the text.
+/// Returns the encoding of a module, with its name section and what the annotations of the text
+/// define. Most texts have none: then a single search of the text suffices.
 ///
 /// # Proved
 ///
 /// ```text
 /// requires { length text.now < 2 ^ 32 }
-/// ensures { (r : Sections) → HasSections text.now r → Answers true (λ bytes. bytes.items)
-///     (finished (Complete r) text.now (label name.entry) (fields_of fields.now)) result }
+/// ensures { (r : Sections) → AnnotationsDefine text.now r → Answers true (λ bytes. bytes.items)
+///     (finished (Complete r) text.now (label name.entry) (fields_of fields.entry.items)) result }
 /// ```
-fn complete(
+fn complete<'a>(
     alloc: Global,
     text: &str,
-    name: Name<'_>,
-    fields: &[fields::Field<'_>],
+    name: Name<'a>,
+    fields: Vec<fields::Field<'a>>,
 ) -> Result<Vec<u8>, Error> {
+    if !may_have(text, Sought::Either) {
+        return bound_size(alloc, text, named_bytes(alloc, name, &fields)?);
+    }
     let buffer = crate::custom::buffer(alloc, text);
     match crate::custom::custom_sections(alloc, &buffer) {
-        Ok(customs) => bound_size(
-            alloc,
-            text,
-            encode::complete_bytes(alloc, name, fields, &customs)?,
-        ),
+        Ok(customs) => match crate::annotations::names_of(alloc, &buffer) {
+            Ok(names) => complete_with(alloc, text, name, fields, &names, &customs),
+            Err(error) => Err(error),
+        },
         Err(error) => Err(error),
     }
+}
+
+/// Returns the encoding of a module, with these names of annotations instead of identifiers, and
+/// with these custom sections.
+///
+/// # Proved
+///
+/// ```text
+/// ensures { Answers true (λ bytes. bytes.items) (fitted text.now (complete_bytes
+/// (named_module (module_names_of names.now) (label name.entry))
+/// (named_fields (module_names_of names.now) (fields_of fields.entry.items))
+/// (map section_of customs.now))) result }
+/// ```
+fn complete_with<'a>(
+    alloc: Global,
+    text: &str,
+    name: Name<'a>,
+    fields: Vec<fields::Field<'a>>,
+    names: &'a ModuleNames<'_>,
+    customs: &[sections::CustomSection<'_>],
+) -> Result<Vec<u8>, Error> {
+    let name = named(&names.of_module, name);
+    let fields = renamed(alloc, &names.fields, fields)?;
+    bound_size(
+        alloc,
+        text,
+        encode::complete_bytes(alloc, name, &fields, customs)?,
+    )
 }
 
 /// Returns the error for a syntax error with `left` remaining tokens. Lexes the text again: not
@@ -391,7 +558,8 @@ fn error_of(alloc: Global, text: &str, tokens: &[Token], kind: FaultKind, left: 
     let token = token_at(text, tokens, left);
     let near = suggested(text, suggestion(text, tokens, kind, left));
     let kind = kind_by(is_misplaced(text, token), kind);
-    let found = found_token(text, token);
+    let next = token_at(text, tokens, left.saturating_sub(1));
+    let found = found_token(text, token, next);
     let message = Message {
         kind,
         found,
@@ -429,21 +597,21 @@ fn token_at(text: &str, tokens: &[Token], left: usize) -> Option<Token> {
 /// requires { All (IsTokenOf text.now) tokens.now }
 /// ensures { result ≡ messages.place text.now tokens.now left }
 /// ```
-fn place(text: &str, tokens: &[Token], left: usize) -> usize {
+pub(crate) fn place(text: &str, tokens: &[Token], left: usize) -> usize {
     match token_at(text, tokens, left) {
         Some(token) => token.offset,
         None => text.len(),
     }
 }
 
-/// Lemma (no effect): a text has custom sections, or an error in them.
+/// Lemma (no effect): the annotations of a text define something, or have an error.
 ///
 /// # Proved
 ///
 /// ```text
-/// ensures { (r : Sections) × HasSections text.now r }
+/// ensures { (r : Sections) × AnnotationsDefine text.now r }
 /// ```
-fn has_sections(text: &str) {
+fn annotations_define(text: &str) {
     wat_lex::proved::laws::one_tiling();
 }
 

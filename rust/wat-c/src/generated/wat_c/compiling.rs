@@ -9,9 +9,9 @@ use core::str;
 use crate::rows::at::token_at;
 use wat_lex::proved::lexer::Settings;
 use wat_parser::proved::Error;
-use wat_modules::proved::{compile, compile_with_names};
+use wat_modules::proved::{compile, compile_with_customs};
 
-/// Compiles a module from text to binary, with a name section if `names`.
+/// Compiles a module from text to binary, with a name section and custom sections if `names`.
 ///
 /// # Proved
 ///
@@ -20,16 +20,13 @@ use wat_modules::proved::{compile, compile_with_names};
 /// ensures bytes { IfOk result (λ bytes. IsBinary names text.now bytes.items) }
 /// ensures all { (binary : List ℕ) → IsBinary names text.now binary →
 ///     parser.Answers true (λ bytes. bytes.items) (Ok binary) result }
-/// ensures shown { (tokens : List Token) (last : Option Fault) →
-///     TextShows (plain text.now) no_names tokens last →
-///     parser.Answers true (λ bytes. bytes.items)
-///     (compiled_with names text.now tokens last) result }
-/// ensures some { (tokens : List Token) × (last : Option Fault) ×
-///     TextShows (plain text.now) no_names tokens last }
+/// ensures compiled { (wanted : Compilation) → CompilesTo names text.now wanted →
+///     parser.Answers true (λ bytes. bytes.items) wanted result }
+/// ensures some { (wanted : Compilation) × CompilesTo names text.now wanted }
 /// ```
 fn compile_as(alloc: Global, text: &str, names: bool) -> Result<Vec<u8>, Error> {
     if names {
-        compile_with_names(alloc, text)
+        compile_with_customs(alloc, text)
     } else {
         compile(alloc, text)
     }
@@ -65,9 +62,11 @@ fn give_binary(alloc: Global, text: &str, names: bool, out: &mut [u8]) -> Answer
 }
 
 /// Compiles a module from text to binary, and writes its binary to `out` if it fits. If `names` is
-/// true, the binary ends with a name section with the identifiers of the text, if it has any. Fails
-/// with status 1 if the text is not a module, or if its binary has more than 4,294,967,295 bytes,
-/// and with status 2 if an allocation fails. `wat_check` returns the error.
+/// true, the binary has a name section with the identifiers of the text and the names of its
+/// annotations `(@name ..)`, if it has any, and the custom sections of its annotations `(@custom
+/// ..)`. Fails with status 1 if the text is not a module, if `names` is true and such an annotation
+/// is ill-formed or misplaced, or if the binary has more than 4,294,967,295 bytes, and with status
+/// 2 if an allocation fails. `wat_check` returns the error.
 ///
 /// # Proved
 ///

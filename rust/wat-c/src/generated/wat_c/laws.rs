@@ -131,6 +131,7 @@ pub fn one_print() {}
 pub fn one_binary() {
     wat_lex::proved::laws::one_tiling();
     wat_parser::proved::laws::all_shown();
+    wat_modules::proved::laws::sections_are_one();
 }
 
 /// Theorem: the error of a text is unique, unless an allocation fails: its offset, its length, its
@@ -145,6 +146,7 @@ pub fn one_check() {
     wat_lex::proved::laws::one_answer();
     wat_lex::proved::laws::one_tiling();
     wat_parser::proved::laws::all_shown();
+    wat_modules::proved::laws::sections_are_one();
 }
 
 /// Theorem: the formatted text of a text is unique, unless an allocation fails: the status, the

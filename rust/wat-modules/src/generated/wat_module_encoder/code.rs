@@ -9,97 +9,110 @@ use crate::ast::fields::{Field, Function, Locals};
 use crate::ast::indexed_types::IndexedTypes;
 use crate::ast::types::type_byte;
 
-/// A run of consecutive locals of one type.
-#[derive(Clone, Copy)]
-struct Run {
-    /// Number of locals.
-    count: usize,
-    /// Encoding of the type.
-    byte: u8,
-}
-
-/// Returns the maximal runs of equal bytes in `first` followed by `others`.
-///
-/// # Proved
-///
-/// ```text
-/// ensures { IfOk result (λ runs. map run_of runs.items ≡ binary.runs_of (first ∷ others.now)) }
-/// ```
-fn runs_after(alloc: Global, first: u8, others: &[u8]) -> Result<Vec<Run>, AllocError> {
-    let mut runs = Vec::new(alloc);
-    let mut count = 1;
-    let mut byte = first;
-    for next in others {
-        if *next == byte {
-            count += 1;
-        } else {
-            runs.push(Run { count, byte })?;
-            count = 1;
-            byte = *next;
-        }
-    }
-    runs.push(Run { count, byte })?;
-    Ok(runs)
-}
-
-/// Returns the maximal runs of equal bytes in `types`.
-///
-/// # Proved
-///
-/// ```text
-/// ensures { IfOk result (λ runs. map run_of runs.items ≡ binary.runs_of types.now) }
-/// ```
-fn runs_of(alloc: Global, types: &[u8]) -> Result<Vec<Run>, AllocError> {
-    match types {
-        [first, others @ ..] => runs_after(alloc, *first, others),
-        [] => Ok(Vec::new(alloc)),
-    }
-}
-
-/// Appends the number of runs, and then each run: its count and the byte of its type.
+/// Appends a run of `count` locals whose type has the encoding `byte`: the count and the byte.
+/// Appends nothing if `count` is 0.
 ///
 /// # Proved
 ///
 /// ```text
 /// ensures { OnOk result (out.new.items ≡
-/// out.old.items ++ list_encoding binary.run_bytes (map run_of runs.now)) }
+/// out.old.items ++ flat_map binary.run_bytes (binary.runs_of (replicate count byte))) }
 /// ```
-fn put_runs(out: &mut Vec<u8>, runs: &[Run]) -> Result<(), AllocError> {
-    put(out, runs.len())?;
-    for run in runs {
-        put(out, run.count)?;
-        out.push(run.byte)?;
+fn put_run(out: &mut Vec<u8>, count: usize, byte: u8) -> Result<(), AllocError> {
+    if count > 0 {
+        put(out, count)?;
+        out.push(byte)?;
     }
     Ok(())
 }
 
-/// Returns the byte of the type of each local, one byte per local.
+/// Returns the number of runs of `count` locals of one type: 1, or 0 if there are none.
 ///
 /// # Proved
 ///
 /// ```text
-/// ensures { IfOk result (λ bytes. bytes.items ≡ map type_byte (flat_map local_types locals.now)) }
+/// ensures is { (byte : ℕ) → result ≡ length (binary.runs_of (replicate count byte)) }
+/// ensures small { result ≤ 1 }
 /// ```
-fn local_bytes(alloc: Global, locals: &[Locals]) -> Result<Vec<u8>, AllocError> {
-    let mut bytes = Vec::new(alloc);
-    for run in locals {
-        put_times(&mut bytes, run.count, type_byte(run.of))?;
-    }
-    Ok(bytes)
+fn runs_in(count: usize) -> usize {
+    if count > 0 { 1 } else { 0 }
 }
 
-/// Appends `value` `count` times.
+/// Returns the number of maximal runs of consecutive locals of one type. Fails if a run has 2^64
+/// locals or more.
 ///
 /// # Proved
 ///
 /// ```text
-/// ensures { OnOk result (out.new.items ≡ out.old.items ++ replicate count value) }
+/// ensures { IfOk result (λ n. n ≡ length (binary.runs_of (bytes_of locals.now))) }
 /// ```
-fn put_times(out: &mut Vec<u8>, count: usize, value: u8) -> Result<(), AllocError> {
-    for _ in 0..count {
-        out.push(value)?;
+fn run_count(locals: &[Locals]) -> Result<usize, AllocError> {
+    let mut runs = 0;
+    let mut count = 0;
+    let mut byte = 0;
+    for local in locals {
+        let next = type_byte(local.of);
+        if next == byte {
+            count = sum(count, local.count)?;
+        } else if local.count > 0 {
+            runs += runs_in(count);
+            count = local.count;
+            byte = next;
+        }
     }
-    Ok(())
+    Ok(runs + runs_in(count))
+}
+
+/// Appends each maximal run of consecutive locals of one type. Fails if a run has 2^64 locals or
+/// more.
+///
+/// # Proved
+///
+/// ```text
+/// ensures { OnOk result (out.new.items ≡
+/// out.old.items ++ flat_map binary.run_bytes (binary.runs_of (bytes_of locals.now))) }
+/// ```
+fn put_runs(out: &mut Vec<u8>, locals: &[Locals]) -> Result<(), AllocError> {
+    let mut count = 0;
+    let mut byte = 0;
+    for local in locals {
+        let next = type_byte(local.of);
+        if next == byte {
+            count = sum(count, local.count)?;
+        } else if local.count > 0 {
+            put_run(out, count, byte)?;
+            count = local.count;
+            byte = next;
+        }
+    }
+    put_run(out, count, byte)
+}
+
+/// Returns the sum of two counts. Fails if it is 2^64 or more.
+///
+/// # Proved
+///
+/// ```text
+/// ensures { IfOk result (λ n. n ≡ first + second) }
+/// ```
+fn sum(first: usize, second: usize) -> Result<usize, AllocError> {
+    match first.checked_add(second) {
+        Some(sum) => Ok(sum),
+        None => Err(AllocError),
+    }
+}
+
+/// Appends locals: the number of their maximal runs of one type, and then each run.
+///
+/// # Proved
+///
+/// ```text
+/// ensures { OnOk result (out.new.items ≡
+/// out.old.items ++ list_encoding binary.run_bytes (binary.runs_of (bytes_of locals.now))) }
+/// ```
+fn put_locals(out: &mut Vec<u8>, locals: &[Locals]) -> Result<(), AllocError> {
+    put(out, run_count(locals)?)?;
+    put_runs(out, locals)
 }
 
 /// Returns the encoding of a function without its size: its locals, its instructions and the final
@@ -116,10 +129,8 @@ fn code(
     types: &IndexedTypes,
     function: &Function<'_>,
 ) -> Result<Vec<u8>, AllocError> {
-    let locals = local_bytes(alloc, &function.locals)?;
-    let runs = runs_of(alloc, &locals)?;
     let mut bytes = Vec::new(alloc);
-    put_runs(&mut bytes, &runs)?;
+    put_locals(&mut bytes, &function.locals)?;
     put_instructions(&mut bytes, types, &function.body)?;
     bytes.push(0x0B)?;
     Ok(bytes)

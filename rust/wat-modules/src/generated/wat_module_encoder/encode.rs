@@ -32,8 +32,8 @@ const HEADER: [u8; 8] = [0x00, 0x61, 0x73, 0x6D, 0x01, 0x00, 0x00, 0x00];
 ///
 /// # Errors
 ///
-/// Fails if an allocation fails, or if the strings of a data segment have 2^63 bytes or more
-/// together.
+/// Fails if an allocation fails, if the strings of a data segment have 2^63 bytes or more together,
+/// or if a function has 2^64 or more consecutive locals of one type.
 ///
 /// # Proved
 ///
@@ -88,8 +88,8 @@ pub fn put_name_section(
 ///
 /// # Errors
 ///
-/// Fails if an allocation fails, or if the strings of a data segment have 2^63 bytes or more
-/// together.
+/// Fails if an allocation fails, if the strings of a data segment have 2^63 bytes or more together,
+/// or if a function has 2^64 or more consecutive locals of one type.
 ///
 /// # Proved
 ///

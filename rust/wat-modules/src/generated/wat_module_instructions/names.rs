@@ -116,6 +116,23 @@ pub fn push_unnamed(names: &mut Vec<NameRun<'_>>, count: usize) -> Result<(), Al
     Ok(())
 }
 
+/// Returns `true` if no two items of these runs have the same identifier. The number of items must
+/// be below 2^64. Does not allocate for 16 runs or fewer.
+///
+/// # Proved
+///
+/// ```text
+/// requires { length (labels_of names.now) < 2 ^ 64 }
+/// ensures { IfOk result (λ found. found ≡ are_distinct (labels_of names.now)) }
+/// ```
+pub fn have_distinct_names(alloc: Global, names: &[NameRun<'_>]) -> Result<bool, AllocError> {
+    if names.len() <= FEW {
+        return Ok(are_distinct(names));
+    }
+    let indices = indices(alloc, names)?;
+    Ok(indices.is_some())
+}
+
 /// Returns the runs of items with these identifiers.
 ///
 /// # Proved

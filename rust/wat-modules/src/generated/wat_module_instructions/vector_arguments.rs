@@ -244,17 +244,49 @@ fn add_lane<'p, 'a>(
             bytes.extend_from_slice(&n.to_le_bytes())?;
             Ok(rest)
         }
-        Lane::F32 => {
-            let (n, rest) = float_32(alloc, cursor)?;
-            bytes.extend_from_slice(&n.to_le_bytes())?;
-            Ok(rest)
-        }
-        Lane::F64 => {
-            let (n, rest) = float_64(alloc, cursor)?;
-            bytes.extend_from_slice(&n.to_le_bytes())?;
-            Ok(rest)
-        }
+        Lane::F32 => add_float_32(alloc, bytes, cursor),
+        Lane::F64 => add_float_64(alloc, bytes, cursor),
     }
+}
+
+/// Parses a lane that is a 32-bit float, and appends its bytes in little-endian order.
+///
+/// # Proved
+///
+/// ```text
+/// ensures { MatchResult result
+/// (λ r. IsLane Lane.F32 (terminals_of cursor.entry) bytes.old.items bytes.new.items
+/// (terminals_of r))
+/// (λ e. Faults (grammar.lane_of Lane.F32 (terminals_of cursor.entry)) e) }
+/// ```
+fn add_float_32<'p, 'a>(
+    alloc: Global,
+    bytes: &mut Vec<u8>,
+    cursor: TokenCursor<'p, 'a>,
+) -> Result<TokenCursor<'p, 'a>, ParseFailure<'p, 'a>> {
+    let (n, rest) = float_32(alloc, cursor)?;
+    bytes.extend_from_slice(&n.to_le_bytes())?;
+    Ok(rest)
+}
+
+/// Parses a lane that is a 64-bit float, and appends its bytes in little-endian order.
+///
+/// # Proved
+///
+/// ```text
+/// ensures { MatchResult result
+/// (λ r. IsLane Lane.F64 (terminals_of cursor.entry) bytes.old.items bytes.new.items
+/// (terminals_of r))
+/// (λ e. Faults (grammar.lane_of Lane.F64 (terminals_of cursor.entry)) e) }
+/// ```
+fn add_float_64<'p, 'a>(
+    alloc: Global,
+    bytes: &mut Vec<u8>,
+    cursor: TokenCursor<'p, 'a>,
+) -> Result<TokenCursor<'p, 'a>, ParseFailure<'p, 'a>> {
+    let (n, rest) = float_64(alloc, cursor)?;
+    bytes.extend_from_slice(&n.to_le_bytes())?;
+    Ok(rest)
 }
 
 /// Returns the number of lanes of a vector with this lane type.

@@ -3,11 +3,11 @@
 
 use wat_lex::shim::prelude::*;
 use crate::parser::header::{closed, utf8_text};
-use crate::parser::names::{Names, variable_names};
+use crate::parser::names::Names;
 use crate::parser::places::duplicate_variable;
 use crate::parser::types::{global_type, limits, skip_two_closes, space_of, table_type};
 use crate::parser::uses::type_use;
-use crate::parser::variables::{NamedUse, Variables, without_names};
+use crate::parser::variables::{NamedUse, are_parameters_distinct, without_names};
 use wat_lex::shim::alloc::Global;
 use crate::ast::error::{Expected, Fault, ParseFailure};
 use crate::ast::fields::{ExternType, Field, Import, IndexSpace};
@@ -82,11 +82,10 @@ fn func_type<'p, 'a>(
     all: TokenCursor<'p, 'a>,
     rest: TokenCursor<'p, 'a>,
 ) -> Result<(ExternType, TokenCursor<'p, 'a>), ParseFailure<'p, 'a>> {
-    if variable_names(alloc, &uses, &Variables::none(alloc))?.is_none() {
+    if !are_parameters_distinct(alloc, &uses)? {
         return Err(ParseFailure::Text(duplicate_variable(alloc, all)?));
     }
-    let uses = without_names(alloc, &uses)?;
-    Ok((ExternType::Func(uses), rest))
+    Ok((ExternType::Func(without_names(uses)), rest))
 }
 
 /// Parses an inline import, after the identifier and inline exports of its field and `(import`, up

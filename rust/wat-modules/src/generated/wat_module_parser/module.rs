@@ -536,7 +536,7 @@ fn func<'p, 'a>(
     let (body, rest) = instructions(alloc, names, &uses, &locals, cursor, start)?;
     let local_names = local_names(alloc, &uses, &locals)?;
     let label_names = label_names(alloc, start)?;
-    let uses = without_names(alloc, &uses)?;
+    let uses = without_names(uses);
     let locals = locals_of(alloc, locals.types())?;
     Ok((
         Field::Func(Function {

@@ -26,6 +26,18 @@ struct Binding<'a> {
     name: Name<'a>,
 }
 
+/// The identifiers of the items that can be imported, in the order of their indices.
+struct ItemNames<'a> {
+    /// Identifiers of functions.
+    funcs: IndexedNames<'a>,
+    /// Identifiers of tables.
+    tables: IndexedNames<'a>,
+    /// Identifiers of memories.
+    memories: IndexedNames<'a>,
+    /// Identifiers of globals.
+    globals: IndexedNames<'a>,
+}
+
 /// The identifiers of each index space, in the order of their indices, and the types.
 pub(crate) struct Names<'a> {
     /// Identifiers of functions.
@@ -73,40 +85,123 @@ pub(crate) fn names_of<'p, 'a>(
     cursor: TokenCursor<'p, 'a>,
 ) -> Result<Option<Names<'a>>, AllocError> {
     let starts = starts(alloc, cursor)?;
-    let bindings = bindings(alloc, &starts)?;
-    let (type_names, types) = definitions(alloc, &starts)?;
+    names_at(alloc, &starts)
+}
+
+/// Returns the identifiers and types that fields define, by the tokens of each field after its
+/// opening parenthesis. Returns `None` if two identifiers in one index space are equal.
+///
+/// # Proved
+///
+/// ```text
+/// ensures context { IfOk result (λ found. IfSome found (λ names. context_of names ≡
+///     reading.context_by (map terminals_of starts.now)
+///     (reading.defined_types (map terminals_of starts.now)))) }
+/// ensures types { IfOk result (λ found. IfSome found (λ names. types_of names ≡
+///     reading.defined_types (map terminals_of starts.now))) }
+/// ensures distinct { IfOk result (λ found. is_some found ≡
+///     all_distinct (reading.defined_types (map terminals_of starts.now))
+///     (reading.context_by (map terminals_of starts.now)
+///     (reading.defined_types (map terminals_of starts.now)))) }
+/// ```
+fn names_at<'p, 'a>(
+    alloc: Global,
+    starts: &[TokenCursor<'p, 'a>],
+) -> Result<Option<Names<'a>>, AllocError> {
+    let (type_names, types) = definitions(alloc, starts)?;
     let Some(type_names) = IndexedNames::new(alloc, type_names)? else {
         return Ok(None);
     };
-    let Some(funcs) = names_among(alloc, &bindings, IndexSpace::Func)? else {
+    let bindings = bindings(alloc, starts)?;
+    let Some(items) = item_names(alloc, &bindings)? else {
         return Ok(None);
     };
-    let Some(tables) = names_among(alloc, &bindings, IndexSpace::Table)? else {
-        return Ok(None);
-    };
-    let Some(memories) = names_among(alloc, &bindings, IndexSpace::Mem)? else {
-        return Ok(None);
-    };
-    let Some(globals) = names_among(alloc, &bindings, IndexSpace::Global)? else {
-        return Ok(None);
-    };
-    let Some(elems) = IndexedNames::new(alloc, elem_names(alloc, &starts)?)? else {
-        return Ok(None);
-    };
-    let Some(datas) = IndexedNames::new(alloc, data_names(alloc, &starts)?)? else {
+    let Some((elems, datas)) = segment_names(alloc, starts)? else {
         return Ok(None);
     };
     Ok(Some(Names {
-        funcs,
-        tables,
-        memories,
-        globals,
+        funcs: items.funcs,
+        tables: items.tables,
+        memories: items.memories,
+        globals: items.globals,
         elems,
         datas,
         type_names,
         types,
         are_types_known: true,
     }))
+}
+
+/// Returns the identifiers of the items that can be imported, or `None` if two in one index space
+/// are equal.
+///
+/// # Proved
+///
+/// ```text
+/// ensures funcs { IfOk result (λ found. IfSome found (λ names. names.funcs ≡
+///     names_in IndexSpace.Func (map binding_of bindings.now))) }
+/// ensures tables { IfOk result (λ found. IfSome found (λ names. names.tables ≡
+///     names_in IndexSpace.Table (map binding_of bindings.now))) }
+/// ensures memories { IfOk result (λ found. IfSome found (λ names. names.memories ≡
+///     names_in IndexSpace.Mem (map binding_of bindings.now))) }
+/// ensures globals { IfOk result (λ found. IfSome found (λ names. names.globals ≡
+///     names_in IndexSpace.Global (map binding_of bindings.now))) }
+/// ensures distinct { IfOk result (λ found. is_some found ≡
+///     (are_distinct (names_in IndexSpace.Func (map binding_of bindings.now))
+///     && are_distinct (names_in IndexSpace.Table (map binding_of bindings.now))
+///     && are_distinct (names_in IndexSpace.Mem (map binding_of bindings.now))
+///     && are_distinct (names_in IndexSpace.Global (map binding_of bindings.now)))) }
+/// ```
+fn item_names<'a>(
+    alloc: Global,
+    bindings: &[Binding<'a>],
+) -> Result<Option<ItemNames<'a>>, AllocError> {
+    let Some(funcs) = names_among(alloc, bindings, IndexSpace::Func)? else {
+        return Ok(None);
+    };
+    let Some(tables) = names_among(alloc, bindings, IndexSpace::Table)? else {
+        return Ok(None);
+    };
+    let Some(memories) = names_among(alloc, bindings, IndexSpace::Mem)? else {
+        return Ok(None);
+    };
+    let Some(globals) = names_among(alloc, bindings, IndexSpace::Global)? else {
+        return Ok(None);
+    };
+    Ok(Some(ItemNames {
+        funcs,
+        tables,
+        memories,
+        globals,
+    }))
+}
+
+/// Returns the identifiers of element segments and of data segments, by the tokens of each field
+/// after its opening parenthesis. Returns `None` if two element segments, or two data segments,
+/// have the same identifier.
+///
+/// # Proved
+///
+/// ```text
+/// ensures elems { IfOk result (λ found. IfSome found (λ names. names.0 ≡
+///     flat_map reading.elem_name_at (map terminals_of starts.now))) }
+/// ensures datas { IfOk result (λ found. IfSome found (λ names. names.1 ≡
+///     flat_map reading.data_name_at (map terminals_of starts.now))) }
+/// ensures distinct { IfOk result (λ found. is_some found ≡
+///     (are_distinct (flat_map reading.elem_name_at (map terminals_of starts.now))
+///     && are_distinct (flat_map reading.data_name_at (map terminals_of starts.now)))) }
+/// ```
+fn segment_names<'p, 'a>(
+    alloc: Global,
+    starts: &[TokenCursor<'p, 'a>],
+) -> Result<Option<(IndexedNames<'a>, IndexedNames<'a>)>, AllocError> {
+    let Some(elems) = IndexedNames::new(alloc, elem_names(alloc, starts)?)? else {
+        return Ok(None);
+    };
+    let Some(datas) = IndexedNames::new(alloc, data_names(alloc, starts)?)? else {
+        return Ok(None);
+    };
+    Ok(Some((elems, datas)))
 }
 
 /// Returns `names` without types: any type index is accepted.

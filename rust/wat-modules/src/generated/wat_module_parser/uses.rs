@@ -5,7 +5,7 @@ use wat_lex::shim::prelude::*;
 use crate::parser::header::{closed, variables};
 use crate::parser::names::Names;
 use crate::parser::types::skip_two_closes;
-use crate::parser::variables::{ListedUse, NamedUse, Variables, function_type};
+use crate::parser::variables::{ListedUse, NamedUse, Variables, function_type, into_function_type};
 use wat_lex::shim::alloc::Global;
 use crate::ast::error::{Expected, FaultKind, ParseFailure, Space};
 use crate::ast::fields::Definition;
@@ -218,6 +218,6 @@ fn type_lists<'p, 'a>(
     let (params, rest) = variables(alloc, "param", true, cursor)?;
     let (results, rest) = variables(alloc, "result", false, rest)?;
     let rest = skip_two_closes(rest)?;
-    let of = function_type(alloc, &params, &results)?;
+    let of = into_function_type(params, results);
     Ok((Definition { name, of }, rest))
 }

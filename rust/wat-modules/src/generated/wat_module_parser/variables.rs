@@ -7,7 +7,7 @@ use wat_lex::shim::alloc::{AllocError, Global};
 use crate::ast::fields::{Locals, NameAssociation};
 use crate::ast::instruction::ValueType;
 use crate::ast::types::{FunctionType, TypeUse};
-use crate::instructions::names::{NameRun, push_unnamed};
+use crate::instructions::names::{NameRun, have_distinct_names, push_unnamed};
 
 /// Parameters, results or locals, in the order of their indices.
 pub(crate) struct Variables<'a> {
@@ -117,6 +117,29 @@ impl<'a> Variables<'a> {
         &self.types
     }
 
+    /// Returns the types of the variables.
+    ///
+    /// # Proved
+    ///
+    /// ```text
+    /// ensures { result.items ≡ map grammar.type_of self.entry }
+    /// ```
+    pub(crate) fn into_types(self) -> Vec<ValueType> {
+        self.types
+    }
+
+    /// Returns `true` if no two variables have the same identifier. Does not allocate if at most 8
+    /// variables have one.
+    ///
+    /// # Proved
+    ///
+    /// ```text
+    /// ensures { IfOk result (λ b. b ≡ are_distinct (map grammar.name_of self.now)) }
+    /// ```
+    pub(crate) fn are_distinct(&self, alloc: Global) -> Result<bool, AllocError> {
+        have_distinct_names(alloc, &self.names)
+    }
+
     /// Appends the identifiers of the variables to runs of items.
     ///
     /// # Proved
@@ -195,7 +218,7 @@ fn locals_after(
     Ok(locals)
 }
 
-/// Returns the function type with these parameters and results.
+/// Returns a copy of the function type with these parameters and results.
 ///
 /// # Proved
 ///
@@ -212,17 +235,49 @@ pub(crate) fn function_type(
     Ok(FunctionType { params, results })
 }
 
+/// Returns the function type with these parameters and results, whose identifiers are dropped.
+///
+/// # Proved
+///
+/// ```text
+/// ensures { type_of result ≡ grammar.function_type params.entry results.entry }
+/// ```
+pub(crate) fn into_function_type(params: Variables<'_>, results: Variables<'_>) -> FunctionType {
+    FunctionType {
+        params: params.into_types(),
+        results: results.into_types(),
+    }
+}
+
+/// Returns `true` if no two parameters of a type use have the same identifier.
+///
+/// # Proved
+///
+/// ```text
+/// ensures { IfOk result (λ b. b ≡
+/// are_distinct (map grammar.name_of (use_of uses.now).params)) }
+/// ```
+pub(crate) fn are_parameters_distinct(
+    alloc: Global,
+    uses: &NamedUse<'_, '_>,
+) -> Result<bool, AllocError> {
+    match uses {
+        NamedUse::Listed(listed) => listed.params.are_distinct(alloc),
+        NamedUse::Indexed(_, _) => Ok(true),
+    }
+}
+
 /// Returns the type use without the identifiers of its parameters.
 ///
 /// # Proved
 ///
 /// ```text
-/// ensures { IfOk result (λ u. bare.use_of u ≡ grammar.without_names (use_of uses.now)) }
+/// ensures { bare.use_of result ≡ grammar.without_names (use_of uses.entry) }
 /// ```
-pub(crate) fn without_names(alloc: Global, uses: &NamedUse<'_, '_>) -> Result<TypeUse, AllocError> {
+pub(crate) fn without_names(uses: NamedUse<'_, '_>) -> TypeUse {
     match uses {
-        NamedUse::Indexed(index, _) => Ok(TypeUse::Index(*index)),
-        NamedUse::Listed(listed) => listed_without_names(alloc, listed),
+        NamedUse::Indexed(index, _) => TypeUse::Index(index),
+        NamedUse::Listed(listed) => listed_without_names(listed),
     }
 }
 
@@ -232,15 +287,17 @@ pub(crate) fn without_names(alloc: Global, uses: &NamedUse<'_, '_>) -> Result<Ty
 /// # Proved
 ///
 /// ```text
-/// ensures { IfOk result (λ u. bare.use_of u ≡ grammar.without_names (listed_use_of uses.now)) }
+/// ensures { bare.use_of result ≡ grammar.without_names (listed_use_of uses.entry) }
 /// ```
-fn listed_without_names(alloc: Global, uses: &ListedUse<'_>) -> Result<TypeUse, AllocError> {
-    match uses.index {
-        Some(index) => Ok(TypeUse::Index(index)),
-        None => {
-            let of = function_type(alloc, &uses.params, &uses.results)?;
-            Ok(TypeUse::Inline(of))
-        }
+fn listed_without_names(uses: ListedUse<'_>) -> TypeUse {
+    let ListedUse {
+        index,
+        params,
+        results,
+    } = uses;
+    match index {
+        Some(index) => TypeUse::Index(index),
+        None => TypeUse::Inline(into_function_type(params, results)),
     }
 }
 

@@ -15,6 +15,66 @@ pub fn spelling_is_one() {
     crate::parser::laws::reading_is_grammar();
 }
 
+/// Theorem (no effect): what the annotations of a text define, or the error in them, is unique.
+///
+/// # Proved
+///
+/// ```text
+/// ensures { SectionsAreOne }
+/// ```
+pub fn sections_are_one() {
+    wat_lex::proved::laws::one_tiling();
+}
+
+/// Theorem (no effect): a text denotes at most one module with its identifier and its custom
+/// sections.
+///
+/// # Proved
+///
+/// ```text
+/// ensures { CompleteIsOne }
+/// ```
+pub fn complete_is_one() {
+    wat_lex::proved::laws::one_tiling();
+    wat_parser::proved::laws::all_shown();
+    crate::parser::laws::reading_is_grammar();
+}
+
+/// Theorem (no effect): a binary without custom sections is the module followed by its name
+/// section.
+///
+/// # Proved
+///
+/// ```text
+/// ensures { CompleteIsNamed }
+/// ```
+pub fn complete_is_named() {}
+
+/// Theorem (no effect): a text in which no annotation of the name `custom` or `name` may begin has
+/// neither custom sections nor names of annotations. Compiling it with these is compiling it with
+/// its name section alone.
+///
+/// # Proved
+///
+/// ```text
+/// ensures { UnannotatedIsNamed }
+/// ```
+pub fn unannotated_is_named() {}
+
+/// Theorem (no effect): the binary of a module with its name section and with what annotations
+/// define is the binary of the module, except for custom sections.
+///
+/// # Proved
+///
+/// ```text
+/// ensures { OnlyCustomsAreAdded }
+/// ```
+pub fn only_customs_are_added() {
+    wat_lex::proved::laws::one_tiling();
+    wat_parser::proved::laws::all_shown();
+    crate::parser::laws::reading_is_grammar();
+}
+
 /// Theorem (no effect): the test of whether an identifier is within a number of edits decides the
 /// definition of edits.
 ///

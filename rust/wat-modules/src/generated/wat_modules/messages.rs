@@ -19,44 +19,51 @@ pub(crate) struct Message<'t> {
     pub(crate) found: Found<'t>,
     /// Line and column, both from 0, of the first of two tokens, if the error has two.
     pub(crate) first: (usize, usize),
-    /// Identifier that is nearest to the token in error, if this is an unknown identifier.
+    /// Identifier that the message suggests for the token in error.
     pub(crate) near: Suggestion<'t>,
 }
 
 /// The token in error, as a message has it.
 #[derive(Clone, Copy)]
 pub(crate) enum Found<'t> {
-    /// The lexeme of the token.
-    Lexeme(&'t str),
-    /// The kind of the token, which is a string or a long lexeme.
+    /// The lexeme of the token, and the keyword after it if it is the `(` of a group, otherwise an
+    /// empty text.
+    Lexeme(&'t str, &'t str),
+    /// The kind of the token, whose lexeme messages do not have.
     Kind(TokenKind),
     /// The end of the text.
     End,
 }
 
-/// The identifier that is nearest to an unknown one, as a message has it.
+/// The identifier that a message suggests for the one in error: the nearest one in scope, or the
+/// label of a block.
 #[derive(Clone, Copy)]
 pub(crate) enum Suggestion<'t> {
     /// The lexeme of the identifier, and its line and column, both from 0.
     Name(&'t str, (usize, usize)),
-    /// No identifier is near, or none is unknown.
+    /// No identifier, or one whose lexeme messages do not have.
     Absent,
 }
 
-/// Returns the token in error, as a message has it.
+/// Returns the token in error, which the token `next` follows, as a message has it.
 ///
 /// # Proved
 ///
 /// ```text
-/// requires { IfSome token (IsTokenOf text.now) }
-/// ensures found { found_of result ≡ messages.found text.now token }
+/// requires token { IfSome token (IsTokenOf text.now) }
+/// requires next { IfSome next (IsTokenOf text.now) }
+/// ensures found { found_of result ≡ messages.found text.now token next }
 /// ensures named { named_of result ≡ messages.named text.now token }
 /// ```
-pub(crate) fn found_token<'t>(text: &'t str, token: Option<Token>) -> Found<'t> {
+pub(crate) fn found_token<'t>(
+    text: &'t str,
+    token: Option<Token>,
+    next: Option<Token>,
+) -> Found<'t> {
     match token {
         Some(token) => {
-            if is_short(token) {
-                Found::Lexeme(token.src(text))
+            if is_quotable(text, token) {
+                Found::Lexeme(token.src(text), keyword_after(text, token.kind, next))
             } else {
                 Found::Kind(token.kind)
             }
@@ -65,7 +72,58 @@ pub(crate) fn found_token<'t>(text: &'t str, token: Option<Token>) -> Found<'t> 
     }
 }
 
-/// Returns an identifier that is nearest to an unknown one, as a message has it.
+/// Returns what a message has after the lexeme of a token of this kind, which the token `next`
+/// follows: the keyword of a group after its `(`, and otherwise an empty text.
+///
+/// # Proved
+///
+/// ```text
+/// requires { IfSome next (IsTokenOf text.now) }
+/// ensures { result.now ≡ messages.keyword_after text.now kind next }
+/// ```
+fn keyword_after<'t>(text: &'t str, kind: TokenKind, next: Option<Token>) -> &'t str {
+    match kind {
+        TokenKind::LParen => keyword_of(text, next),
+        _ => "",
+    }
+}
+
+/// Returns the lexeme of a token, if it is a keyword and messages have its lexeme. Otherwise
+/// returns an empty text.
+///
+/// # Proved
+///
+/// ```text
+/// requires { IfSome token (IsTokenOf text.now) }
+/// ensures { result.now ≡ messages.keyword_of text.now token }
+/// ```
+fn keyword_of<'t>(text: &'t str, token: Option<Token>) -> &'t str {
+    match token {
+        Some(token) => match token.kind {
+            TokenKind::Keyword => quotable(text, token),
+            _ => "",
+        },
+        None => "",
+    }
+}
+
+/// Returns the lexeme of a token if messages have it, and otherwise an empty text.
+///
+/// # Proved
+///
+/// ```text
+/// requires { IsTokenOf text.now token }
+/// ensures { result.now ≡ messages.quotable text.now token }
+/// ```
+fn quotable<'t>(text: &'t str, token: Token) -> &'t str {
+    if is_quotable(text, token) {
+        token.src(text)
+    } else {
+        ""
+    }
+}
+
+/// Returns an identifier as a message suggests it, or nothing if messages do not have its lexeme.
 ///
 /// # Proved
 ///
@@ -75,11 +133,11 @@ pub(crate) fn found_token<'t>(text: &'t str, token: Option<Token>) -> Found<'t> 
 /// ```
 pub(crate) fn suggested<'t>(text: &'t str, token: Option<Token>) -> Suggestion<'t> {
     match token {
-        Some(token) => {
+        Some(token) if is_quotable(text, token) => {
             let location = Span::from_offset(token.offset).linecol_in(text);
             Suggestion::Name(token.src(text), location)
         }
-        None => Suggestion::Absent,
+        _ => Suggestion::Absent,
     }
 }
 
@@ -88,13 +146,54 @@ pub(crate) fn suggested<'t>(text: &'t str, token: Option<Token>) -> Suggestion<'
 /// # Proved
 ///
 /// ```text
-/// ensures { result ≡ messages.is_short token }
+/// requires { IsTokenOf text.now token }
+/// ensures { result ≡ messages.is_quotable text.now token }
 /// ```
-pub(crate) fn is_short(token: Token) -> bool {
+pub(crate) fn is_quotable(text: &str, token: Token) -> bool {
     match token.kind {
         TokenKind::String => false,
-        _ => token.len <= LONGEST,
+        _ => token.len <= LONGEST && !has_unprintable(token.src(text)),
     }
+}
+
+/// Returns `true` if a text has a character that no message has.
+///
+/// # Proved
+///
+/// ```text
+/// ensures { result ≡ list_any messages.is_unprintable (chars text.now) }
+/// ```
+fn has_unprintable(text: &str) -> bool {
+    for c in text.chars() {
+        if is_unprintable(c) {
+            return true;
+        }
+    }
+    false
+}
+
+/// Returns `true` for control characters, and for the 9 confusing characters, which make a text
+/// display misleadingly.
+///
+/// # Proved
+///
+/// ```text
+/// ensures { result ≡ messages.is_unprintable c }
+/// ```
+fn is_unprintable(c: char) -> bool {
+    c.is_control()
+        || matches!(
+            c,
+            '\u{202a}'
+                | '\u{202b}'
+                | '\u{202d}'
+                | '\u{202e}'
+                | '\u{2066}'
+                | '\u{2067}'
+                | '\u{2068}'
+                | '\u{2069}'
+                | '\u{206c}'
+        )
 }
 
 /// Returns the kind of an error in its message: a keyword that the grammar has is not unknown, but
@@ -183,7 +282,7 @@ impl fmt::Display for Message<'_> {
             FaultKind::UnknownName(space) => {
                 write!(f, "unknown {}{named}{}", noun(space), self.near)
             }
-            FaultKind::WrongLabel => write!(f, "mismatching label{named}"),
+            FaultKind::WrongLabel => write!(f, "mismatching label{named}{}", self.near),
             FaultKind::OutOfRange(range) => {
                 let values = Values(range);
                 write!(
@@ -216,7 +315,7 @@ impl fmt::Display for Message<'_> {
 impl fmt::Display for Found<'_> {
     fn fmt(&self, f: &mut fmt::Formatter<'_>) -> fmt::Result {
         match self {
-            Found::Lexeme(lexeme) => write!(f, "`{lexeme}`"),
+            Found::Lexeme(lexeme, keyword) => write!(f, "`{lexeme}{keyword}`"),
             Found::Kind(kind) => write!(f, "{}", kind_phrase(*kind)),
             Found::End => write!(f, "the end of the text"),
         }
@@ -230,7 +329,7 @@ struct Named<'t>(Found<'t>);
 impl fmt::Display for Named<'_> {
     fn fmt(&self, f: &mut fmt::Formatter<'_>) -> fmt::Result {
         match self.0 {
-            Found::Lexeme(lexeme) => write!(f, " `{lexeme}`"),
+            Found::Lexeme(lexeme, _) => write!(f, " `{lexeme}`"),
             Found::Kind(_) | Found::End => Ok(()),
         }
     }
@@ -361,7 +460,7 @@ fn phrase(expected: Expected) -> &'static str {
         Expected::Instruction => "an instruction",
         Expected::InstructionOrClose => "an instruction or `)`",
         Expected::InstructionOrEnd => "an instruction or `end`",
-        Expected::Then => "`(then`",
+        Expected::Then => "a folded instruction or `(then`",
         Expected::Else => "`else`",
         Expected::ElseOrClose => "`(else` or `)`",
         Expected::Expression => "an expression",

@@ -13,6 +13,8 @@ pub(crate) enum Kind {
     Json,
     /// The option `--no-names`.
     NoNames,
+    /// The option `--no-validate`.
+    NoValidate,
     /// The option `--check`.
     Check,
     /// The option `--write`.
@@ -59,7 +61,8 @@ impl Kind {
     /// ```
     pub(crate) fn leads(self) -> bool {
         match self {
-            Kind::Allow | Kind::Strict | Kind::Json | Kind::NoNames => true,
+            Kind::Allow | Kind::Strict | Kind::Json => true,
+            Kind::NoNames | Kind::NoValidate => true,
             Kind::Named | Kind::Output => true,
             Kind::Check | Kind::Write | Kind::Diff | Kind::File | Kind::Wrong => false,
         }
@@ -116,6 +119,7 @@ fn alone_kind(word: &String) -> Kind {
         "--strict-underscores" => Kind::Strict,
         "--json" => Kind::Json,
         "--no-names" => Kind::NoNames,
+        "--no-validate" => Kind::NoValidate,
         "--check" => Kind::Check,
         "--write" => Kind::Write,
         "--diff" => Kind::Diff,

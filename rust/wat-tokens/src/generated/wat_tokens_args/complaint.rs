@@ -41,6 +41,8 @@ pub enum Complaint<'a> {
     NoOutput,
     /// `--no-names` with a command other than `module`.
     NoNames,
+    /// `--no-validate` with a command other than `module`.
+    NoValidate,
     /// `-o` with the name of the input file.
     Overwrites,
     /// `--check`, `--write` or `--diff` with a command other than `fmt`.
@@ -83,6 +85,9 @@ impl fmt::Display for Complaint<'_> {
             }
             Complaint::NoNames => {
                 write!(f, "wat_tokens: --no-names goes with module alone{MORE}")
+            }
+            Complaint::NoValidate => {
+                write!(f, "wat_tokens: --no-validate goes with module alone{MORE}")
             }
             Complaint::Overwrites => write!(f, "wat_tokens: -o names the input file{MORE}"),
             Complaint::NoMode => write!(
@@ -166,13 +171,14 @@ fn goes_beyond(words: &[String], there: bool) -> bool {
     let line = Line::of(words);
     times(Kind::Json, line.front) > 0
         || times(Kind::NoNames, line.front) > 0
+        || times(Kind::NoValidate, line.front) > 0
         || times(Kind::Named, line.front) > 0
         || times(Kind::Output, line.front) > 0
         || rest_goes_beyond(after_front(words), there)
 }
 
-/// Returns the first of five options that is given more than once: `--allow-confusing`,
-/// `--strict-underscores`, `--json`, `--no-names` and `-o`.
+/// Returns the first of six options that is given more than once: `--allow-confusing`,
+/// `--strict-underscores`, `--json`, `--no-names`, `--no-validate` and `-o`.
 ///
 /// # Proved
 ///
@@ -192,6 +198,9 @@ fn repeated(line: Line<'_>) -> Option<&'static str> {
     }
     if line.times(Kind::NoNames) > 1 {
         return Some("--no-names");
+    }
+    if line.times(Kind::NoValidate) > 1 {
+        return Some("--no-validate");
     }
     if line.times(Kind::Output) > 1 {
         return Some("-o");
@@ -305,6 +314,9 @@ fn wrong_option(line: Line<'_>) -> Option<Complaint<'_>> {
     }
     if rejects(line, Kind::NoNames) {
         return Some(Complaint::NoNames);
+    }
+    if rejects(line, Kind::NoValidate) {
+        return Some(Complaint::NoValidate);
     }
     if rejects_mode(line) {
         return Some(Complaint::NoMode);

@@ -57,7 +57,8 @@ options, before the command or, except with `sig` and `play`, anywhere after it:
   --file NAME           read this file; may be given more than once
   -o, --output FILE     write the bytes of `types` or `module` to FILE, if the text compiles; `-` is
                         standard output, also if that is a terminal
-  --no-names            write `module` without a name section
+  --no-names            write `module` without name section and custom sections
+  --no-validate         write `module` also if it is not valid
   -h, --help            this text; first, or after `list`, `blank`, `types`, `module` or `fmt`
   -V, --version         the version, as first word
 
@@ -69,8 +70,8 @@ calls of a parser:
   unreg=NAME  hide them again
   parens=N    parse a group in parentheses with up to N tokens in it
 
-exit status: 0 if all is written, 1 if a text has a lexical or syntax error or is not formatted,
-2 otherwise.
+exit status: 0 if all is written, 1 if a text has a lexical or syntax error, is not valid or is
+not formatted, 2 otherwise.
 
 examples:
   wat_tokens a.wat

@@ -30,6 +30,15 @@ impl Calls<'_> {
     }
 }
 
+/// The options of `module`.
+#[derive(Clone, Copy, Debug, PartialEq, Eq)]
+pub struct ModuleOptions {
+    /// The bytes have a name section and custom sections.
+    pub has_names: bool,
+    /// The module must be valid.
+    pub is_checked: bool,
+}
+
 /// The output to produce for each text.
 pub enum Task<'a> {
     /// A line for each raw token.
@@ -46,8 +55,8 @@ pub enum Task<'a> {
     Blank,
     /// The bytes of a module whose fields are all function types.
     Types,
-    /// The bytes of a module, with a name section if `true`.
-    Module(bool),
+    /// The bytes of a module, with these options.
+    Module(ModuleOptions),
 }
 
 /// The action of `fmt` for each text.
@@ -214,6 +223,32 @@ impl<'a> Line<'a> {
         self.times(Kind::NoNames) == 0
     }
 
+    /// Returns `true` unless `--no-validate` is given.
+    ///
+    /// # Proved
+    ///
+    /// ```text
+    /// ensures { result ≡ validates (all_args (line_parts self.now)) }
+    /// ```
+    fn validates(&self) -> bool {
+        self.times(Kind::NoValidate) == 0
+    }
+
+    /// Returns the options of `module`.
+    ///
+    /// # Proved
+    ///
+    /// ```text
+    /// ensures names { result.has_names ≡ wants_names (all_args (line_parts self.now)) }
+    /// ensures checked { result.is_checked ≡ validates (all_args (line_parts self.now)) }
+    /// ```
+    fn module_options(&self) -> ModuleOptions {
+        ModuleOptions {
+            has_names: self.wants_names(),
+            is_checked: self.validates(),
+        }
+    }
+
     /// Returns `true` if the command accepts each of its arguments.
     ///
     /// # Proved
@@ -254,7 +289,7 @@ impl<'a> Line<'a> {
     }
 
     /// Returns the lexer settings that the flags select, or `None` if `--allow-confusing`,
-    /// `--strict-underscores`, `--json` or `--no-names` is given twice.
+    /// `--strict-underscores`, `--json`, `--no-names` or `--no-validate` is given twice.
     ///
     /// # Proved
     ///
@@ -267,7 +302,10 @@ impl<'a> Line<'a> {
     fn settings(&self) -> Option<Settings> {
         let allow = self.times(Kind::Allow);
         let strict = self.times(Kind::Strict);
-        if allow > 1 || strict > 1 || self.times(Kind::Json) > 1 || self.times(Kind::NoNames) > 1 {
+        if allow > 1 || strict > 1 || self.times(Kind::Json) > 1 {
+            return None;
+        }
+        if self.times(Kind::NoNames) > 1 || self.times(Kind::NoValidate) > 1 {
             return None;
         }
         Some(Settings {
@@ -490,7 +528,7 @@ impl Verb {
             Kind::Allow | Kind::Strict => self.takes_flags(),
             Kind::Json => matches!(self, Verb::List | Verb::Sig),
             Kind::Check | Kind::Write | Kind::Diff => self == Verb::Fmt,
-            Kind::NoNames => self == Verb::Module,
+            Kind::NoNames | Kind::NoValidate => self == Verb::Module,
             Kind::Output => matches!(self, Verb::Types | Verb::Module),
             Kind::Named | Kind::File => true,
             Kind::Wrong => false,
@@ -524,9 +562,9 @@ fn read_calls(alloc: Global, words: &[String]) -> Result<Option<Vec<Call>>, Allo
 /// # Proved
 ///
 /// ```text
-/// ensures { (names : Bool) → MatchOption result
-/// ((t : Task) → ¬ AsksTask verb true names words.now t)
-/// (AsksTask verb true names words.now) }
+/// ensures { (names valid : Bool) → MatchOption result
+/// ((t : Task) → ¬ AsksTask verb true names valid words.now t)
+/// (AsksTask verb true names valid words.now) }
 /// ```
 fn json_task_of(verb: Verb, words: &[String]) -> Option<Task<'_>> {
     match verb {
@@ -537,22 +575,21 @@ fn json_task_of(verb: Verb, words: &[String]) -> Option<Task<'_>> {
 }
 
 /// Returns the task of a command with the given names or calls. Returns `None` for `fmt`, for a
-/// word of `play` that is not a call, and for `json` with a command that writes no JSON. A module
-/// has a name section if `names` is `true`.
+/// word of `play` that is not a call, and for `json` with a command that writes no JSON.
 ///
 /// # Proved
 ///
 /// ```text
 /// ensures asked { IfOk result (λ task. MatchOption task
-///     ((t : Task) → ¬ AsksTask verb json names words.now t)
-///     (AsksTask verb json names words.now)) }
+///     ((t : Task) → ¬ AsksTask verb json options.has_names options.is_checked words.now t)
+///     (AsksTask verb json options.has_names options.is_checked words.now)) }
 /// ensures refused { OnErr result (verb ≡ verbs.Play) }
 /// ```
 fn task_of<'a>(
     alloc: Global,
     verb: Verb,
     json: bool,
-    names: bool,
+    options: ModuleOptions,
     words: &'a [String],
 ) -> Result<Option<Task<'a>>, AllocError> {
     if json {
@@ -564,7 +601,7 @@ fn task_of<'a>(
         Verb::Play => read_calls(alloc, words)?.map(|calls| Task::Play(Calls::Owned(calls))),
         Verb::Blank => Some(Task::Blank),
         Verb::Types => Some(Task::Types),
-        Verb::Module => Some(Task::Module(names)),
+        Verb::Module => Some(Task::Module(options)),
         Verb::Fmt => None,
     })
 }
@@ -626,8 +663,8 @@ fn run_of<'a>(
     let Some(settings) = line.settings() else {
         return Ok(None);
     };
-    let (json, names) = (line.wants_json(), line.wants_names());
-    let Some(task) = task_of(alloc, line.verb, json, names, line.own)? else {
+    let (json, options) = (line.wants_json(), line.module_options());
+    let Some(task) = task_of(alloc, line.verb, json, options, line.own)? else {
         return Ok(None);
     };
     let target = line.first(Kind::Output);

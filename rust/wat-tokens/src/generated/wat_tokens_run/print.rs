@@ -7,8 +7,8 @@ use crate::shim::alloc::{AllocError, Global};
 use wat_lex::proved::error::Error;
 use wat_lex::proved::lexer::{Lexer, Settings};
 use wat_parser::proved::laws;
-use wat_modules::proved::{compile, compile_with_names};
-use crate::options::options::Task;
+use wat_modules::proved::{compile, compile_valid, compile_valid_without_names, compile_with_customs};
+use crate::options::options::{ModuleOptions, Task};
 use wat_format::lines::ends::{Failed, Sink};
 use wat_format::lines::row::object_open;
 use crate::lists::blank::write_blanked;
@@ -274,8 +274,8 @@ fn print_types<W: Sink>(
     }
 }
 
-/// Writes the bytes of a module without a name section. If the text does not compile, writes
-/// nothing and returns the error.
+/// Writes the bytes of a module without a name section and custom sections. If the text does not
+/// compile, writes nothing and returns the error.
 ///
 /// # Proved
 ///
@@ -300,24 +300,24 @@ fn print_unnamed<W: Sink>(
     }
 }
 
-/// Writes the bytes of a module with a name section. If the text does not compile, writes nothing
-/// and returns the error.
+/// Writes the bytes of a module with a name section and custom sections. If the text does not
+/// compile, writes nothing and returns the error.
 ///
 /// # Proved
 ///
 /// ```text
 /// requires text { length text.now < 2 ^ 32 }
 /// requires output { W.failure output.old ≡ None }
-/// ensures printed { Writes W.held W.failure (CompilesNamed text.now)
+/// ensures printed { Writes W.held W.failure (CompilesComplete text.now)
 ///     output.old output.new result }
 /// ensures refused { IfErr result (λ e. IsFailedWrite e ⊎ (e ≡ RunFailure.Memory alloc_error)) }
 /// ```
-fn print_named<W: Sink>(
+fn print_complete<W: Sink>(
     alloc: Global,
     text: &str,
     output: &mut W,
 ) -> Result<Option<Error>, RunFailure> {
-    match compile_with_names(alloc, text) {
+    match compile_with_customs(alloc, text) {
         Ok(bytes) => print_text(&bytes, None, output),
         Err(failure) => match failure.alloc_error() {
             Some(refused) => Err(RunFailure::from(refused)),
@@ -326,28 +326,130 @@ fn print_named<W: Sink>(
     }
 }
 
-/// Writes the bytes of a module, with a name section if `names`. If the text does not compile,
-/// writes nothing and returns the error.
+/// Writes the bytes of a valid module without a name section and custom sections. If the text does
+/// not compile, or the module is not valid, writes nothing and returns the error.
 ///
 /// # Proved
 ///
 /// ```text
 /// requires text { length text.now < 2 ^ 32 }
 /// requires output { W.failure output.old ≡ None }
-/// ensures printed { Writes W.held W.failure (CompilesModule names text.now)
+/// ensures printed { Writes W.held W.failure (CompilesValidUnnamed text.now)
+///     output.old output.new result }
+/// ensures refused { IfErr result (λ e. IsFailedWrite e ⊎ (e ≡ RunFailure.Memory alloc_error)) }
+/// ```
+fn print_valid_unnamed<W: Sink>(
+    alloc: Global,
+    text: &str,
+    output: &mut W,
+) -> Result<Option<Error>, RunFailure> {
+    match compile_valid_without_names(alloc, text) {
+        Ok(bytes) => print_text(&bytes, None, output),
+        Err(report) => match report.alloc_error() {
+            Some(refused) => Err(RunFailure::from(refused)),
+            None => print_text(b"", Some(report), output),
+        },
+    }
+}
+
+/// Writes the bytes of a valid module with a name section and custom sections. If the text does not
+/// compile, or the module is not valid, writes nothing and returns the error.
+///
+/// # Proved
+///
+/// ```text
+/// requires text { length text.now < 2 ^ 32 }
+/// requires output { W.failure output.old ≡ None }
+/// ensures printed { Writes W.held W.failure (CompilesValid text.now)
+///     output.old output.new result }
+/// ensures refused { IfErr result (λ e. IsFailedWrite e ⊎ (e ≡ RunFailure.Memory alloc_error)) }
+/// ```
+fn print_valid<W: Sink>(
+    alloc: Global,
+    text: &str,
+    output: &mut W,
+) -> Result<Option<Error>, RunFailure> {
+    match compile_valid(alloc, text) {
+        Ok(bytes) => print_text(&bytes, None, output),
+        Err(problem) => match problem.alloc_error() {
+            Some(refused) => Err(RunFailure::from(refused)),
+            None => print_text(b"", Some(problem), output),
+        },
+    }
+}
+
+/// Writes the bytes of a module, with a name section and custom sections if `has_names`. If the
+/// text does not compile, writes nothing and returns the error.
+///
+/// # Proved
+///
+/// ```text
+/// requires text { length text.now < 2 ^ 32 }
+/// requires output { W.failure output.old ≡ None }
+/// ensures printed { Writes W.held W.failure (CompilesAs has_names false text.now)
+///     output.old output.new result }
+/// ensures refused { IfErr result (λ e. IsFailedWrite e ⊎ (e ≡ RunFailure.Memory alloc_error)) }
+/// ```
+fn print_any<W: Sink>(
+    alloc: Global,
+    text: &str,
+    has_names: bool,
+    output: &mut W,
+) -> Result<Option<Error>, RunFailure> {
+    if has_names {
+        print_complete(alloc, text, output)
+    } else {
+        print_unnamed(alloc, text, output)
+    }
+}
+
+/// Writes the bytes of a valid module, with a name section and custom sections if `has_names`. If
+/// the text does not compile, or the module is not valid, writes nothing and returns the error.
+///
+/// # Proved
+///
+/// ```text
+/// requires text { length text.now < 2 ^ 32 }
+/// requires output { W.failure output.old ≡ None }
+/// ensures printed { Writes W.held W.failure (CompilesAs has_names true text.now)
+///     output.old output.new result }
+/// ensures refused { IfErr result (λ e. IsFailedWrite e ⊎ (e ≡ RunFailure.Memory alloc_error)) }
+/// ```
+fn print_checked<W: Sink>(
+    alloc: Global,
+    text: &str,
+    has_names: bool,
+    output: &mut W,
+) -> Result<Option<Error>, RunFailure> {
+    if has_names {
+        print_valid(alloc, text, output)
+    } else {
+        print_valid_unnamed(alloc, text, output)
+    }
+}
+
+/// Writes the bytes of a module, with these options. If the text does not compile, or the module
+/// must be valid and is not, writes nothing and returns the error.
+///
+/// # Proved
+///
+/// ```text
+/// requires text { length text.now < 2 ^ 32 }
+/// requires output { W.failure output.old ≡ None }
+/// ensures printed { Writes W.held W.failure (CompilesModule options text.now)
 ///     output.old output.new result }
 /// ensures refused { IfErr result (λ e. IsFailedWrite e ⊎ (e ≡ RunFailure.Memory alloc_error)) }
 /// ```
 fn print_module<W: Sink>(
     alloc: Global,
     text: &str,
-    names: bool,
+    options: ModuleOptions,
     output: &mut W,
 ) -> Result<Option<Error>, RunFailure> {
-    if names {
-        print_named(alloc, text, output)
+    if options.is_checked {
+        print_checked(alloc, text, options.has_names, output)
     } else {
-        print_unnamed(alloc, text, output)
+        print_any(alloc, text, options.has_names, output)
     }
 }
 
@@ -383,7 +485,7 @@ fn print_of<W: Sink>(
         }
         Task::Blank => print_blank(alloc, text, settings, output),
         Task::Types => print_types(alloc, text, output),
-        Task::Module(names) => print_module(alloc, text, *names, output),
+        Task::Module(options) => print_module(alloc, text, *options, output),
     }
 }
 
