@@ -82,7 +82,7 @@ def report(name, count, seconds, used):
 def commands():
     """Returns the commands of the loops, by name."""
     program = pathlib.Path(os.environ.get("WAT_PROGRAM", ROOT / "rust/target/release/wat_tokens")).resolve()
-    found = {"`wat_tokens module`, a process for each text": f"{program} module"}
+    found = {"`wat_tokens module --no-validate`, a process for each text": f"{program} module --no-validate"}
     return found | ({"`wat2wasm --no-check`, a process for each text": "wat2wasm --no-check -o /dev/null"} if shutil.which("wat2wasm") else {})
 
 

@@ -1,5 +1,6 @@
 """The known differences between the results of `wat2wasm` 1.0.32, wast 222 and the program under test, for compare_modules.py."""
 import functools
+import itertools
 
 import module_tokens as tokens_of
 from generate_modules import FORMS, laid
@@ -152,3 +153,81 @@ def written_for(oracle, tokens):
             names.append(name)
         tokens = changed
     return tokens, names
+
+
+# Modules that `wat2wasm` 1.0.32 accepts and that are not valid, by the cause. Three rules change the units of a text so that the new text is valid if
+# and only if the old one is, and `wat2wasm` does not have the fault there.
+SELECTED = "whose typed `select` leaves another type, for which wat2wasm does not look"
+NO_OFFSET = "with an offset, an initial value or an element without instructions, which wat2wasm accepts"
+OF_EXTERNREF = "with a `call_indirect` through a table of `externref`, which wat2wasm accepts"
+OF_NUMBER = "with `ref.is_null` of a number, which wat2wasm accepts"
+NUMBERS = "with elements of numbers, which wat2wasm accepts"
+# Valid modules that it rejects.
+OF_GLOBAL = "with `global.get` as an element, which wat2wasm rejects"
+
+
+def with_typed_results(units):
+    """Returns units with a block after each typed `select` that has its type as parameter and result."""
+    made = []
+    for unit in units:
+        made.append(unit)
+        if unit[:3] == ["select", "(", "result"] and len(unit) == 5:
+            made += [["block", "(", "param", unit[3], ")", "(", "result", unit[3], ")"], ["end"]]
+    return made
+
+
+def with_checked_tables(units):
+    """Returns units with instructions before each `call_indirect` that only a table of functions allows, and that leave the operands."""
+    made = []
+    for unit in units:
+        if unit[0] == "call_indirect":
+            table = unit[1] if len(unit) > 1 and unit[1].isdigit() else "0"
+            made += [["i32.const", "0"], ["ref.null", "func"], ["i32.const", "0"], ["table.fill", table]]
+        made.append(unit)
+    return made
+
+
+def with_references(units):
+    """Returns units with a block before each `ref.is_null` that has a reference type as parameter and result: each choice of types, for few of them."""
+    places = [at for at, unit in enumerate(units) if unit == ["ref.is_null"]]
+    if len(places) > 4:
+        return []
+    made = []
+    for kinds in itertools.product(["funcref", "externref"], repeat=len(places)):
+        new = list(units)
+        for at, kind in reversed(list(zip(places, kinds))):
+            new[at:at] = [["block", "(", "param", kind, ")", "(", "result", kind, ")"], ["end"]]
+        made.append(new)
+    return made
+
+
+def has_empty_expression(units):
+    """Returns `True` if an offset, an initial value or an element has no instructions."""
+    heads = (["(", "global"], ["(", "item"])
+    return any(
+        (unit[-1] == "offset" or unit[:2] in heads) and unit.count("(") > unit.count(")") and after == [")"]
+        for unit, after in zip(units, units[1:])
+    )
+
+
+def has_global_element(units):
+    """Returns `True` if an element is the value of a global."""
+    return any(unit == ["(", "item"] and after[0] == "global.get" for unit, after in zip(units, units[1:]))
+
+
+def validity_difference(verdict, units, ours, theirs):
+    """Returns the name of the known difference that explains why `wat2wasm`, whose verdict on a text `verdict` returns, accepts a module that is not
+    valid, or rejects a valid one. Returns `None` if there is none."""
+    if ours == "=":
+        is_global = theirs.startswith("! invalid elem expression") and has_global_element(units)
+        return OF_GLOBAL if is_global else None
+    if theirs != "=":
+        return None
+    if ours.startswith(("! unknown reference type", "! expected a reference type")):
+        return NUMBERS
+    if has_empty_expression(units) and "not a constant expression" in ours:
+        return NO_OFFSET
+    for name, changed in ((SELECTED, [with_typed_results(units)]), (OF_EXTERNREF, [with_checked_tables(units)]), (OF_NUMBER, with_references(units))):
+        if changed and changed[0] != units and all(verdict("\n".join(" ".join(unit) for unit in some)) != "=" for some in changed):
+            return name
+    return None

@@ -72,7 +72,10 @@ PLACES = {
     "wat_module_instructions": ("", "crate::instructions"),
     "wat_module_parser": ("", "crate::parser"),
     "wat_module_custom": ("", "crate::custom"),
+    "wat_module_annotations": ("", "crate::annotations"),
     "wat_module_encoder": ("", "crate::encoder"),
+    "wat_valid": ("", "crate::validation"),
+    "wat_module_places": ("", "crate::places"),
     "wat_modules": ("wat_modules::proved", "crate::proved"),
     "example_imports": ("", "crate::imports"),
 }
@@ -80,7 +83,8 @@ PLACES = {
 FORMATTER = {"wat_format", "wat_tokens_io"}
 PROGRAM = {"wat_tokens_output", "wat_tokens_args", "wat_tokens_run", "wat_tokens"}
 MODULES = {
-    "wat_module_tokens", "wat_module_lexer", "wat_module_ast", "wat_module_instructions", "wat_module_parser", "wat_module_custom", "wat_module_encoder",
+    "wat_module_tokens", "wat_module_lexer", "wat_module_ast", "wat_module_instructions", "wat_module_parser", "wat_module_custom",
+    "wat_module_annotations", "wat_module_encoder", "wat_module_places", "wat_valid",
     "wat_modules", "wat_types",
 }
 TOGETHER = [{"wat_words", "wat_floats", "wat_lexer_parser"}, {"wat_c_records", "wat_c"}, FORMATTER, PROGRAM, MODULES]

@@ -42,6 +42,12 @@ REFUSALS = [
     ),
     ("wat_module_ast/src/fields.rt", "len_of", "return Err(AllocError)", "of more bytes than a `Vec` has: a request for them is refused"),
     (
+        "wat_module_encoder/src/code.rt",
+        "sum",
+        "None => Err(AllocError)",
+        "of 2^64 locals of one type or more, while each local that the parser reads is one of at most 2^32 tokens",
+    ),
+    (
         "wat_tokens/src/main.rt",
         "not_read",
         "io::ErrorKind::OutOfMemory => Outcome::Refused(RunFailure::from(AllocError))",
@@ -85,6 +91,13 @@ REQUESTS = [
         "self.types.reserve(1)",
         "let key = type_key(self.alloc, &of)?; let index = self.types.len();",
         "room for a single type",
+    ),
+    (
+        "wat_valid/src/context.rt",
+        "declared_of",
+        "vec![in alloc; false; count]",
+        "let mut declared =",
+        "a byte for each function of the module",
     ),
     (
         "wat_module_parser/src/variables.rt",

@@ -1,6 +1,6 @@
 #!/usr/bin/env python3
-"""Finds texts for which time or memory of `wat_tokens module` grows faster than the text. Each kind of module, those of tools/test/cost/texts.py and
-those of MORE, is compiled with 6.25, 12.5, 25 and 50 MB. A time is the user and system time of a process, a memory its largest resident size, each
+"""Finds texts for which time or memory of `wat_tokens module --no-validate` grows faster than the text. Each kind of module, those of
+tools/test/cost/texts.py and those of MORE, is compiled with 6.25, 12.5, 25 and 50 MB. A time is the user and system time of a process, a memory its largest resident size, each
 the least of three runs. It is a fault if doubling the text multiplies one of them by more than 2.6, or if a process takes more than 120 s or 12 GB. As
 other processes disturb the times, a kind with a fault is measured again, at most ten times, and the least of all runs count.
 
@@ -32,6 +32,8 @@ MORE = {
     "branches_shadowed": body(lambda i: "block $l br $l\n", "end "),
     "branch_tables_deep": body(lambda i: f"block $l{i} (br_table $l{i // 2} $l{i // 3} $l0 (i32.const 0))\n", "end "),
     "calls_by_name": lines(lambda i: f"(func $f{i} call $f{i // 2} call $f0)\n"),
+    "customs": lines(lambda i: f'(@custom "c{i}" "a")\n'),
+    "customs_placed": lines(lambda i: f'(@custom "c{i}" (after type) "a")\n'),
     "data_named": lines(lambda i: f'(data $d{i} "a") (func data.drop $d{i // 2})\n'),
     "elements_named": lines(lambda i: f"(elem $e{i} func 0) (func elem.drop $e{i // 2})\n", "(module (func)\n"),
     "error_duplicate": lines(lambda i: f"(func $f{i})\n", tail="(func $f0))\n"),
@@ -46,6 +48,7 @@ MORE = {
     "locals_by_name": lines(
         lambda i: f"local.get $x{i % 1000} drop\n", "(module (func " + "".join(f"(param $x{i} i32)" for i in range(1000)), "))\n"
     ),
+    "names_annotated": lines(lambda i: f'(func (@name "f{i}") (param (@name "p{i}") i32) block (@name "l{i}") end)\n'),
     "numbers": body(lambda i: f"i64.const 0x{i:_x} f64.const 1e{i % 300} f32.const nan:0x{i % 1000 + 1:x} drop drop drop\n"),
     "parameters": lines(lambda _: "(param i32)", "(module (func ", "))\n"),
     "parameters_named": lines(lambda i: f"(param $p{i} i32)", "(module (func ", "))\n"),
@@ -67,7 +70,7 @@ def limit():
 def measured(program, path):
     """Returns a process's status, its processor time in seconds and its largest resident size in MB."""
     with open(os.devnull, "wb") as nothing:
-        process = subprocess.Popen([program, "module", str(path)], stdout=nothing, stderr=nothing, preexec_fn=limit)
+        process = subprocess.Popen([program, "module", "--no-validate", str(path)], stdout=nothing, stderr=nothing, preexec_fn=limit)
         _, status, usage = os.wait4(process.pid, 0)
     process.returncode = os.waitstatus_to_exitcode(status)
     return process.returncode, usage.ru_utime + usage.ru_stime, usage.ru_maxrss / 1024

@@ -232,7 +232,7 @@ def modules(room):
     """Compiles modules of more than a megabyte."""
     text, wanted = module(36_000)
     room.check("module, types", ["module"], text, times=35, writes=1, wanted=wanted)
-    text = b"(module\n" + b"".join(b"(func $f%d (result i32) i32.const %d call $f%d)\n" % (i, i, i) for i in range(24_000)) + b")"
+    text = b"(module\n" + b"".join(b"(func $f%d (result i32) i32.const %d drop call $f%d)\n" % (i, i, i) for i in range(24_000)) + b")"
     compiled = room.check("module, functions", ["module"], text, times=24, writes=1)
     if not compiled.startswith(b"\0asm\x01\0\0\0"):
         room.faults.append("module, functions: it wrote no module")

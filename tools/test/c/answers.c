@@ -364,6 +364,20 @@ static struct wat_checked checked(const char *text) {
     return wat_check(bytes_of(text), strlen(text), true, out, CAPACITY);
 }
 
+/* Checks that custom annotations define sections of a binary with names, and are skipped in a binary without names. */
+static void custom_sections(void) {
+    static const uint8_t binary[] = "\0asm\1\0\0\0\0\003\001aA", function[] = "\0asm\1\0\0\0\1\4\1\140\0\0\3\2\1\0\012\4\1\2\0\013";
+    static const char custom[] = "(@custom \"a\" \"A\")", misplaced[] = "(func (@custom 4))";
+    uint8_t out[CAPACITY] = {0};
+    struct wat_answer given = wat_compile(bytes_of(custom), strlen(custom), true, out, CAPACITY);
+    expect(given.status == WAT_GIVEN && given.needed == 13 && memcmp(out, binary, 13) == 0, "wat_compile", custom);
+    given = wat_compile(bytes_of(custom), strlen(custom), false, out, CAPACITY);
+    expect(given.status == WAT_GIVEN && given.needed == 8 && memcmp(out, binary, 8) == 0, "wat_compile", custom);
+    given = wat_compile(bytes_of(misplaced), strlen(misplaced), false, out, CAPACITY);
+    expect(given.status == WAT_GIVEN && given.needed == 24 && memcmp(out, function, 24) == 0, "wat_compile", misplaced);
+    expect(wat_check(bytes_of(misplaced), strlen(misplaced), false, out, CAPACITY).status == WAT_ABSENT, "wat_check", misplaced);
+}
+
 /* Checks binaries, and the offset and the length of errors. tools/test/c_library.sh compares the messages with those of tests/modules.txt. */
 static void modules(void) {
     static const uint8_t binary[] = "\0asm\1\0\0\0\0\011\004name\0\002\001m";
@@ -371,7 +385,8 @@ static void modules(void) {
     static const struct {
         const char *text;
         size_t offset, len;
-    } errors[] = {{"(module (func frob))", 14, 4}, {"(module", 7, 0}, {"(module \"\\q\")", 10, 0}, {"(module) $\"x\"", 9, 4}, {"(module (@a", 9, 2}};
+    } errors[] = {{"(module (func frob))", 14, 4}, {"(module", 7, 0}, {"(module \"\\q\")", 10, 0}, {"(module) $\"x\"", 9, 4}, {"(module (@a", 9, 2},
+                  {"(func (@custom \"a\"))", 6, 1}, {"(module (@custom 4))", 17, 1}, {"(@custom 4) (func frob)", 18, 4}};
     uint8_t out[CAPACITY] = {0};
     struct wat_answer given = wat_compile(bytes_of(named), 11, true, out, CAPACITY);
     size_t i;
@@ -381,6 +396,7 @@ static void modules(void) {
     expect(given.status == WAT_GIVEN && given.needed == 8 && memcmp(out, binary, 8) == 0 && out[8] == '#', "wat_compile", named);
     expect(checked(named).status == WAT_ABSENT && checked("").status == WAT_ABSENT, "wat_check", named);
     expect(checked("(module) ;; \xe2\x80\xae").status == WAT_ABSENT, "wat_check", "U+202E");
+    custom_sections();
     for (i = 0; i < sizeof errors / sizeof *errors; i++) {
         const char *text = errors[i].text;
         struct wat_checked error = checked(text);
