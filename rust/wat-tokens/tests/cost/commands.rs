@@ -12,7 +12,7 @@ use wat_tokens::shim::alloc::{AllocError, Global};
 use wat_tokens::shim::prelude::String as Word;
 
 /// The arguments of the commands.
-pub const COMMANDS: [&str; 10] = [
+pub const COMMANDS: [&str; 11] = [
     "list",
     "--json list",
     "sig a",
@@ -21,6 +21,7 @@ pub const COMMANDS: [&str; 10] = [
     "blank",
     "types",
     "module",
+    "module --no-validate",
     "fmt",
     "fmt --check",
 ];
