@@ -3,7 +3,8 @@
 ENCODER is given, against wast's own encoder, the program that tools/differential/wast_encoder.sh builds. Each text is of one kind that is frequent in
 programs: functions, calls, constants, data, names. Processes run in turn, with output to /dev/null. A time is the median of the user and system
 times; a memory is the largest resident size, in 10^6 bytes; instructions are counted by callgrind, in 10^6, less those for an empty module, on
-texts of 10% of the size, except the real ones. All programs must write the same module, which is checked first. Writes docs/speed/modules.tsv.
+texts of 10% of the size, except the real ones. All programs must write the same module, which is checked first. Rows of validation are of `MODULE
+--validate` against `wat2wasm`, on the texts that are valid modules. Writes docs/speed/modules.tsv.
 
 A row of times or instructions with a ratio below 1.5 has its reason in its last column, from BELOW. The status is 1 if a row lacks one, or if a
 reason has no row.
@@ -41,10 +42,13 @@ BOUND = 1.5
 # The number of parts of a text of which one is read to count instructions.
 PART = 10
 TIMES, MEMORY, INSTRUCTIONS = "modules", "memory, modules", "instructions, modules"
+VALIDATED_TIMES, VALIDATED_MEMORY, VALIDATED_INSTRUCTIONS = "validation", "memory, validation", "instructions, validation"
 # The line of the table with the commit at which instructions were counted, and that with the names of its columns.
 COUNTED = "# Instructions, in 10^6:"
 COLUMNS = "# suite\ttext\tcall\tours\tother\tratio\treason if a ratio of times or instructions is below 1.5"
 WABT, ENCODER = "module, wat2wasm --no-check", "module, wast's encoder"
+# The texts that are not valid: their functions have random instructions.
+INVALID = {"functions"}
 
 # The reasons of ratios below the bound, of a kind in a suite or, with the call, of one of its ratios. Percentages are of our instructions.
 AS_PACKED = "lexing and packing tokens take {}%"
@@ -121,7 +125,7 @@ def kinds(rng, part):
     """Returns the texts by name, with one of `part` parts of their fields or instructions."""
     return {
         "blocks": function(100_000 // part, lambda i: "block i32.const 1 if nop else nop end end"),
-        "branches": function(4_000 // part, lambda i: f"block block br_table {'0 1 ' * 50}end end"),
+        "branches": function(4_000 // part, lambda i: f"block block i32.const 0 br_table {'0 1 ' * 50}end end"),
         "calls": module(each(80_000 // part, lambda i: f"(func $f{i} call $f{i * 7919 % (80_000 // part)})")),
         "comments": function(200_000 // part, lambda i: "nop (; a comment that says what it is ;)"),
         "data": module("(memory 1000)\n" + each(4_000 // part, lambda i: f'(data (i32.const {i * 2_000}) "{escaped(rng, 2_000)}")')),
@@ -129,11 +133,11 @@ def kinds(rng, part):
         "elements": elements(rng, 400_000 // part),
         "exports": module("(func)\n" + each(100_000 // part, lambda i: f'(export "name{i}" (func 0))')),
         "floats": function(200_000 // part, lambda i: f"f64.const {rng.random()!r} drop"),
-        "folded": function(100_000 // part, lambda i: "(drop (i32.add (i32.const 1) (i32.mul (local.get 0) (i32.const 2))))"),
+        "folded": module("(func (local i32)\n" + each(100_000 // part, lambda i: "(drop (i32.add (i32.const 1) (i32.mul (local.get 0) (i32.const 2))))") + ")\n"),
         "functions": functions(15_000 // part),
         "globals": module(each(100_000 // part, lambda i: f"(global $g{i} (mut i32) (i32.const {i}))")),
         "imports": module(each(100_000 // part, lambda i: f'(import "env" "f{i}" (func $f{i} (param i32)))')),
-        "indirect": function(100_000 // part, lambda i: "i32.const 1 i32.const 0 call_indirect (param i32) (result i64) drop"),
+        "indirect": module("(table 1 funcref)\n(func\n" + each(100_000 // part, lambda i: "i32.const 1 i32.const 0 call_indirect (param i32) (result i64) drop") + ")\n"),
         "integers": function(300_000 // part, lambda i: f"i32.const {rng.randrange(1 << 31)} drop"),
         "loads": module("(memory 1)\n(func\n" + each(150_000 // part, lambda i: f"i32.const 1 i32.load offset={i * 4} align=4 drop") + ")\n"),
         "locals": module(each(200 // part, lambda i: f"(func (local {'i32 ' * 1_000}))")),
@@ -202,29 +206,29 @@ def rows_of(suite, text, numbers, digits):
     return [f"{suite}\t{text.stem}\t{ours}, {other}\t{number:.{digits}f}\t{theirs:.{digits}f}\t{theirs / number:.2f}" for other, theirs in others]
 
 
-def times_of(text, jobs, rounds):
+def times_of(suite, text, jobs, rounds):
     """Returns the rows of the times for a text."""
     runs = {name: [] for name in jobs}
     for number in range(rounds):
         for turn in range(len(jobs)):
             name = list(jobs)[(number + turn) % len(jobs)]
             runs[name].append(run(jobs[name], text))
-    return rows_of(TIMES, text, {name: statistics.median(times) * 1e3 for name, times in runs.items()}, 0)
+    return rows_of(suite, text, {name: statistics.median(times) * 1e3 for name, times in runs.items()}, 0)
 
 
-def memory_of(text, jobs):
+def memory_of(suite, text, jobs):
     """Returns the rows of the memory for a text."""
-    return rows_of(MEMORY, text, {name: peak(words, text) for name, words in jobs.items()}, 1)
+    return rows_of(suite, text, {name: peak(words, text) for name, words in jobs.items()}, 1)
 
 
-def counts_of(text, given):
+def counts_of(text, jobs):
     """Returns the instructions of each program for a text, by its name."""
-    return {name: instructions(words, text) for name, words in jobs_of(text, given).items()}
+    return {name: instructions(words, text) for name, words in jobs.items()}
 
 
-def instructions_of(text, less, given):
+def instructions_of(suite, text, jobs, less):
     """Returns the rows of the instructions for a text, without those for an empty module."""
-    return rows_of(INSTRUCTIONS, text, {name: (count - less[name]) / 1e6 for name, count in counts_of(text, given).items()}, 1)
+    return rows_of(suite, text, {name: (count - less[name]) / 1e6 for name, count in counts_of(text, jobs).items()}, 1)
 
 
 def head(given, before):
@@ -249,15 +253,30 @@ def jobs_of(text, given):
     return {**jobs, "wast's encoder": [given.encoder, "once"]} if given.encoder else jobs
 
 
-def rows_for(text, small, less, given):
-    """Returns the rows that the options ask for, of a text and of the smaller one with its name. `less` has the instructions for an empty module."""
+def validating_jobs_of(text, given):
+    """Returns the commands of the programs that validate, for a text, by name."""
+    return {"module --validate": [given.module, "--validate"], "wat2wasm": ["wat2wasm", text, "-o", "/dev/null"]}
+
+
+def rows_in(suites, jobs_by, text, small, less, given):
+    """Returns the rows that the options ask for, of the suites of times, memory and instructions."""
+    times, memory, counts = suites
     compared = small if given.instructions else text
-    jobs = jobs_of(compared, given)
+    jobs = jobs_by(compared, given)
     if not is_same(compared, jobs):
         sys.exit(f"{compared}: the modules differ")
-    rows = [] if given.counts or given.instructions else times_of(text, jobs, given.rounds)
-    rows += [] if given.times or given.instructions else memory_of(text, jobs)
-    return rows + ([] if given.times else instructions_of(small, less, given))
+    rows = [] if given.counts or given.instructions else times_of(times, text, jobs, given.rounds)
+    rows += [] if given.times or given.instructions else memory_of(memory, text, jobs)
+    return rows + ([] if given.times else instructions_of(counts, small, jobs_by(small, given), less))
+
+
+def rows_for(text, small, less, given):
+    """Returns the rows that the options ask for, of a text and of the smaller one with its name. `less` has the instructions for an empty module."""
+    rows = rows_in((TIMES, MEMORY, INSTRUCTIONS), jobs_of, text, small, less, given)
+    if text.stem in INVALID:
+        return rows
+    suites = VALIDATED_TIMES, VALIDATED_MEMORY, VALIDATED_INSTRUCTIONS
+    return rows + rows_in(suites, validating_jobs_of, text, small, less, given)
 
 
 def measured(given):
@@ -266,7 +285,7 @@ def measured(given):
     lines = list(head(given, before))
     files, empty = texts(given.folder, given.instructions), given.folder / "empty"
     empty.write_text("(module)\n", encoding="utf-8")
-    less = {} if given.times else counts_of(empty, given)
+    less = {} if given.times else counts_of(empty, {**jobs_of(empty, given), **validating_jobs_of(empty, given)})
     with concurrent.futures.ThreadPoolExecutor(given.jobs if given.instructions else 1) as pool:
         for found in pool.map(lambda pair: rows_for(*pair, less, given), files):
             rows += found
@@ -281,7 +300,7 @@ def with_reasons(table):
     for line in table:
         cells = line.split("\t")
         if line[0] != "#":
-            is_low = cells[0] != MEMORY and float(cells[5]) < BOUND
+            is_low = cells[0] not in (MEMORY, VALIDATED_MEMORY) and float(cells[5]) < BOUND
             key = next((key for key in (tuple(cells[:3]), tuple(cells[:2])) if key in BELOW), None) if is_low else None
             used.add(key)
             faults += [f"{cells[0]}, {cells[1]}, {cells[2]}: no reason"] if is_low and key is None else []

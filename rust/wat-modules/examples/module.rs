@@ -1,6 +1,6 @@
 //! Compiles the module in a file, or on standard input, and writes its bytes to standard output.
 //!
-//! `cargo run --example module [--no-names] [FILE]`. An error is written to standard error, and the exit status is then 1.
+//! `cargo run --example module [--no-names] [--validate] [FILE]`. An error is written to standard error, and the exit status is then 1.
 
 use std::env;
 use std::error::Error;
@@ -22,8 +22,9 @@ fn module_of(parser: &Parser, file: Option<&OsStr>) -> Result<Vec<u8>, Box<dyn E
 fn run() -> Result<(), Box<dyn Error>> {
     let mut arguments = env::args_os().skip(1).peekable();
     let no_names = arguments.next_if(|argument| argument == "--no-names");
+    let validate = arguments.next_if(|argument| argument == "--validate");
     let mut parser = Parser::new();
-    parser.names(no_names.is_none());
+    parser.names(no_names.is_none()).validate(validate.is_some());
     let module = module_of(&parser, arguments.next().as_deref())?;
     io::stdout().write_all(&module)?;
     Ok(())
