@@ -100,6 +100,13 @@ REQUESTS = [
         "a byte for each function of the module",
     ),
     (
+        "wat_valid/src/locals.rt",
+        "run_ends",
+        "Vec::with_capacity(alloc, runs.len())",
+        "let mut ends =",
+        "an index for each run of locals that is given",
+    ),
+    (
         "wat_module_parser/src/variables.rt",
         "value_types",
         "Vec::with_capacity(alloc, types.len())",

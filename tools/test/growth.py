@@ -1,8 +1,9 @@
 #!/usr/bin/env python3
 """Finds texts for which time or memory of `wat_tokens module --no-validate` grows faster than the text. Each kind of module, those of
-tools/test/cost/texts.py and those of MORE, is compiled with 6.25, 12.5, 25 and 50 MB. A time is the user and system time of a process, a memory its largest resident size, each
-the least of three runs. It is a fault if doubling the text multiplies one of them by more than 2.6, or if a process takes more than 120 s or 12 GB. As
-other processes disturb the times, a kind with a fault is measured again, at most ten times, and the least of all runs count.
+tools/test/cost/texts.py and those of MORE, is compiled with 6.25, 12.5, 25 and 50 MB; those of VALIDATED are validated as well. A time is the user and
+system time of a process, a memory its largest resident size, each the least of three runs. It is a fault if doubling the text multiplies one of them by
+more than 2.6, or if a process takes more than 120 s or 12 GB. As other processes disturb the times, a kind with a fault is measured again, at most ten
+times, and the least of all runs count.
 
 usage: growth.py PROGRAM [KIND..]     PROGRAM is wat_tokens, without KIND all kinds
 """
@@ -61,28 +62,33 @@ MORE = {
     "vectors": body(lambda i: f"v128.const i32x4 {i} 1 2 3 drop\n"),
 }
 
+# Kinds of valid modules that are compiled without `--no-validate`.
+VALIDATED = {
+    "locals_alternating": lines(lambda i: f"local.get {4 * i} drop\n", lambda size: f"(module (func (local{' i32 i64' * (size // 16)})\n", "))\n"),
+}
+
 
 def limit():
     resource.setrlimit(resource.RLIMIT_CPU, (120, 120))
     resource.setrlimit(resource.RLIMIT_AS, (12 * 10**9, 12 * 10**9))
 
 
-def measured(program, path):
+def measured(program, options, path):
     """Returns a process's status, its processor time in seconds and its largest resident size in MB."""
     with open(os.devnull, "wb") as nothing:
-        process = subprocess.Popen([program, "module", "--no-validate", str(path)], stdout=nothing, stderr=nothing, preexec_fn=limit)
+        process = subprocess.Popen([program, "module", *options, str(path)], stdout=nothing, stderr=nothing, preexec_fn=limit)
         _, status, usage = os.wait4(process.pid, 0)
     process.returncode = os.waitstatus_to_exitcode(status)
     return process.returncode, usage.ru_utime + usage.ru_stime, usage.ru_maxrss / 1024
 
 
-def rows_of(program, path, text, before):
+def rows_of(program, options, path, text, before):
     """Returns a row for each size of a kind: the size, a status, a time and a memory, with the least times and memories of these runs and of the rows
     `before`."""
     rows = []
     for size, earlier in itertools.zip_longest(SIZES, before):
         path.write_text(text(size))
-        statuses, times, memories = zip(*([earlier[1:]] if earlier else []), *(measured(program, path) for _ in range(RUNS)))
+        statuses, times, memories = zip(*([earlier[1:]] if earlier else []), *(measured(program, options, path) for _ in range(RUNS)))
         rows.append((size, max(statuses, key=abs), min(times), min(memories)))
     return rows
 
@@ -101,14 +107,15 @@ def faults_of(name, rows):
 
 def main():
     program, *names = sys.argv[1:]
-    kinds = MODULES | MORE
+    kinds = MODULES | MORE | VALIDATED
     faults = 0
     with tempfile.TemporaryDirectory() as folder:
         path = pathlib.Path(folder) / "text.wat"
         for name in names or kinds:
+            options = [] if name in VALIDATED else ["--no-validate"]
             rows, found = [], [name]
             for _ in range(TRIES):
-                rows = rows_of(program, path, kinds[name], rows)
+                rows = rows_of(program, options, path, kinds[name], rows)
                 found = list(faults_of(name, rows))
                 if not found:
                     break

@@ -43,12 +43,13 @@ pub data IsErrorOf (w : Wanted) (text : List ℕ) (r : Report) : Type 0 where
   of_invalid : (fs : List Field) (m : DenotesModule text fs) → (ModuleIsValid fs → ⊥) → IsReport text m.shown.tokens m.spelled r → IsErrorOf w text r
   of_text : IsValidText text → ((tokens : List Token) (last : Option Fault) → TextShows (plain text) no_names tokens last → compiled_with w text tokens last ≡ Err r) → IsErrorOf w text r
 
--- `RefusesFields text ts fs e`: the tokens `ts` are those of a module with the fields `fs`, which is not valid, and `e` is
--- the error, or `None` for an allocation failure.
+-- `Refuses text ts fs r`: the module with the tokens `ts` and the fields `fs` is not valid, and `r` is its error.
 pub record Refuses (text : List ℕ) (ts : List Terminal) (fs : List Field) (r : Report) : Type 0 where
   pub invalid : ModuleIsValid fs → ⊥
   pub reported : (tokens : List Token) → TextShows (plain text) no_names tokens None → ts ≡ map (terminal_of text) tokens → (m : Module ts fs) → IsReport text tokens m r
 
+-- `RefusesFields text ts fs e`: the module with the tokens `ts` and the fields `fs` is not valid, and `e` is its error, or `None`
+-- for an allocation failure.
 abbrev pub RefusesFields : List ℕ → List Terminal → List Field → Option Report → Type 0
 RefusesFields text ts fs None = Unit {0}
 RefusesFields text ts fs (Some r) = Refuses text ts fs r

@@ -125,7 +125,7 @@ not_mode C t (Active target) (reason.UnknownItem space.Table) v h = let k = sym 
 not_mode C t (Active target) reason.ElementType v h = v.2 (ap (λ (x : TableType). x.element) (same_some (slice_get C.tables target.index) v.0 h.table v.1 h.exists) ∙ h.element)
 not_mode C t m r v h = absurd v
 
-not_header : (C : Context) (f : Field) (r : Reason) → HeaderViolates C f r → HeaderIsValid C f → ⊥
+pub not_header : (C : Context) (f : Field) (r : Reason) → HeaderViolates C f r → HeaderIsValid C f → ⊥
 not_header C (TypeField l t) r v h = v
 not_header C (field.Import m n l names t) r v h = not_extern C t r v h
 not_header C (Func f) r v h = not_use C f.uses r v h
@@ -143,16 +143,26 @@ cut [] i f e = cc
 cut (x ∷ xs) zero f e = ap (λ y. y ∷ xs) (same_some (Some x) f x e refl)
 cut (x ∷ xs) (suc i) f e = ap (λ ys. x ∷ ys) (cut xs i f e)
 
-contradicts : (C : Context) (fs : List Field) (i : ℕ) (f : Field) (r : Reason) → slice_get fs i ≡ Some f → Violates C (take i fs) f r → HeadersAreValid C fs → ⊥
+pub contradicts : (C : Context) (fs : List Field) (i : ℕ) (f : Field) (r : Reason) → slice_get fs i ≡ Some f → Violates C (take i fs) f r → HeadersAreValid C fs → ⊥
 contradicts C fs i f reason.SecondMemory e v h =
     let rest = drop (suc i) fs in
     let sum = ap length (sym (ap (flat_map mems_in) (cut fs i f e)) ∙ flat_map-append mems_in (take i fs ++ f ∷ []) rest) ∙ length-append (flat_map mems_in (take i fs ++ f ∷ [])) (flat_map mems_in rest) in
-    omega (arith, sum, v, h.memories)
+    omega (arith, sum, v.1, h.memories)
 contradicts C fs i f reason.DuplicateExport e v h =
     let rest = drop (suc i) fs in
-    let k = sym (not_distinct (flat_map export_names (take i fs ++ f ∷ [])) (flat_map export_names rest) v) ∙ ap are_distinct (sym (flat_map-append export_names (take i fs ++ f ∷ []) rest) ∙ ap (flat_map export_names) (cut fs i f e)) ∙ h.exports in
+    let k = sym (not_distinct (flat_map export_names (take i fs ++ f ∷ [])) (flat_map export_names rest) v.2) ∙ ap are_distinct (sym (flat_map-append export_names (take i fs ++ f ∷ []) rest) ∙ ap (flat_map export_names) (cut fs i f e)) ∙ h.exports in
     cc
 contradicts C fs i f r e v h = not_header C f r v (at (HeaderIsValid C) fs i f h.fields e)
+
+-- the last of some fields violates no condition, if they meet all
+last_of : {A : Type 0} (P : A → Type 0) (xs : List A) (x : A) → AllByRecursion P (xs ++ x ∷ []) → P x
+last_of P [] x h = h.0
+last_of P (y ∷ xs) x h = last_of P xs x h.1
+
+pub not_after : (C : Context) (before : List Field) (f : Field) (r : Reason) → Violates C before f r → HeadersAreValid C (before ++ f ∷ []) → ⊥
+not_after C before f reason.SecondMemory v h = omega (arith, v.1, h.memories)
+not_after C before f reason.DuplicateExport v h = let k = sym v.2 ∙ h.exports in cc
+not_after C before f r v h = not_header C f r v (last_of (HeaderIsValid C) before f h.fields)
 
 pub parts : ConditionsArePartsOfValidity
 parts = record {

@@ -20,8 +20,9 @@ use Rattle.std.specs.Prelude.{slice_get, ◌==◌}
 use Rattle.std.proofs.lemmas.Option.{none-some}
 use Rattle.std.proofs.Common.{lit≤, lit<}
 use Rattle.wat_valid.specs.Instructions.{Constant, IsConstant}
-use Rattle.wat_valid.specs.Examples.{BodyExamples, ModuleExamples, Valid, i32_add, i32_const, local_get, with_locals}
+use Rattle.wat_valid.specs.Examples.{BodyExamples, ModuleExamples, ReasonExamples, Valid, i32_add, i32_const, i64_const, local_get, with_locals}
 use Rattle.wat_valid.proofs.Frames as frames
+use Rattle.wat_valid.proofs.SingleConstants.{one_item}
 
 -- `local.get 0 local.get 1 i32.add`, by the rules
 pub sum_by_rules : Valid (with_locals (i32 ∷ i32 ∷ [])) (local_get 0 ∷ local_get 1 ∷ i32_add ∷ []) (i32 ∷ [])
@@ -143,4 +144,68 @@ modules = record {
   same_names = λ v. let no = v.exports in cc;
   no_function = λ v. let no = v.fields.0 in absurd (omega (arith, no));
   not_imported = λ v. let g = needs _ (Byte 0x23) (argument.Index 0) v.fields.1.0.constant.0 in none-some g.0 g.1;
+}
+
+-- reasons
+
+other_type : (C : Context) → Constant C (i64_const ∷ []) i32 → ⊥
+other_type C k = let no = (one_item C (i64_const ∷ []) i32 i64_const refl refl).1 k in cc
+
+pub reasons : ReasonExamples
+unfolding implicit.types_of
+reasons = record {
+  limits = record {
+    field = _;
+    is = refl;
+    before = record { fields = (record { minimum = lit≤ tt; maximum = tt }, tt); memories = lit≤ tt; exports = refl };
+    fails = λ v. let no = v.minimum in absurd (omega (arith, no));
+  };
+  second_memory = record {
+    field = _;
+    is = refl;
+    before = record { fields = (record { minimum = lit≤ tt; maximum = tt }, tt); memories = lit≤ tt; exports = refl };
+    fails = (record { minimum = lit≤ tt; maximum = tt }, lit< tt);
+  };
+  memory_before_name = record {
+    field = _;
+    is = refl;
+    before = record { fields = (record { minimum = lit≤ tt; maximum = tt }, tt); memories = lit≤ tt; exports = refl };
+    fails = (record { minimum = lit≤ tt; maximum = tt }, lit< tt);
+  };
+  index_before_name = record {
+    field = _;
+    is = refl;
+    before = record { fields = (record { type = from_to [] []; uses = refl; body = record { left = []; typed = rules.by_none; match = tt } }, tt); memories = lit≤ tt; exports = refl };
+    fails = lit≤ tt;
+  };
+  repeated_name = record {
+    field = _;
+    is = refl;
+    before = record { fields = (record { type = from_to [] []; uses = refl; body = record { left = []; typed = rules.by_none; match = tt } }, tt); memories = lit≤ tt; exports = refl };
+    fails = (lit< tt, lit≤ tt, refl);
+  };
+  name_before_body = record {
+    field = _;
+    is = refl;
+    before = record { fields = (record { type = from_to [] []; uses = refl; body = record { left = []; typed = rules.by_none; match = tt } }, tt); memories = lit≤ tt; exports = refl };
+    fails = (record { type = from_to [] []; is = refl }, lit≤ tt, refl);
+  };
+  offset_before_element = record {
+    field = _;
+    is = refl;
+    before = record { fields = ((record { minimum = lit≤ tt; maximum = tt }, tt), tt); memories = lit≤ tt; exports = refl };
+    fails = (
+      record { fields = (record { minimum = lit≤ tt; maximum = tt }, (record { table = _; exists = refl; element = refl }, tt)); memories = lit≤ tt; exports = refl },
+      other_type _,
+    );
+  };
+  first_field = record {
+    field = _;
+    is = refl;
+    before = record { fields = tt; memories = lit≤ tt; exports = refl };
+    fails = (
+      record { fields = (tt, tt); memories = lit≤ tt; exports = refl },
+      other_type _,
+    );
+  };
 }

@@ -27,7 +27,7 @@ use Rattle.wat_valid.specs.Headers.{CodeIsValid, FirstViolation, HeaderIsValid, 
 use Rattle.wat_valid.specs.Instructions.{Constant, Expression}
 use Rattle.wat_valid.specs.Modules as validation
 use Rattle.wat_valid.specs.Modules.{ElementsAreValid, FieldIsValid, InlineElementsAreValid, ModuleIsValid, export_names, function_context, initial_context_of, mems_in}
-use Rattle.wat_valid.proofs.Conditions.{at, both, each, each_both, header, parts, same_some}
+use Rattle.wat_valid.proofs.Conditions.{at, both, contradicts, each, each_both, parts, same_some}
 use Rattle.wat_valid.proofs.Distinct.{not_distinct}
 use Rattle.wat_valid.proofs.FirstViolations.{taken_of}
 use Rattle.wat_valid.proofs.OtherRefs.{valid_without, violates_without}
@@ -94,7 +94,7 @@ header_first C D fs i r v k = record { field = v.field; is = v.is; before = reco
 
 -- the first failure of a prefix is that of the whole
 
-within_take : (n : ℕ) (fs : List Field) (i : ℕ) (f : Field) → slice_get (take n fs) i ≡ Some f → (slice_get fs i ≡ Some f) × (take i (take n fs) ≡ take i fs)
+pub within_take : (n : ℕ) (fs : List Field) (i : ℕ) (f : Field) → slice_get (take n fs) i ≡ Some f → (slice_get fs i ≡ Some f) × (take i (take n fs) ≡ take i fs)
 within_take zero fs i f e = cc
 within_take (suc n) [] i f e = cc
 within_take (suc n) (x ∷ xs) zero f e = (e, refl)
@@ -255,28 +255,12 @@ not_code C D (field.Elem l (Active target) t es) cause.Offset k h = k h.0
 not_code C D (field.Elem l m t es) (cause.Element i) k h = not_elements D t es i k.1 h.1
 not_code C D (field.Elem l m t es) c k h = absurd k
 
-not_valid_code : (fs : List Field) (i : ℕ) (f : Field) (c : Cause) → slice_get fs i ≡ Some f → CodeFails (validation.context_of fs) (initial_context_of fs) f c → ModuleIsValid fs → ⊥
-not_valid_code fs i f c e k m = not_code (validation.context_of fs) (initial_context_of fs) f c k (at (CodeIsValid (validation.context_of fs) (initial_context_of fs)) fs i f (parts.code fs m) e)
-
-not_valid : (fs : List Field) (i : ℕ) (f : Field) (c : Cause) → slice_get fs i ≡ Some f → FieldsAreValid (validation.context_of fs) (initial_context_of fs) (take i fs) → Fails (validation.context_of fs) (initial_context_of fs) (take i fs) f c → ModuleIsValid fs → ⊥
-not_valid fs i f (cause.Header r) e b k m =
-    let C = validation.context_of fs in
-    let D = initial_context_of fs in
-    parts.violation fs i r
-    (record {
-      field = f;
-      is = e;
-      before = record { fields = each (FieldIsValid C D) (HeaderIsValid C) (header C D.globals) (take i fs) b.fields; memories = b.memories; exports = b.exports };
-      violates = k;
-    })
-    m
-not_valid fs i f (cause.Body x) e b k m = not_valid_code fs i f (cause.Body x) e k.1 m
-not_valid fs i f cause.InitialValue e b k m = not_valid_code fs i f cause.InitialValue e k.1 m
-not_valid fs i f cause.Offset e b k m = not_valid_code fs i f cause.Offset e k.1 m
-not_valid fs i f (cause.Element x) e b k m = not_valid_code fs i f (cause.Element x) e k.1 m
+pub fails_within : (C D : Context) (fs : List Field) (i : ℕ) (f : Field) (c : Cause) → slice_get fs i ≡ Some f → HeadersAreValid C fs → AllByRecursion (CodeIsValid C D) fs → Fails C D (take i fs) f c → ⊥
+fails_within C D fs i f (cause.Header r) e h k v = contradicts C fs i f r e v h
+fails_within C D fs i f c e h k v = not_code C D f c v.1 (at (CodeIsValid C D) fs i f k e)
 
 pub excluded : FirstInvalidIsNotValid
-excluded fs i c k m = not_valid fs i k.field c k.is k.before k.fails m
+excluded fs i c k m = fails_within (validation.context_of fs) (initial_context_of fs) fs i k.field c k.is (parts.headers fs m) (parts.code fs m) k.fails
 
 -- the results of the checks, one after the other
 

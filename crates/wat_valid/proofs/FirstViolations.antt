@@ -84,8 +84,14 @@ first C fields f d i r l e all few distinct v = record {
   violates = subst (λ fs. Violates C fs (field_of f) r) (taken_of field_of i fields) v;
 }
 
-pub too_many : (before : List Field) (f : Field) (n m : ℕ) → n ≡ length (flat_map mems_in before) → m ≡ length (mems_in f) → 1 < n + m → 1 < length (flat_map mems_in (before ++ f ∷ []))
-too_many before f n m e k l = let sum = ap length (one_on mems_in before f) ∙ length-append (flat_map mems_in before) (mems_in f) in omega (arith, sum, e, k, l)
+memories_more : (before : List Field) (f : Field) (n m : ℕ) → n ≡ length (flat_map mems_in before) → m ≡ length (mems_in f) → length (flat_map mems_in (before ++ f ∷ [])) ≡ n + m
+memories_more before f n m e k = let sum = ap length (one_on mems_in before f) ∙ length-append (flat_map mems_in before) (mems_in f) in omega (arith, sum, e, k)
 
-pub repeating : (before : List Field) (f : Field) (b : Bool) → b ≡ are_distinct (flat_map export_names before ++ export_names f) → b ≡ false → are_distinct (flat_map export_names (before ++ f ∷ [])) ≡ false
+pub too_many : (C : Context) (before : List Field) (f : Field) (n m : ℕ) → HeaderIsValid C f → n ≡ length (flat_map mems_in before) → m ≡ length (mems_in f) → 1 < n + m → Violates C before f reason.SecondMemory
+too_many C before f n m h e k l = (h, omega (arith, memories_more before f n m e k, l))
+
+repeating : (before : List Field) (f : Field) (b : Bool) → b ≡ are_distinct (flat_map export_names before ++ export_names f) → b ≡ false → are_distinct (flat_map export_names (before ++ f ∷ [])) ≡ false
 repeating before f b e k = ap are_distinct (one_on export_names before f) ∙ sym e ∙ k
+
+pub repeated : (C : Context) (before : List Field) (f : Field) (n m : ℕ) (b : Bool) → HeaderIsValid C f → n ≡ length (flat_map mems_in before) → m ≡ length (mems_in f) → n + m ≤ 1 → b ≡ are_distinct (flat_map export_names before ++ export_names f) → b ≡ false → Violates C before f reason.DuplicateExport
+repeated C before f n m b h e k l g i = (h, omega (arith, memories_more before f n m e k, l), repeating before f b g i)

@@ -25,6 +25,7 @@ pub mod SameTypes
 pub mod Bodies
 pub mod Represented
 pub mod FirstInvalid
+pub mod OneFailure
 pub mod FunctionConstants
 pub mod BodyChecks
 pub mod Wanting

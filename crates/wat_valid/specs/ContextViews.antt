@@ -1,11 +1,9 @@
 -- The context of the code, as the context of the standard (3.1.1).
 use Rattle.std.specs.Prelude.{◌≡◌, ◌<◌, ℕ, length, take, suc, Bool, true, false, List, [], ◌∷◌, map, None, Some, slice_set}
-use Rattle.std.specs.List.{flat_map}
 use Rattle.wat_module_ast.specs.declared.types.FunctionType as declared_type
 use Rattle.wat_module_ast.specs.Fields.{Function}
 use Rattle.wat_module_ast.specs.TypeViews.{type_of}
 use Rattle.wat_module_ast.specs.Types.{FunctionType, from_to}
-use Rattle.wat_module_ast.specs.Views.{local_types}
 use Rattle.wat_valid.specs.Contexts.{Context, use_type}
 use Rattle.wat_valid.specs.declared.body.BodyContext as declared_body
 use Rattle.wat_valid.specs.declared.context.Context as declared_context
@@ -69,7 +67,7 @@ initial_context m = record (full_context m) { globals = take m.imported_count m.
 
 -- 3.4.1: the context of the body of a function of the code.
 abbrev pub body_context : declared_body.BodyContext → Context
-body_context c = function_context (context_of c.module) (from_to c.params.now c.results.now) (flat_map local_types c.locals.now)
+body_context c = function_context (context_of c.module) (from_to c.params.now c.results.now) c.locals
 
 -- 3.4.1: the code's context of the body of a function is that of its type, and has its results.
 pub record BodyOf (C : Context) (f : Function) (c : declared_body.BodyContext) : Type 0 where

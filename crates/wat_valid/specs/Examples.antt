@@ -1,5 +1,5 @@
 -- Worked examples of validation (WebAssembly 2.0, chapter 3): bodies of functions and modules, each with its text, and
--- whether it is valid.
+-- whether it is valid; and modules with the first field that is not valid, and the reason.
 use Rattle.std.specs.Prelude.{◌≡◌, ℕ, false, List, [], ◌∷◌, Option, Some, None, pos}
 use Rattle.wat_module_ast.specs.declared.fields.IndexSpace.TheVariants as space
 use Rattle.wat_module_ast.specs.declared.instruction.Argument.{Argument}
@@ -14,7 +14,10 @@ use Rattle.wat_module_ast.specs.Fields.{Active, Declarative, Field, FuncType, Fu
 use Rattle.wat_module_ast.specs.Fields as field
 use Rattle.wat_module_ast.specs.Grammar.{end, instruction, otherwise}
 use Rattle.wat_module_ast.specs.Types.{Indexed, Inline, from_to}
+use Rattle.wat_valid.specs.declared.code.Cause.TheVariants as cause
+use Rattle.wat_valid.specs.declared.module.Reason.TheVariants as reason
 use Rattle.wat_valid.specs.Contexts.{Context}
+use Rattle.wat_valid.specs.FirstErrors.{FirstInvalid}
 use Rattle.wat_valid.specs.Instructions.{Expression}
 use Rattle.wat_valid.specs.InstructionTypes.{i32, i64, f32, f64}
 use Rattle.wat_valid.specs.Modules.{ModuleIsValid, refs_after}
@@ -211,3 +214,30 @@ pub record ModuleExamples : Type 0 where
   pub no_function : InvalidModule (field.Export (97 ∷ []) space.Func 0 ∷ [])
   -- `(module (global i32 (i32.const 0)) (global i32 (global.get 0)))`: only imported globals are in an initial value.
   pub not_imported : InvalidModule (global (i32_const ∷ []) ∷ global (instruction 0x23 (argument.Index 0) ∷ []) ∷ [])
+
+-- A memory with exports of these names.
+abbrev pub exported_memory : List (List ℕ) → Field
+exported_memory names = Memory None names (record { min = 1; max = None }) None
+
+-- A table of functions.
+abbrev pub table : Field
+table = field.Table None [] (record { limits = record { min = 1; max = None }; element = reference.Func }) None
+
+-- The first field that is not valid, and the reason. By `FirstInvalidIsOne` there is no other.
+pub record ReasonExamples : Type 0 where
+  -- `(module (memory 1) (memory 70000))`: the limits of the second memory, rather than that there are two.
+  pub limits : FirstInvalid (memory 1 ∷ memory 70000 ∷ []) 1 (cause.Header reason.Limits)
+  -- `(module (memory 1) (memory 1))`.
+  pub second_memory : FirstInvalid (memory 1 ∷ memory 1 ∷ []) 1 (cause.Header reason.SecondMemory)
+  -- `(module (memory (export "a") 1) (memory (export "a") 1))`: the second memory, rather than its name.
+  pub memory_before_name : FirstInvalid (exported_memory ((97 ∷ []) ∷ []) ∷ exported_memory ((97 ∷ []) ∷ []) ∷ []) 1 (cause.Header reason.SecondMemory)
+  -- `(module (func (export "a")) (export "a" (func 9)))`: the index, rather than the name.
+  pub index_before_name : FirstInvalid (function ((97 ∷ []) ∷ []) [] ∷ field.Export (97 ∷ []) space.Func 9 ∷ []) 1 (cause.Header (reason.UnknownItem space.Func))
+  -- `(module (func (export "a")) (export "a" (func 0)))`.
+  pub repeated_name : FirstInvalid (function ((97 ∷ []) ∷ []) [] ∷ field.Export (97 ∷ []) space.Func 0 ∷ []) 1 (cause.Header reason.DuplicateExport)
+  -- `(module (func (export "a")) (func (export "a") drop))`: the name, rather than the body.
+  pub name_before_body : FirstInvalid (function ((97 ∷ []) ∷ []) [] ∷ function ((97 ∷ []) ∷ []) (drop ∷ []) ∷ []) 1 (cause.Header reason.DuplicateExport)
+  -- `(module (table 1 funcref) (elem (i64.const 0) funcref (i32.const 0)))`: the offset, rather than the element.
+  pub offset_before_element : FirstInvalid (table ∷ field.Elem None (Active (target 0 (i64_const ∷ []))) reference.Func ((i32_const ∷ []) ∷ []) ∷ []) 1 cause.Offset
+  -- `(module (global i32 (i64.const 0)) (memory 70000))`: the first field, rather than the second.
+  pub first_field : FirstInvalid (global (i64_const ∷ []) ∷ memory 70000 ∷ []) 0 cause.InitialValue

@@ -127,6 +127,10 @@ pub record FirstInvalid (fs : List Field) (i : ℕ) (c : Cause) : Type 0 where
   pub before : FieldsAreValid (validation.context_of fs) (initial_context_of fs) (take i fs)
   pub fails : Fails (validation.context_of fs) (initial_context_of fs) (take i fs) field c
 
+-- Theorem: at most one field of a module is the first that violates a condition, and it has one reason.
+abbrev pub FirstInvalidIsOne : Type 0
+FirstInvalidIsOne = (fs : List Field) (i j : ℕ) (c d : Cause) → FirstInvalid fs i c → FirstInvalid fs j d → (i ≡ j) × (c ≡ d)
+
 -- Theorem: a module with a first field that violates a condition is not valid.
 abbrev pub FirstInvalidIsNotValid : Type 0
 FirstInvalidIsNotValid = (fs : List Field) (i : ℕ) (c : Cause) → FirstInvalid fs i c → ModuleIsValid fs → ⊥

@@ -134,11 +134,12 @@ pub record HeadersAreValid (C : Context) (fs : List Field) : Type 0 where
   pub memories : length (flat_map mems_in fs) ≤ 1
   pub exports : are_distinct (flat_map export_names fs) ≡ true
 
--- The condition that a field after the fields `before` violates, and the reason. A second memory and a name of an export that
--- repeats are those of the field, since the fields before it are valid.
+-- The first of the conditions that a field after the fields `before` violates, and the reason: a condition on the field alone;
+-- or it meets these, and there is a second memory; or it meets these and that, and a name of an export repeats. A second memory
+-- and a name that repeats are those of the field, since the fields before it are valid.
 abbrev pub Violates : Context → List Field → Field → Reason → Type 0
-Violates C before f reason.SecondMemory = 1 < length (flat_map mems_in (before ++ f ∷ []))
-Violates C before f reason.DuplicateExport = are_distinct (flat_map export_names (before ++ f ∷ [])) ≡ false
+Violates C before f reason.SecondMemory = HeaderIsValid C f × (1 < length (flat_map mems_in (before ++ f ∷ [])))
+Violates C before f reason.DuplicateExport = HeaderIsValid C f × (length (flat_map mems_in (before ++ f ∷ [])) ≤ 1) × (are_distinct (flat_map export_names (before ++ f ∷ [])) ≡ false)
 Violates C before f r = HeaderViolates C f r
 
 -- `FirstViolation C fs i r`: the fields before the one at the index `i` are valid except their instructions, and this field

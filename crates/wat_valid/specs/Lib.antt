@@ -1,4 +1,5 @@
 pub mod Contexts
+pub mod LocalRuns
 pub mod ContextViews
 pub mod InstructionTypes
 pub mod Instructions

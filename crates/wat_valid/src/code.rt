@@ -46,7 +46,7 @@ fn check_function(
         (Func (function_of function.now)))
         (λ c. errors.BodyFails (context_of context.now) (function_of function.now) c)) }
 {
-    let Some(body) = body_of(context, function) else {
+    let Some(body) = body_of(alloc, context, function)? else {
         return Ok(None);
     };
     match check_body(alloc, &body, &function.body)? {

@@ -1,5 +1,5 @@
 //! Theorems about the definitions of this crate.
-ghost use Rattle.wat_valid.specs.Examples.{BodyExamples, ModuleExamples};
+ghost use Rattle.wat_valid.specs.Examples.{BodyExamples, ModuleExamples, ReasonExamples};
 ghost use Rattle.wat_valid.specs.Law.{AlgorithmIsExact, EachHasAType, FirstErrorIsExact};
 
 /// Theorem (no effect): the list of types has each plain instruction of the table of keywords and
@@ -31,4 +31,10 @@ pub fn bodies_of_examples()
 /// says.
 pub fn modules_of_examples()
     ensures { ModuleExamples }
+{}
+
+/// Theorem (no effect): each of the modules of the worked examples of reasons has the first field
+/// that is not valid, and the reason, as its example says.
+pub fn reasons_of_examples()
+    ensures { ReasonExamples }
 {}

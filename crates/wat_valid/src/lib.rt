@@ -11,6 +11,7 @@ pub mod constants;
 pub mod context;
 pub mod control;
 pub mod laws;
+pub mod locals;
 pub mod module;
 pub mod operands;
 pub mod plain;

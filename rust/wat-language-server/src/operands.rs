@@ -110,7 +110,7 @@ fn describe_in(fields: &[Field], field: usize, instruction: usize) -> Option<Str
     let types = types_of(Global, fields).ok()?;
     let context = ModuleContext::new(Global, types.as_slice(), fields).ok()?;
     let context = context.full();
-    let body = body_of(&context, function)?;
+    let body = body_of(Global, &context, function).ok()??;
     let (before, after) = function.body.split_at_checked(instruction)?;
     let mut frames = frames_after(Global, &body, before).ok()?.ok()?;
     let instruction = after.first()?;

@@ -167,8 +167,10 @@ pub fn compile_with_customs(alloc: Global, text: &str) -> Result<Vec<u8>, Error>
 /// # Errors
 ///
 /// Returns the errors of [`compile_with_customs`], but if the text is a module that is not valid,
-/// returns an error at its first instruction that is not valid, or at the keyword of its first
-/// field that is not valid (`specs/ValidityMessages`).
+/// returns an error in its first field that is not valid: at the first instruction of a body that
+/// is not valid, or at the first one of an initial value or an offset that is not valid. An error
+/// at the end of a body, in an element, or of another condition is at the keyword of the field
+/// (`specs/ValidityMessages`).
 ///
 /// # Proved
 ///
@@ -225,8 +227,10 @@ pub fn compile_valid(alloc: Global, text: &str) -> Result<Vec<u8>, Error> {
 /// # Errors
 ///
 /// Returns the errors of [`compile`], but if the text is a module that is not valid, returns an
-/// error at its first instruction that is not valid, or at the keyword of its first field that is
-/// not valid (`specs/ValidityMessages`).
+/// error in its first field that is not valid: at the first instruction of a body that is not
+/// valid, or at the first one of an initial value or an offset that is not valid. An error at the
+/// end of a body, in an element, or of another condition is at the keyword of the field
+/// (`specs/ValidityMessages`).
 ///
 /// # Proved
 ///

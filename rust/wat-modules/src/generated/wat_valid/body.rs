@@ -3,11 +3,12 @@
 
 use wat_lex::shim::prelude::*;
 use crate::validation::context::{Context, use_type};
-use crate::ast::fields::{Function, Locals};
+use crate::validation::locals::LocalTypes;
+use wat_lex::shim::alloc::{AllocError, Global};
+use crate::ast::fields::Function;
 use crate::ast::instruction::ValueType;
 
 /// The context of the body of a function.
-#[derive(Clone, Copy)]
 pub struct BodyContext<'m> {
     /// Context of the module.
     pub module: Context<'m>,
@@ -15,8 +16,8 @@ pub struct BodyContext<'m> {
     pub params: &'m [ValueType],
     /// Types of the results of the function.
     pub results: &'m [ValueType],
-    /// Locals of the function, without the parameters.
-    pub locals: &'m [Locals],
+    /// Types of the locals of the function, without the parameters.
+    pub locals: LocalTypes<'m>,
 }
 
 /// Returns the context of the body of a function, or `None` if its type does not exist.
@@ -24,20 +25,24 @@ pub struct BodyContext<'m> {
 /// # Proved
 ///
 /// ```text
-/// ensures { MatchOption result
+/// ensures { IfOk result (λ found. MatchOption found
 /// (use_type (context_of context.now).types (function_of function.now).uses ≡ None)
-/// (λ b. BodyOf (context_of context.now) (function_of function.now) b) }
+/// (λ b. BodyOf (context_of context.now) (function_of function.now) b)) }
 /// ```
-pub fn body_of<'m>(context: &Context<'m>, function: &'m Function<'_>) -> Option<BodyContext<'m>> {
-    match use_type(context.types, &function.uses) {
-        Some(of) => Some(BodyContext {
-            module: *context,
-            params: &of.params,
-            results: &of.results,
-            locals: &function.locals,
-        }),
-        None => None,
-    }
+pub fn body_of<'m>(
+    alloc: Global,
+    context: &Context<'m>,
+    function: &'m Function<'_>,
+) -> Result<Option<BodyContext<'m>>, AllocError> {
+    let Some(of) = use_type(context.types, &function.uses) else {
+        return Ok(None);
+    };
+    Ok(Some(BodyContext {
+        module: *context,
+        params: &of.params,
+        results: &of.results,
+        locals: LocalTypes::new(alloc, &function.locals)?,
+    }))
 }
 
 /// Returns the type of a parameter or a local of the function, or `None` if the index is out of
@@ -51,27 +56,8 @@ pub fn body_of<'m>(context: &Context<'m>, function: &'m Function<'_>) -> Option<
 pub fn local_at(context: &BodyContext<'_>, index: usize) -> Option<ValueType> {
     match context.params.get(index) {
         Some(of) => Some(*of),
-        None => type_in_runs(context.locals, index - context.params.len()),
+        None => context.locals.get(index - context.params.len()),
     }
-}
-
-/// Returns the type of the local with this index in runs of locals, or `None` if the index is out
-/// of range.
-///
-/// # Proved
-///
-/// ```text
-/// ensures { result ≡ slice_get (flat_map local_types runs.now) index }
-/// ```
-fn type_in_runs(runs: &[Locals], index: usize) -> Option<ValueType> {
-    let mut left = index;
-    for run in runs {
-        if left < run.count {
-            return Some(run.of);
-        }
-        left -= run.count;
-    }
-    None
 }
 
 /// Returns the types of a label, of which 0 is the innermost, or `None` if there is no such label.

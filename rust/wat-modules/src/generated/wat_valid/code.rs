@@ -43,7 +43,7 @@ fn check_function(
     context: &Context<'_>,
     function: &Function<'_>,
 ) -> Result<Option<Cause>, AllocError> {
-    let Some(body) = body_of(context, function) else {
+    let Some(body) = body_of(alloc, context, function)? else {
         return Ok(None);
     };
     match check_body(alloc, &body, &function.body)? {

@@ -52,3 +52,13 @@ pub fn bodies_of_examples() {}
 /// ensures { ModuleExamples }
 /// ```
 pub fn modules_of_examples() {}
+
+/// Theorem (no effect): each of the modules of the worked examples of reasons has the first field
+/// that is not valid, and the reason, as its example says.
+///
+/// # Proved
+///
+/// ```text
+/// ensures { ReasonExamples }
+/// ```
+pub fn reasons_of_examples() {}

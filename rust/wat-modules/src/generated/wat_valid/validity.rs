@@ -59,6 +59,16 @@ pub fn validate(alloc: Global, fields: &[Field<'_>]) -> Result<Option<Invalid>, 
     check_in(alloc, &context.full(), &context.initial(), fields)
 }
 
+/// Theorem (no effect): at most one field of a module is the first that violates a condition, and
+/// it has one reason.
+///
+/// # Proved
+///
+/// ```text
+/// ensures { errors.FirstInvalidIsOne }
+/// ```
+pub fn first_violation_is_one() {}
+
 /// Theorem (no effect): a module is not valid if one of its fields is the first that violates a
 /// condition.
 ///
