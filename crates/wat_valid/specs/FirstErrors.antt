@@ -1,5 +1,5 @@
 -- WebAssembly 2.0, 3.3 and 3.4: the first instruction that is not valid in a body, and the first field that is not valid in a
--- module, with its reason.
+-- module, with its reason. That each module which is not valid has one is a clause of `validate`.
 use Rattle.std.specs.Prelude.{◌≡◌, ◌<◌, ◌≤◌, ◌++◌, ℕ, suc, List, [], ◌∷◌, true, false, length, Option, Some, None, slice_get, take}
 use Rattle.std.specs.List.{AllByRecursion, flat_map}
 use Rattle.wat_module_ast.specs.declared.instruction.Instruction.{Instruction}
@@ -21,8 +21,8 @@ use Rattle.wat_valid.specs.Modules as validation
 use Rattle.wat_valid.specs.Modules.{ElementsAreValid, FieldIsValid, ModuleIsValid, export_names, function_context, initial_context_of, mems_in}
 
 -- 3.3: the instructions `is` are not the body of a function with these results, and the first error is at the index `i`: the
--- instructions before it begin a valid body, and with the one there they do not. If there is none, `i` is the number of
--- instructions: these begin a valid body, but are none.
+-- instructions before it begin a valid body, and with the one there they do not. If no
+-- instruction is in error, `i` is the number of instructions, which begin a valid body but are not one.
 pub record ErrorAt (C : Context) (is : List Instruction) (results : List ValueType) (i : ℕ) : Type 0 where
   pub within : i ≤ length is
   pub before : Viable C (take i is) results
@@ -120,7 +120,9 @@ pub record FieldsAreValid (C D : Context) (fs : List Field) : Type 0 where
   pub exports : are_distinct (flat_map export_names fs) ≡ true
 
 -- `FirstInvalid fs i c`: the fields before the one at the index `i` meet all conditions of a module, and this field violates
--- one, for the reason `c`. Both are in the contexts of the whole module.
+-- one, for the reason `c`. Both are in the contexts of the whole module. A function or an import whose type use has no type has
+-- no index in these contexts, so that the first such field can be one before it, which uses a later index. No text has such a
+-- type use, since its grammar has none.
 pub record FirstInvalid (fs : List Field) (i : ℕ) (c : Cause) : Type 0 where
   pub field : Field
   pub is : slice_get fs i ≡ Some field
