@@ -2,6 +2,7 @@
 //! theorem.
 ghost use Rattle.wat_module_places.specs.Examples.{Examples};
 ghost use Rattle.wat_module_places.specs.Law.{FieldsArePlaced, InstructionsArePlaced};
+ghost use Rattle.wat_module_places.specs.Law.{PositionsAreTokens, PositionsAreUnique};
 ghost use Rattle.wat_module_places.specs.Law.{WalkIsGrammar};
 
 /// Theorem: the instructions that have positions are those that the grammar derives.
@@ -9,9 +10,20 @@ pub fn instructions_are_placed()
     ensures { InstructionsArePlaced }
 {}
 
-/// Theorem: the fields that have positions are those of the module.
+/// Theorem: the fields that have positions are those of the module, one after another.
 pub fn fields_are_placed()
     ensures { FieldsArePlaced }
+{}
+
+/// Theorem: the position of a field is its keyword, and that of an instruction is in its field, at
+/// its own tokens.
+pub fn positions_are_tokens()
+    ensures { PositionsAreTokens }
+{}
+
+/// Theorem: the positions do not depend on the derivation of the module.
+pub fn positions_are_unique()
+    ensures { PositionsAreUnique }
 {}
 
 /// Theorem: the positions that the code finds are those of the grammar.
