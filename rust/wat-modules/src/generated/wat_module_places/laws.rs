@@ -12,7 +12,7 @@ use wat_lex::shim::prelude::*;
 /// ```
 pub fn instructions_are_placed() {}
 
-/// Theorem: the fields that have positions are those of the module.
+/// Theorem: the fields that have positions are those of the module, one after another.
 ///
 /// # Proved
 ///
@@ -20,6 +20,25 @@ pub fn instructions_are_placed() {}
 /// ensures { FieldsArePlaced }
 /// ```
 pub fn fields_are_placed() {}
+
+/// Theorem: the position of a field is its keyword, and that of an instruction is in its field, at
+/// its own tokens.
+///
+/// # Proved
+///
+/// ```text
+/// ensures { PositionsAreTokens }
+/// ```
+pub fn positions_are_tokens() {}
+
+/// Theorem: the positions do not depend on the derivation of the module.
+///
+/// # Proved
+///
+/// ```text
+/// ensures { PositionsAreUnique }
+/// ```
+pub fn positions_are_unique() {}
 
 /// Theorem: the positions that the code finds are those of the grammar.
 ///
