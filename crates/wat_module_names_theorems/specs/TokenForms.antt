@@ -38,12 +38,13 @@ IsSame item.Then item.Then = Unit {0}
 IsSame item.Other item.Other = Unit {0}
 IsSame i j = ⊥
 
--- `HasItems ts is`: the items `is` are those of the tokens `ts`, possibly with annotations, some of which may be misplaced.
+-- `HasItems ts is`: without the annotations that are not at an occurrence, the items `is` are those of the tokens `ts`, each
+-- possibly with an annotation.
 abbrev pub HasItems : List Terminal → List Item → Type 0
 HasItems ts is = AllZip IsSame (items (Next false) ts) (without_strays is)
 
--- Theorem: the items of a module have the form of a module, also with annotations (`form`). If `names_in` computes names for
--- them, their annotations give these names, and none is misplaced (`placed`).
+-- Theorem: items that are those of the tokens of a module, each possibly with an annotation, have the form of a module (`form`).
+-- If `names_in` computes names for them, their annotations give these names, and none is misplaced (`placed`).
 pub record AnnotatedModulesHaveForm : Type 0 where
   pub form : (ts : List Terminal) (fs : List Field) (is : List Item) → Module ts fs → HasItems ts is → (ns : ModuleNames) × ModuleIs true (without_strays is) ns
   pub placed : (text : List ℕ) (ts : List Terminal) (fs : List Field) (is : List Item) (ns : ModuleNames) → Module ts fs → HasItems ts is → names_in text is ≡ Ok ns → ModuleIs false is ns
