@@ -1,4 +1,4 @@
--- Items that have the form of a module keep it if they get annotations.
+-- Items without annotations that are a module keep its form if they get annotations.
 use Rattle.std.proofs.Common.{◌≡◌, ◌∙◌, Bool, true, false, ◌&&◌, ◌||◌, List, [], ◌∷◌, ◌++◌, None, refl, ap, subst}
 use Rattle.std.specs.List.{AllZip}
 use Rattle.wat_module_annotations.specs.Items as item
@@ -14,7 +14,7 @@ Same is js = AllZip IsSame is js
 
 -- Items that open a group.
 
-opens_same : (i j : Item) → opens true i ≡ true → IsSame i j → opens true j ≡ true
+opens_same : (i j : Item) → opens false i ≡ true → IsSame i j → opens true j ≡ true
 opens_same item.Open item.Open o h = refl
 opens_same item.Header item.Header o h = refl
 opens_same (item.Field p) (item.Field q) o h = refl
@@ -23,7 +23,7 @@ opens_same item.Header j o h = absurd h
 opens_same (item.Field p) j o h = absurd h
 opens_same i j o h = cc
 
-header_same : (inner : Bool) (i j : Item) → opens_header true inner i ≡ true → IsSame i j → opens_header true inner j ≡ true
+header_same : (inner : Bool) (i j : Item) → opens_header false inner i ≡ true → IsSame i j → opens_header true inner j ≡ true
 header_same inner item.Open item.Open o h = o
 header_same inner item.Header item.Header o h = refl
 header_same inner (item.Field p) (item.Field q) o h = refl
@@ -82,7 +82,7 @@ then_kept us (item.Then ∷ q) h = record { rest = q; is = refl; same = h.1 }
 then_kept us [] h = absurd h
 then_kept us (j ∷ q) h = absurd h.0
 
-instructions_kept : (is : List Item) (ls : List Label) (r : List Item) → InstructionsAre true is ls r → (js : List Item) → Same is js → KeptInstructions js r
+instructions_kept : (is : List Item) (ls : List Label) (r : List Item) → InstructionsAre false is ls r → (js : List Item) → Same is js → KeptInstructions js r
 instructions_kept _ _ r placed.by_no_instruction js h = record { labels = []; rest = js; are = placed.by_no_instruction; same = h }
 instructions_kept _ _ r (placed.by_token {is = is} {ls = ls} d) (item.Other ∷ js) h = let k = instructions_kept is ls r d js h.1 in record { labels = k.labels; rest = k.rest; are = placed.by_token k.are; same = k.same }
 instructions_kept _ _ r (placed.by_token d) [] h = absurd h
@@ -95,8 +95,7 @@ instructions_kept _ _ r (placed.by_params d) [] h = absurd h
 instructions_kept _ _ r (placed.by_params {ns = []} d) (j ∷ js) h = absurd h.0
 instructions_kept _ _ r (placed.by_params {ns = n ∷ []} d) (j ∷ js) h = absurd h.0
 instructions_kept _ _ r (placed.by_params {ns = n ∷ m ∷ ns} d) (j ∷ js) h = absurd h.0
-instructions_kept _ _ r (placed.by_named_param e d) [] h = absurd h
-instructions_kept _ _ r (placed.by_named_param e d) (j ∷ js) h = absurd h.0
+instructions_kept _ _ r (placed.by_named_param e d) js h = cc
 instructions_kept _ _ r (placed.by_group {i = i} {is = is} {us = us} {ls = ls} {ms = ms} o d e) (j ∷ js) h =
     let k = instructions_kept is ls (item.Close ∷ us) d js h.1 in
     let c = close_kept us k.rest k.same in
@@ -137,7 +136,7 @@ record KeptHeader (inner : Bool) (js r : List Item) : Type 0 where
   are : HeaderIs true inner js has_params variables rest
   same : Same r rest
 
-header_kept : (inner : Bool) (is : List Item) (p : Bool) (vs : List Label) (r : List Item) → HeaderIs true inner is p vs r → (js : List Item) → Same is js → KeptHeader inner js r
+header_kept : (inner : Bool) (is : List Item) (p : Bool) (vs : List Label) (r : List Item) → HeaderIs false inner is p vs r → (js : List Item) → Same is js → KeptHeader inner js r
 header_kept inner _ _ _ r placed.by_no_header js h = record { has_params = false; variables = []; rest = js; are = placed.by_no_header; same = h }
 header_kept _ _ p vs r (placed.by_header_token {is = is} d) (item.Other ∷ js) h = let k = header_kept true is p vs r d js h.1 in record { has_params = k.has_params; variables = k.variables; rest = k.rest; are = placed.by_header_token k.are; same = k.same }
 header_kept _ _ p vs r (placed.by_header_token d) [] h = absurd h
@@ -175,7 +174,7 @@ record KeptField (js r : List Item) : Type 0 where
   is : FieldIs true js names rest
   same : Same r rest
 
-field_kept : (is : List Item) (f : FieldNames) (r : List Item) → FieldIs true is f r → (js : List Item) → Same is js → KeptField js r
+field_kept : (is : List Item) (f : FieldNames) (r : List Item) → FieldIs false is f r → (js : List Item) → Same is js → KeptField js r
 field_kept _ _ r (placed.by_item {is = is} {bs = bs} {p = p} {vs = vs} {ls = ls} d e b) (item.Field q ∷ js) h =
     let k = header_kept false is p vs bs d js h.1 in
     let m = instructions_kept bs ls (item.Close ∷ r) b k.rest k.same in
@@ -214,7 +213,7 @@ record KeptFields (js r : List Item) : Type 0 where
   are : FieldsAre true js names rest
   same : Same r rest
 
-fields_kept : (is : List Item) (fs : List FieldNames) (r : List Item) → FieldsAre true is fs r → (js : List Item) → Same is js → KeptFields js r
+fields_kept : (is : List Item) (fs : List FieldNames) (r : List Item) → FieldsAre false is fs r → (js : List Item) → Same is js → KeptFields js r
 fields_kept _ _ r placed.by_no_field js h = record { names = []; rest = js; are = placed.by_no_field; same = h }
 fields_kept is _ r (placed.by_field {us = us} {f = f} {fs = fs} one more) js h =
     let k = field_kept is f us one js h in
@@ -225,7 +224,7 @@ nil_kept : (q : List Item) → Same [] q → q ≡ []
 nil_kept [] h = refl
 nil_kept (j ∷ q) h = absurd h
 
-pub module_kept : (is : List Item) (ns : ModuleNames) → ModuleIs true is ns → (js : List Item) → Same is js → (ms : ModuleNames) × ModuleIs true js ms
+pub module_kept : (is : List Item) (ns : ModuleNames) → ModuleIs false is ns → (js : List Item) → Same is js → (ms : ModuleNames) × ModuleIs true js ms
 module_kept _ _ (placed.by_module {is = is} {fs = fs} d) (item.Module p ∷ js) h =
     let k = fields_kept is fs (item.Close ∷ []) d js h.1 in
     let c = close_kept [] k.rest k.same in

@@ -274,7 +274,7 @@ strings_start _ _ r us (fields.by_more {ts = ts} {us = vs} {vs = bytes} {ws = mo
 
 -- The items of the tokens `ts` are a field, up to the rest `r`.
 FieldForm : List Terminal → List Terminal → Type 0
-FieldForm ts r = (b : Bool) → (ns : FieldNames) × placed.FieldIs true (items (Next b) ts) ns (items (Next false) r)
+FieldForm ts r = (b : Bool) → (ns : FieldNames) × placed.FieldIs false (items (Next b) ts) ns (items (Next false) r)
 
 -- the roles of keywords of fields with an identifier
 IsField : Role → Type 0
@@ -284,14 +284,14 @@ IsField k = ⊥
 
 -- a field after its `(` and keyword
 opened_field : (k : Role) (ts hs r : List Terminal) → IsField k → Header false (items (Next true) ts) (items (Next false) hs) → Starts hs → Form (items (Next false) hs) (item.Close ∷ items (Next false) r)
-    → (ns : FieldNames) × placed.FieldIs true (opening k ++ items (within k) ts) ns (items (Next false) r)
+    → (ns : FieldNames) × placed.FieldIs false (opening k ++ items (within k) ts) ns (items (Next false) r)
 unfolding IsField
 opened_field role.Func ts hs r o h s f = (field_names None h.0 h.1 f.0, placed.by_item h.2 s.ends f.1)
 opened_field role.Field ts hs r o h s f = (field_names None h.0 h.1 f.0, placed.by_item h.2 s.ends f.1)
 opened_field k ts hs r o h s f = absurd o
 
 header_end : (hs : List Terminal) → Starts hs → HeaderAre false hs (items (Next false) hs)
-header_end hs s b = (false, [], subst (λ is. placed.HeaderIs true false is false [] (items (Next false) hs)) (sym (s.plain b)) placed.by_no_header)
+header_end hs s b = (false, [], subst (λ is. placed.HeaderIs false false is false [] (items (Next false) hs)) (sym (s.plain b)) placed.by_no_header)
 
 -- a field whose header are the tokens up to `hs`
 field_form : (w : List ℕ) (k : Role) (ts hs r : List Terminal) → role_of w ≡ k → IsField k → HeaderFills false (label_of ts).1 hs → Starts hs → Fills hs (Close ∷ r) → FieldForm (Open ∷ Word w ∷ ts) r
@@ -300,7 +300,7 @@ field_form w k ts hs r e o h s f b =
     let header = label_header false ts (items (Next false) hs) (h (items (Next false) hs) (header_end hs s)) in
     let body = f (item.Close ∷ items (Next false) r) (close_are r) false in
     let q = opened_field k ts hs r o header s body in
-    (q.0, subst (λ is. placed.FieldIs true is q.0 (items (Next false) r)) (sym (group_items b w k ts e)) q.1)
+    (q.0, subst (λ is. placed.FieldIs false is q.0 (items (Next false) r)) (sym (group_items b w k ts e)) q.1)
 
 item_field : (w : List ℕ) (k : Role) (ts hs r : List Terminal) → role_of w ≡ k → k ≡ role.Field → HeaderFills false (label_of ts).1 hs → Starts hs → Fills hs (Close ∷ r) → FieldForm (Open ∷ Word w ∷ ts) r
 unfolding IsField
@@ -353,7 +353,7 @@ import_form : (w v m n : List ℕ) (ts r : List Terminal) → role_of w ≡ role
 unfolding FieldForm items
 import_form w v m n ts r e h b =
     let q = imported_header ts (item.Close ∷ items (Next false) (Close ∷ r)) (h (item.Close ∷ items (Next false) (Close ∷ r)) (close_header true (Close ∷ r))) (is_func (role_of v)) in
-    (field_names None q.0 q.1 [], subst (λ is. placed.FieldIs true is (field_names None q.0 q.1 []) (items (Next false) r)) (sym (group_items b w role.Import (Text m ∷ Text n ∷ Open ∷ Word v ∷ ts) e)) (placed.by_import q.2))
+    (field_names None q.0 q.1 [], subst (λ is. placed.FieldIs false is (field_names None q.0 q.1 []) (items (Next false) r)) (sym (group_items b w role.Import (Text m ∷ Text n ∷ Open ∷ Word v ∷ ts) e)) (placed.by_import q.2))
 
 -- a reference, `(func index)`
 reference_are : (b : Bool) (w : List ℕ) (ts us : List Terminal) (r : List Item) → role_of w ≡ (if b then role.Func else role.Field) → Fills ts (Close ∷ us) → Are us r → Are (Open ∷ Word w ∷ ts) r
@@ -365,13 +365,13 @@ export_form : (w n v : List ℕ) (ts r : List Terminal) (k : Bool) → role_of w
 unfolding FieldForm items
 export_form w n v ts r k e o f b =
     let inner = reference_are k v ts (Close ∷ r) (item.Close ∷ items (Next false) r) o f (close_are r) false in
-    (field_names None false [] inner.0, subst (λ is. placed.FieldIs true is (field_names None false [] inner.0) (items (Next false) r)) (sym (group_items b w role.Header (Text n ∷ Open ∷ Word v ∷ ts) e)) (placed.by_export refl (placed.by_token inner.1)))
+    (field_names None false [] inner.0, subst (λ is. placed.FieldIs false is (field_names None false [] inner.0) (items (Next false) r)) (sym (group_items b w role.Header (Text n ∷ Open ∷ Word v ∷ ts) e)) (placed.by_export refl (placed.by_token inner.1)))
 
 start_form : (w : List ℕ) (ts r : List Terminal) → role_of w ≡ role.Other → ends_header (items (Next false) ts) ≡ true → Fills ts (Close ∷ r) → FieldForm (Open ∷ Word w ∷ ts) r
 unfolding FieldForm
 start_form w ts r e s f b =
     let inner = f (item.Close ∷ items (Next false) r) (close_are r) false in
-    (field_names None false [] inner.0, subst (λ is. placed.FieldIs true is (field_names None false [] inner.0) (items (Next false) r)) (sym (group_items b w role.Other ts e)) (placed.by_start s inner.1))
+    (field_names None false [] inner.0, subst (λ is. placed.FieldIs false is (field_names None false [] inner.0) (items (Next false) r)) (sym (group_items b w role.Other ts e)) (placed.by_start s inner.1))
 
 index_ends : (ls : List Label) (ts : List Terminal) (i : ℕ) (us : List Terminal) → IndexIs ls ts i us → ends_header (items (Next false) ts) ≡ true
 unfolding items
@@ -429,18 +429,18 @@ field_forms types context _ _ r (fields.by_active_data {w = w} {ts = ts} {os = o
 -- Modules.
 
 FieldsForm : List Terminal → List Item → Type 0
-FieldsForm ts r = (b : Bool) → (ns : List FieldNames) × FieldsAre true (items (Next b) ts) ns r
+FieldsForm ts r = (b : Bool) → (ns : List FieldNames) × FieldsAre false (items (Next b) ts) ns r
 
 fields_forms : (types : Types) (context : Context) (ts : List Terminal) (fs : List Field) (r : List Terminal) (q : List Item) → Many (FieldIs types context) ts fs r → ((b : Bool) → items (Next b) r ≡ q) → FieldsForm ts q
 unfolding FieldsForm FieldForm
-fields_forms types context _ _ r q fields.by_none h b = ([], subst (λ is. FieldsAre true is [] q) (sym (h b)) placed.by_no_field)
+fields_forms types context _ _ r q fields.by_none h b = ([], subst (λ is. FieldsAre false is [] q) (sym (h b)) placed.by_no_field)
 fields_forms types context _ _ r q (fields.by_more {ts = ts} {us = us} {vs = fs} {ws = gs} one more) h b =
     let f = field_forms types context ts fs us one b in
     let g = fields_forms types context us gs r q more h false in
     (f.0 ∷ g.0, placed.by_field f.1 g.1)
 
 -- after `(module`, an identifier
-named_fields : (ts : List Terminal) (r : List Item) → FieldsForm (label_of ts).1 r → (ns : List FieldNames) × FieldsAre true (items (Next true) ts) ns r
+named_fields : (ts : List Terminal) (r : List Item) → FieldsForm (label_of ts).1 r → (ns : List FieldNames) × FieldsAre false (items (Next true) ts) ns r
 unfolding FieldsForm items
 named_fields [] r h = h true
 named_fields (Id x ∷ ts) r h = h false
@@ -464,7 +464,7 @@ pub modules_have_form : ModulesHaveForm
 unfolding FieldsForm
 modules_have_form _ fs (modules.by_module {w = w} {ts = ts} e a) =
     let f = named_fields ts (item.Close ∷ []) (fields_forms (own_types fs) (own_context fs) (label_of ts).1 fs (Close ∷ []) (item.Close ∷ []) a.spelled close_items) in
-    (module_names None f.0, subst (λ is. placed.ModuleIs true is (module_names None f.0)) (sym (group_items false w role.Module ts (ap role_of e ∙ module_role))) (placed.by_module f.1))
+    (module_names None f.0, subst (λ is. placed.ModuleIs false is (module_names None f.0)) (sym (group_items false w role.Module ts (ap role_of e ∙ module_role))) (placed.by_module f.1))
 modules_have_form ts fs (modules.by_fields a) = let f = fields_forms (own_types fs) (own_context fs) ts fs [] [] a.spelled no_items false in (module_names None f.0, placed.by_fields f.1)
 
 -- Modules with annotations.

@@ -12,7 +12,7 @@ use Rattle.wat_module_tokens.specs.Terminals.{Terminal, Open, Close, Word, Id, I
 
 -- Instructions, with the names of their labels.
 abbrev pub Form : List Item → List Item → Type 0
-Form is r = (ls : List Label) × InstructionsAre true is ls r
+Form is r = (ls : List Label) × InstructionsAre false is ls r
 
 -- The items of the tokens `ts`, up to the rest `r`, are instructions, also if an identifier is still part of an item before.
 abbrev pub Are : List Terminal → List Item → Type 0
@@ -47,7 +47,7 @@ id_are x ts r h true = h false
 id_are x ts r h false = let f = h false in (f.0, placed.by_token f.1)
 
 pub other_are : (t : Terminal) (ts : List Terminal) (r : List Item) → ((b : Bool) → items (Next b) (t ∷ ts) ≡ item.Other ∷ items (Next false) ts) → Are ts r → Are (t ∷ ts) r
-other_are t ts r e h b = let f = h false in (f.0, subst (λ is. InstructionsAre true is f.0 r) (sym (e b)) (placed.by_token f.1))
+other_are t ts r e h b = let f = h false in (f.0, subst (λ is. InstructionsAre false is f.0 r) (sym (e b)) (placed.by_token f.1))
 
 -- a token that is not a parenthesis
 abbrev pub IsWithin : Terminal → Type 0
@@ -94,7 +94,7 @@ pub other_role : (k : Role) → is_other k ≡ true → k ≡ role.Other
 other_role role.Other e = refl
 other_role k e = cc
 
-grouped : (i : Item) (is us r : List Item) → opens true i ≡ true → Form is (item.Close ∷ us) → Form us r → Form (i ∷ is) r
+grouped : (i : Item) (is us r : List Item) → opens false i ≡ true → Form is (item.Close ∷ us) → Form us r → Form (i ∷ is) r
 grouped i is us r o f g = (f.0 ++ g.0, placed.by_group o f.1 g.1)
 
 group_form : (k : Role) (ts us : List Terminal) (r : List Item) → IsGroup k → Are ts (item.Close ∷ items (Next false) us) → Are us r → Form (opening k ++ items (within k) ts) r
@@ -128,7 +128,7 @@ type_declares w ts us h p ns = h p (ns ++ (None ∷ []))
 pub list_are : (p : Bool) (w : List ℕ) (ts us : List Terminal) (r : List Item) → role_of w ≡ list_role p → Declares ts us → Fills ts (Close ∷ us) → Are us r → Are (Open ∷ Word w ∷ ts) r
 list_are false w ts us r e d f g b = group_are w role.Header ts us r e tt f g b
 list_are true w ts us r e d f g b =
-    let m = d true [] in let q = g false in (q.0, subst (λ is. InstructionsAre true is q.0 r) (sym (group_items b w role.Param ts e ∙ m.1)) (placed.by_params q.1))
+    let m = d true [] in let q = g false in (q.0, subst (λ is. InstructionsAre false is q.0 r) (sym (group_items b w role.Param ts e ∙ m.1)) (placed.by_params q.1))
 
 -- Structured instructions.
 
@@ -139,7 +139,7 @@ block_are w ts us r e f g b =
     subst (λ is. Form is r) (sym (group_items b w role.Block ts e)) (None ∷ (x.0 ++ y.0), placed.by_folded_block x.1 y.1)
 
 then_are : (t : List ℕ) (cs : List Terminal) → role_of t ≡ role.Then → Are (Open ∷ Word t ∷ cs) (item.Then ∷ items (Next false) cs)
-then_are t cs e b = ([], subst (λ is. InstructionsAre true is [] (item.Then ∷ items (Next false) cs)) (sym (group_items b t role.Then cs e)) placed.by_no_instruction)
+then_are t cs e b = ([], subst (λ is. InstructionsAre false is [] (item.Then ∷ items (Next false) cs)) (sym (group_items b t role.Then cs e)) placed.by_no_instruction)
 
 pub if_are : (w t : List ℕ) (ts cs es us : List Terminal) (r : List Item) → role_of w ≡ role.If → role_of t ≡ role.Then → Fills ts (Open ∷ Word t ∷ cs) → Fills cs (Close ∷ es) → Fills es (Close ∷ us) → Are us r → Are (Open ∷ Word w ∷ ts) r
 if_are w t ts cs es us r e k condition body other g b =

@@ -27,7 +27,7 @@ use Rattle.wat_module_tokens.specs.Terminals.{Terminal, Open, Close, Word, Id, I
 
 -- A header, with the names that it declares.
 abbrev pub Header : Bool → List Item → List Item → Type 0
-Header inner is r = (p : Bool) × (vs : List Label) × HeaderIs true inner is p vs r
+Header inner is r = (p : Bool) × (vs : List Label) × HeaderIs false inner is p vs r
 
 -- The items of the tokens `ts`, up to the rest `r`, are a header, also if an identifier is still part of an item before.
 abbrev pub HeaderAre : Bool → List Terminal → List Item → Type 0
@@ -136,7 +136,7 @@ IsInHeader role.Field = Unit {0}
 IsInHeader role.Header = Unit {0}
 IsInHeader k = ⊥
 
-grouped : (inner : Bool) (i : Item) (is us r : List Item) → opens_header true inner i ≡ true → Header true is (item.Close ∷ us) → Header inner us r → Header inner (i ∷ is) r
+grouped : (inner : Bool) (i : Item) (is us r : List Item) → opens_header false inner i ≡ true → Header true is (item.Close ∷ us) → Header inner us r → Header inner (i ∷ is) r
 grouped inner i is us r o f g = (f.0 || g.0, f.1 ++ g.1, placed.by_header_group o f.2 g.2)
 
 group_header : (inner : Bool) (k : Role) (ts us : List Terminal) (r : List Item) → IsInHeader k → HeaderAre true ts (item.Close ∷ items (Next false) us) → HeaderAre inner us r → Header inner (opening k ++ items (within k) ts) r

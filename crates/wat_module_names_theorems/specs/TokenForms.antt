@@ -15,11 +15,11 @@ use Rattle.wat_module_tokens.specs.Terminals.{Terminal, Label}
 
 -- Theorem: the items of a body are instructions, up to its `)`.
 abbrev pub BodiesHaveForm : Type 0
-BodiesHaveForm = (context : Context) (ts : List Terminal) (is : List Instruction) (r : List Terminal) → Body context ts is r → (ls : List Label) × InstructionsAre true (items (Next false) ts) ls (item.Close ∷ items (Next false) r)
+BodiesHaveForm = (context : Context) (ts : List Terminal) (is : List Instruction) (r : List Terminal) → Body context ts is r → (ls : List Label) × InstructionsAre false (items (Next false) ts) ls (item.Close ∷ items (Next false) r)
 
--- Theorem: the items of a module are a module, without annotations.
+-- Theorem: the items of a module, which have no annotations, are a module.
 abbrev pub ModulesHaveForm : Type 0
-ModulesHaveForm = (ts : List Terminal) (fs : List Field) → Module ts fs → (ns : ModuleNames) × ModuleIs true (items (Next false) ts) ns
+ModulesHaveForm = (ts : List Terminal) (fs : List Field) → Module ts fs → (ns : ModuleNames) × ModuleIs false (items (Next false) ts) ns
 
 -- `IsSame i j`: `j` is the item `i`, possibly with an annotation.
 abbrev pub IsSame : Item → Item → Type 0
