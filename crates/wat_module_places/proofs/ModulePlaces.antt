@@ -1,7 +1,7 @@
 -- The code finds the position of an instruction of a module.
 use Rattle.std.proofs.Common.{◌≡◌, ◌∙◌, ℕ, zero, suc, Bool, true, false, List, [], ◌∷◌, ◌++◌, length, map, Option, Some, None, refl, sym, ap, subst, arith}
 use Rattle.std.proofs.lemmas.List.{append-nil}
-use Rattle.std.proofs.lemmas.List.Elements.{All-cons, All-from_recursion, All-nil}
+use Rattle.std.proofs.lemmas.List.Elements.{All-cons, All-from_recursion, All-nil, recursion_from_All}
 use Rattle.std.proofs.lemmas.Option.{slice_get-map}
 use Rattle.std.specs.List.{All, AllByRecursion}
 use Rattle.std.specs.Option.{option_map}
@@ -14,14 +14,14 @@ use Rattle.wat_module_ast.specs.Modules as modules
 use Rattle.wat_module_ast.specs.Modules.{Module, own_context, own_types}
 use Rattle.wat_module_ast.specs.Types.{Types}
 use Rattle.wat_module_places.specs.Fields.{fields_by, fields_in, nth_field}
-use Rattle.wat_module_places.specs.Law.{FieldsArePlaced, PositionsAreTokens, PositionsAreUnique, alone, fields_of, place_of}
+use Rattle.wat_module_places.specs.Law.{FieldsArePlaced, PositionsAreInText, PositionsAreTokens, PositionsAreUnique, alone, fields_of, place_of}
 use Rattle.wat_module_places.specs.Places.{Placed, PlacedField, keyword_in, keyword_of, place_by, place_in, place_or, placed_field, placed_fields, placed_in, placed_module}
-use Rattle.wat_module_places.specs.Positions.{IsInField, IsPlaced, IsPosition}
+use Rattle.wat_module_places.specs.Positions.{BeginsField, IsInField, IsPlaced, IsPosition}
 use Rattle.wat_module_places.specs.Walk.{walk}
 use Rattle.wat_module_places.proofs.Begins.{field_at, field_begins, field_is_one}
 use Rattle.wat_module_places.proofs.FieldPlaces.{field_finds}
 use Rattle.wat_module_places.proofs.Steps.{no_group, this_group}
-use Rattle.wat_module_places.proofs.Tails.{Before, Tail, past_tail, placed_before, position, step, walk_before, whole}
+use Rattle.wat_module_places.proofs.Tails.{Before, Tail, nonempty, past_tail, placed_before, position, step, tail_in, tail_position, walk_before, whole}
 use Rattle.wat_module_places.proofs.Words.{same_word}
 use Rattle.wat_module_tokens.specs.Terminals.{Terminal, Open, Close, Id, Integer, Text, Float, Other, Word, past}
 
@@ -268,3 +268,32 @@ positions_unique = record {
   keywords = λ ts fs gs m n k. sym (module_found ts fs m k) ∙ module_found ts gs n k;
   places = λ ts fs gs m n k i. place_found ts fs m k i ∙ sym (place_found ts gs n k i);
 }
+
+-- The positions that the code returns are positions in the tokens of the module.
+
+-- a position in a part of some tokens
+within_position : (ts us p : List Terminal) → Tail ts us → IsPosition us p → IsPosition ts p
+within_position ts us p h k = tail_position ts p (tail_in ts us p h k.0 k.2) (nonempty us p k)
+
+instruction_position : (ts keyword : List Terminal) (i : ℕ) (ps : List Placed) → Tail ts keyword → IsPosition ts keyword → AllByRecursion (IsInField keyword) ps → (p : List Terminal) → place_or keyword (slice_get ps i) ≡ p → IsPosition ts p
+instruction_position ts keyword i [] h k all p e = subst (IsPosition ts) e k
+instruction_position ts keyword zero (x ∷ ps) h k all p e = subst (IsPosition ts) e (within_position ts keyword x.place h all.0.0)
+instruction_position ts keyword (suc i) (x ∷ ps) h k all p e = instruction_position ts keyword i ps h k all.1 p e
+
+-- the tokens from the keyword of a field on are not empty
+keyword_position : (ts : List Terminal) (fs : List Field) (keyword : List Terminal) → BeginsField fs keyword → IsPosition ts (Open ∷ keyword) → IsPosition ts keyword
+keyword_position ts (f ∷ []) (Word w ∷ us) b h = position ts us (Word w) (step ts (Word w ∷ us) Open (h.0, h.2))
+keyword_position ts fs keyword b h = absurd b
+
+field_position : (context : Context) (ts : List Terminal) (f : PlacedField) (i : ℕ) → IsPlaced context ts f → (p : List Terminal) → place_or f.keyword (slice_get f.instructions i) ≡ p → IsPosition ts p
+field_position context ts f i h p e =
+    let opening = h.opening in
+    instruction_position ts f.keyword i f.instructions (step ts f.keyword Open (opening.0, opening.2)) (keyword_position ts f.field f.keyword h.keyword opening) (recursion_from_All (IsInField f.keyword) f.instructions h.inside) p e
+
+place_position : (context : Context) (ts : List Terminal) (k i : ℕ) (fs : List PlacedField) → AllByRecursion (IsPlaced context ts) fs → (p : List Terminal) → place_by i (slice_get fs k) ≡ Some p → IsPosition ts p
+place_position context ts k i [] h p e = cc
+place_position context ts zero i (f ∷ fs) h p e = field_position context ts f i h.0 p (tokens_is (place_or f.keyword (slice_get f.instructions i)) p e)
+place_position context ts (suc k) i (f ∷ fs) h p e = place_position context ts k i fs h.1 p e
+
+pub positions_in_text : PositionsAreInText
+positions_in_text ts fs m k i p e = place_position (own_context fs) ts k i (placed_module m) (recursion_from_All (IsPlaced (own_context fs) ts) (placed_module m) (positions_placed ts fs m)) p e

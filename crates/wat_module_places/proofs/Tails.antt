@@ -1,5 +1,5 @@
 -- The positions that the code finds in a field are in its tokens, before those that follow it.
-use Rattle.std.proofs.Common.{◌≡◌, ◌∙◌, ◌<◌, ◌≤◌, ℕ, zero, suc, List, [], ◌∷◌, ◌++◌, drop, length, map, refl, ap, arith}
+use Rattle.std.proofs.Common.{◌≡◌, ◌∙◌, ◌<◌, ◌≤◌, ◌+◌, ℕ, zero, suc, List, [], ◌∷◌, ◌++◌, drop, drop-drop, length, map, refl, sym, ap, arith}
 use Rattle.std.specs.List.{AllByRecursion}
 use Rattle.wat_module_places.specs.declared.keywords.Keyword.{Keyword}
 use Rattle.wat_module_places.specs.declared.keywords.Keyword.TheVariants as keyword
@@ -155,3 +155,21 @@ walk_before ts k gs (Other ∷ us) h g e = walk_before ts k gs us (step ts us Ot
 pub placed_before : (ts : List Terminal) (k : ℕ) (ps : List Placed) → AllByRecursion (Before ts k) (map place_of ps) → AllByRecursion (λ p. Before ts k p.place) ps
 placed_before ts k [] h = tt
 placed_before ts k (p ∷ ps) h = (h.0, placed_before ts k ps h.1)
+
+-- Positions in parts of tokens.
+
+pub tail_in : (ts us p : List Terminal) → Tail ts us → (n : ℕ) → p ≡ drop n us → Tail ts p
+tail_in ts us p h n e = (h.0 + n, e ∙ ap (drop n) h.1 ∙ drop-drop n h.0 ts)
+
+short_drop : (n : ℕ) (us : List Terminal) → n < length us → ¬ (drop n us ≡ [])
+short_drop zero [] h e = absurd (omega arith)
+short_drop zero (u ∷ us) h e = cc
+short_drop (suc n) [] h e = absurd (omega arith)
+short_drop (suc n) (u ∷ us) h e = short_drop n us (omega arith) e
+
+pub nonempty : (us p : List Terminal) → IsPosition us p → ¬ (p ≡ [])
+nonempty us p h e = short_drop h.0 us h.1 (sym h.2 ∙ e)
+
+pub tail_position : (ts p : List Terminal) → Tail ts p → ¬ (p ≡ []) → IsPosition ts p
+tail_position ts [] h k = absurd (k refl)
+tail_position ts (t ∷ us) h k = position ts us t h

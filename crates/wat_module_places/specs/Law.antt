@@ -1,12 +1,12 @@
 -- The theorems about positions.
-use Rattle.std.specs.Prelude.{◌≡◌, ◌++◌, ◌∷◌, ℕ, Bool, List, [], map}
+use Rattle.std.specs.Prelude.{◌≡◌, ◌++◌, ◌∷◌, ℕ, Bool, List, [], Some, map}
 use Rattle.std.specs.List.{All}
 use Rattle.wat_module_ast.specs.declared.instruction.Instruction.{Instruction}
 use Rattle.wat_module_ast.specs.Fields.{Field}
 use Rattle.wat_module_ast.specs.Grammar.{Context, Instructions}
 use Rattle.wat_module_ast.specs.Modules.{Module, own_context}
 use Rattle.wat_module_places.specs.Places.{Placed, PlacedField, keyword_in, place_in, placed, placed_module}
-use Rattle.wat_module_places.specs.Positions.{IsPlaced}
+use Rattle.wat_module_places.specs.Positions.{IsPlaced, IsPosition}
 use Rattle.wat_module_places.specs.Walk.{Group, walk}
 use Rattle.wat_module_tokens.specs.Terminals.{Terminal, Label}
 
@@ -35,6 +35,10 @@ FieldsArePlaced = (ts : List Terminal) (fs : List Field) (m : Module ts fs) → 
 -- instruction is in its field, at its own tokens.
 abbrev pub PositionsAreTokens : Type 0
 PositionsAreTokens = (ts : List Terminal) (fs : List Field) (m : Module ts fs) → All (IsPlaced (own_context fs) ts) (placed_module m)
+
+-- Theorem: what `place_in_module` returns for a module is a position in its tokens.
+abbrev pub PositionsAreInText : Type 0
+PositionsAreInText = (ts : List Terminal) (fs : List Field) (m : Module ts fs) (k i : ℕ) (p : List Terminal) → place_in m k i ≡ Some p → IsPosition ts p
 
 -- Theorem: the tokens of a module have one position for each field and for each instruction, whatever the derivation and the
 -- fields that it gives.

@@ -2,7 +2,8 @@
 //! theorem.
 ghost use Rattle.wat_module_places.specs.Examples.{Examples};
 ghost use Rattle.wat_module_places.specs.Law.{FieldsArePlaced, InstructionsArePlaced};
-ghost use Rattle.wat_module_places.specs.Law.{PositionsAreTokens, PositionsAreUnique};
+ghost use Rattle.wat_module_places.specs.Law.{PositionsAreInText, PositionsAreTokens};
+ghost use Rattle.wat_module_places.specs.Law.{PositionsAreUnique};
 ghost use Rattle.wat_module_places.specs.Law.{WalkIsGrammar};
 
 /// Theorem: the instructions that have positions are those that the grammar derives.
@@ -19,6 +20,11 @@ pub fn fields_are_placed()
 /// its own tokens.
 pub fn positions_are_tokens()
     ensures { PositionsAreTokens }
+{}
+
+/// Theorem: a position that `place_in_module` returns for a module is in its tokens.
+pub fn positions_are_in_text()
+    ensures { PositionsAreInText }
 {}
 
 /// Theorem: the positions do not depend on the derivation of the module.

@@ -31,6 +31,15 @@ pub fn fields_are_placed() {}
 /// ```
 pub fn positions_are_tokens() {}
 
+/// Theorem: a position that `place_in_module` returns for a module is in its tokens.
+///
+/// # Proved
+///
+/// ```text
+/// ensures { PositionsAreInText }
+/// ```
+pub fn positions_are_in_text() {}
+
 /// Theorem: the positions do not depend on the derivation of the module.
 ///
 /// # Proved
