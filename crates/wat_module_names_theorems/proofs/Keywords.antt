@@ -1,8 +1,10 @@
 -- The keywords of structured control instructions: each test on a keyword decides the others.
-use Rattle.std.proofs.Common.{◌≡◌, ◌∙◌, ℕ, Bool, true, false, List, Option, Some, None, refl, sym, ap}
+use Rattle.std.proofs.Common.{◌≡◌, ◌∙◌, ℕ, Bool, true, false, ◌⊎◌, List, Option, Some, None, inl, inr, refl, sym, ap}
 use Rattle.std.proofs.lemmas.Slice.Eq.{bytes_eq-Decides}
 use Rattle.std.specs.Prelude.{if◌then◌else◌, ◌||◌, not, bytes_eq, codes, is_some}
 use Rattle.wat_module_ast.specs.Grammar.{is_else, is_end, is_if, is_then, structured}
+use Rattle.wat_module_annotations.specs.declared.reading.Role.TheVariants as role
+use Rattle.wat_module_annotations.specs.Items.{role_of}
 use Rattle.wat_module_names_theorems.specs.BlockLabels.{is_structural}
 
 pub same_word : (w v : List ℕ) → bytes_eq w v ≡ true → w ≡ v
@@ -91,3 +93,32 @@ else_then w e = ap is_then (same_word w (codes "else") e)
 
 pub end_structured : (w : List ℕ) → is_end w ≡ true → structured w ≡ None
 end_structured w e = ap structured (same_word w (codes "end") e)
+
+-- The roles of keywords for name annotations.
+
+block_or_loop : (b c d : Bool) (o : ℕ) → opcode b c d ≡ Some o → is_if o ≡ false → (b ≡ true) ⊎ (c ≡ true)
+unfolding is_if_at
+block_or_loop true c d o e i = inl refl
+block_or_loop false true d o e i = inr refl
+block_or_loop false false true o e i = let f : true ≡ is_if o = ap is_if_at e in cc
+block_or_loop false false false o e i = cc
+
+block_role_by : (w : List ℕ) → (bytes_eq w (codes "block") ≡ true) ⊎ (bytes_eq w (codes "loop") ≡ true) → role_of w ≡ role.Block
+unfolding role_of
+block_role_by w (inl e) = ap role_of (same_word w (codes "block") e)
+block_role_by w (inr e) = ap role_of (same_word w (codes "loop") e)
+
+pub block_role : (w : List ℕ) (o : ℕ) → structured w ≡ Some o → is_if o ≡ false → role_of w ≡ role.Block
+block_role w o e i = block_role_by w (block_or_loop (bytes_eq w (codes "block")) (bytes_eq w (codes "loop")) (bytes_eq w (codes "if")) o e i)
+
+pub if_role : (w : List ℕ) (o : ℕ) → structured w ≡ Some o → is_if o ≡ true → role_of w ≡ role.If
+unfolding role_of
+if_role w o e i = ap role_of (same_word w (codes "if") (if_word w o e i))
+
+pub then_role : (w : List ℕ) → is_then w ≡ true → role_of w ≡ role.Then
+unfolding role_of
+then_role w e = ap role_of (same_word w (codes "then") e)
+
+pub else_role : (w : List ℕ) → is_else w ≡ true → role_of w ≡ role.Other
+unfolding role_of
+else_role w e = ap role_of (same_word w (codes "else") e)

@@ -1,9 +1,15 @@
+mod Annotated
 mod BlockLabels
 mod Derivations
 mod Examples
+mod FieldForms
+mod Filling
+mod Forms
+mod Headers
 mod IndirectNameMaps
 mod Keywords
 mod NameMaps
 mod Opaque
 mod PlainWords
 mod Repetitions
+mod TokenExamples

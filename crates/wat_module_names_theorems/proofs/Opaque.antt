@@ -1,5 +1,5 @@
 -- Immediates, labels and block types have no structured control instruction.
-use Rattle.std.proofs.Common.{◌≡◌, ◌∙◌, ℕ, zero, suc, Bool, true, false, List, [], ◌∷◌, Option, Some, None, Result, Ok, Err, refl, ap, subst}
+use Rattle.std.proofs.Common.{◌≡◌, ℕ, zero, suc, Bool, true, false, List, [], ◌∷◌, Option, Some, None, Result, Ok, Err, refl, sym, ap, subst}
 use Rattle.std.specs.Prelude.{if◌then◌else◌, not, is_some, bytes_eq, codes, nat_lt, slice_get, ◌||◌, ◌^◌, ℤ}
 use Rattle.std.specs.Float.{binary32, binary64}
 use Rattle.wat_floats.specs.Literals.{of_integer}
@@ -29,24 +29,45 @@ use Rattle.wat_module_ast.specs.Memory as memory
 use Rattle.wat_module_names_theorems.specs.BlockLabels as blocks
 use Rattle.wat_module_names_theorems.specs.BlockLabels.{Structure, Structured, is_opaque, is_structural}
 use Rattle.wat_module_names_theorems.specs.Bodies.{opcodes_in, structured_opcode}
+use Rattle.wat_module_annotations.specs.declared.reading.Role.TheVariants as role
+use Rattle.wat_module_annotations.specs.Items.{role_of}
+use Rattle.wat_module_names_theorems.proofs.Filling.{Declares, Fills, IsWithin, close_declares, group_are, is_other, keyword_are, list_are, list_role, token_are, type_declares}
 use Rattle.wat_module_names_theorems.proofs.Keywords.{same_word}
 use Rattle.wat_module_names_theorems.proofs.PlainWords.{IsPlainRow, align_word, found_row, heap_word, offset_word, shape_word, value_word}
 
--- `Passes ts us`: the tokens `ts`, up to the rest `us`, have no structured control instruction.
+-- `Passes ts us`: the tokens `ts`, up to the rest `us`, have no structured control instruction, and their items can precede
+-- instructions.
 pub record Passes (ts us : List Terminal) : Type 0 where
   pub before : (xs : List Structured) (r : List Terminal) → Structure us xs r → Structure ts xs r
+  pub fills : Fills ts us
 
 -- `Ends ts us`: the same of the tokens up to the `)` of a group, and of those after it up to the rest `us`.
 pub record Ends (ts us : List Terminal) : Type 0 where
   pub rest : List Terminal
   pub inner : Structure ts [] (Close ∷ rest)
+  pub fills : Fills ts (Close ∷ rest)
   pub more : Passes rest us
 
-stay : (ts : List Terminal) → Passes ts ts
-stay ts = record { before = λ xs r h. h }
+-- `ListEnds ts us`: likewise, and the tokens up to the `)` are types.
+pub record ListEnds (ts us : List Terminal) : Type 0 where
+  pub ends : Ends ts us
+  pub declares : Declares ts ends.rest
+
+pub stay : (ts : List Terminal) → Passes ts ts
+stay ts = record { before = λ xs r h. h; fills = λ r h. h }
+
+is_within : (t : Terminal) → is_opaque t ≡ true → IsWithin t
+is_within Open e = cc
+is_within Close e = cc
+is_within (Word w) e = tt
+is_within (Id x) e = tt
+is_within (Integer s n) e = tt
+is_within (Text v) e = tt
+is_within (Float narrow wide) e = tt
+is_within Other e = tt
 
 after_token : (t : Terminal) (ts us : List Terminal) → is_opaque t ≡ true → Passes ts us → Passes (t ∷ ts) us
-after_token t ts us o h = record { before = λ xs r k. blocks.by_token o (h.before xs r k) }
+after_token t ts us o h = record { before = λ xs r k. blocks.by_token o (h.before xs r k); fills = λ r k. token_are t ts r (is_within t o) (h.fills r k) }
 
 after_id : (x : List ℕ) (ts : List Terminal) → Passes (Id x ∷ ts) ts
 after_id x ts = after_token (Id x) ts ts refl (stay ts)
@@ -158,7 +179,7 @@ with_f64_keeps (Ok (n, us)) ts h = h
 with_f64_keeps (Err f) ts h = tt
 
 on : (ts us vs : List Terminal) → Passes ts us → Passes us vs → Passes ts vs
-on ts us vs h k = record { before = λ xs r m. h.before xs r (k.before xs r m) }
+on ts us vs h k = record { before = λ xs r m. h.before xs r (k.before xs r m); fills = λ r m. h.fills r (k.fills r m) }
 
 after_word : (w : List ℕ) (ts us : List Terminal) → is_structural w ≡ false → Passes ts us → Passes (Word w ∷ ts) us
 after_word w ts us o h = after_token (Word w) ts us (ap not o) h
@@ -226,71 +247,101 @@ labels_by_keeps ls (Err f) ts h = tt
 
 -- Type uses.
 
-opened : {A : Type 0} (w : List ℕ) (q : Result (A × List Terminal) Fault) (ts : List Terminal) → is_structural w ≡ false → Closing q ts → Keeps q (Open ∷ Word w ∷ ts)
-opened w (Ok (a, us)) ts o h = record { before = λ xs r k. blocks.by_group {inner = []} o h.inner (h.more.before xs r k) }
-opened w (Err f) ts o h = tt
+abbrev ListClosing : {A : Type 0} → Result (A × List Terminal) Fault → List Terminal → Type 0
+ListClosing (Ok (a, us)) ts = ListEnds ts us
+ListClosing (Err f) ts = Unit {0}
+
+-- a group with an index
+opened : {A : Type 0} (w : List ℕ) (q : Result (A × List Terminal) Fault) (ts : List Terminal) → role_of w ≡ role.Field → is_structural w ≡ false → Closing q ts → Keeps q (Open ∷ Word w ∷ ts)
+opened w (Ok (a, us)) ts e o h = record { before = λ xs r k. blocks.by_group {inner = []} o h.inner (h.more.before xs r k); fills = λ r k. group_are w role.Field ts h.rest r e tt h.fills (h.more.fills r k) }
+opened w (Err f) ts e o h = tt
+
+-- a group of types
+listed : {A : Type 0} (p : Bool) (w : List ℕ) (q : Result (A × List Terminal) Fault) (ts : List Terminal) → role_of w ≡ list_role p → is_structural w ≡ false → ListClosing q ts → Keeps q (Open ∷ Word w ∷ ts)
+listed p w (Ok (a, us)) ts e o h = record { before = λ xs r k. blocks.by_group {inner = []} o h.ends.inner (h.ends.more.before xs r k); fills = λ r k. list_are p w ts h.ends.rest r e h.declares h.ends.fills (h.ends.more.fills r k) }
+listed p w (Err f) ts e o h = tt
 
 shut : {A : Type 0} (q : Result (A × List Terminal) Fault) (ts : List Terminal) → Keeps q ts → Closing q (Close ∷ ts)
-shut (Ok (a, us)) ts h = record { rest = ts; inner = blocks.by_none; more = h }
+shut (Ok (a, us)) ts h = record { rest = ts; inner = blocks.by_none; fills = λ r k. k; more = h }
 shut (Err f) ts h = tt
 
+list_shut : {A : Type 0} (q : Result (A × List Terminal) Fault) (ts : List Terminal) → Keeps q ts → ListClosing q (Close ∷ ts)
+list_shut (Ok (a, us)) ts h = record { ends = record { rest = ts; inner = blocks.by_none; fills = λ r k. k; more = h }; declares = close_declares ts }
+list_shut (Err f) ts h = tt
+
 on_closing : {A : Type 0} (q : Result (A × List Terminal) Fault) (ts us : List Terminal) → Passes ts us → Closing q us → Closing q ts
-on_closing (Ok (a, vs)) ts us h k = record { rest = k.rest; inner = h.before [] (Close ∷ k.rest) k.inner; more = k.more }
+on_closing (Ok (a, vs)) ts us h k = record { rest = k.rest; inner = h.before [] (Close ∷ k.rest) k.inner; fills = λ r m. h.fills r (k.fills r m); more = k.more }
 on_closing (Err f) ts us h k = tt
 
 abbrev ListedKeeps : Bool → Result (List ValueType × List Terminal) Fault → List Terminal → Type 0
 ListedKeeps false q ts = Keeps q ts
-ListedKeeps true q ts = Closing q ts
+ListedKeeps true q ts = ListClosing q ts
 
-group_keeps : (b : Bool) (w word : List ℕ) (ts : List Terminal) → (b ≡ true → is_structural w ≡ false) → Closing (grammar.listed word true ts) ts → Keeps (if b then grammar.listed word true ts else Ok ([], Open ∷ Word w ∷ ts)) (Open ∷ Word w ∷ ts)
-group_keeps true w word ts f h = opened w (grammar.listed word true ts) ts (f refl) h
-group_keeps false w word ts f h = stay (Open ∷ Word w ∷ ts)
+-- a keyword of a group of types: `true` for `param`, `false` for `result`
+record IsListWord (p : Bool) (word : List ℕ) : Type 0 where
+  role : role_of word ≡ list_role p
+  plain : is_structural word ≡ false
 
-types_end : (o : Option ValueType) (w : List ℕ) (q : Result (List ValueType × List Terminal) Fault) (ts : List Terminal) → (is_some o ≡ true → is_structural w ≡ false) → Closing q ts → Closing (grammar.before_types o (Word w ∷ ts) q) (Word w ∷ ts)
+param_word : IsListWord true (codes "param")
+unfolding role_of
+param_word = record { role = refl; plain = refl }
+
+result_word : IsListWord false (codes "result")
+unfolding role_of
+result_word = record { role = refl; plain = refl }
+
+group_keeps : (p b : Bool) (w word : List ℕ) (ts : List Terminal) → (b ≡ true → IsListWord p w) → ListClosing (grammar.listed word true ts) ts → Keeps (if b then grammar.listed word true ts else Ok ([], Open ∷ Word w ∷ ts)) (Open ∷ Word w ∷ ts)
+group_keeps p true w word ts f h = let l = f refl in listed p w (grammar.listed word true ts) ts l.role l.plain h
+group_keeps p false w word ts f h = stay (Open ∷ Word w ∷ ts)
+
+types_end : (o : Option ValueType) (w : List ℕ) (q : Result (List ValueType × List Terminal) Fault) (ts : List Terminal) → (is_some o ≡ true → is_structural w ≡ false) → ListClosing q ts → ListClosing (grammar.before_types o (Word w ∷ ts) q) (Word w ∷ ts)
 types_end None w q ts f h = tt
-types_end (Some t) w (Ok (us, vs)) ts f h = record { rest = h.rest; inner = blocks.by_token (ap not (f refl)) h.inner; more = h.more }
+types_end (Some t) w (Ok (us, vs)) ts f h = record {
+  ends = record { rest = h.ends.rest; inner = blocks.by_token (ap not (f refl)) h.ends.inner; fills = λ r k. keyword_are w ts r (h.ends.fills r k); more = h.ends.more };
+  declares = type_declares w ts h.ends.rest h.declares;
+}
 types_end (Some t) w (Err f) ts g h = tt
 
-listed_keeps : (word : List ℕ) (inside : Bool) (ts : List Terminal) → is_structural word ≡ false → ListedKeeps inside (grammar.listed word inside ts) ts
+listed_keeps : (p : Bool) (word : List ℕ) (inside : Bool) (ts : List Terminal) → IsListWord p word → ListedKeeps inside (grammar.listed word inside ts) ts
 unfolding grammar.listed
-listed_keeps word false (Open ∷ Word w ∷ ts) o = group_keeps (bytes_eq w word) w word ts (λ f. ap is_structural (same_word w word f) ∙ o) (listed_keeps word true ts o)
-listed_keeps word false [] o = stay []
-listed_keeps word false (Open ∷ []) o = stay (Open ∷ [])
-listed_keeps word false (Open ∷ Open ∷ ts) o = stay (Open ∷ Open ∷ ts)
-listed_keeps word false (Open ∷ Close ∷ ts) o = stay (Open ∷ Close ∷ ts)
-listed_keeps word false (Open ∷ Id x ∷ ts) o = stay (Open ∷ Id x ∷ ts)
-listed_keeps word false (Open ∷ Integer s n ∷ ts) o = stay (Open ∷ Integer s n ∷ ts)
-listed_keeps word false (Open ∷ Text v ∷ ts) o = stay (Open ∷ Text v ∷ ts)
-listed_keeps word false (Open ∷ Float narrow wide ∷ ts) o = stay (Open ∷ Float narrow wide ∷ ts)
-listed_keeps word false (Open ∷ Other ∷ ts) o = stay (Open ∷ Other ∷ ts)
-listed_keeps word false (Close ∷ ts) o = stay (Close ∷ ts)
-listed_keeps word false (Word v ∷ ts) o = stay (Word v ∷ ts)
-listed_keeps word false (Id x ∷ ts) o = stay (Id x ∷ ts)
-listed_keeps word false (Integer s n ∷ ts) o = stay (Integer s n ∷ ts)
-listed_keeps word false (Text v ∷ ts) o = stay (Text v ∷ ts)
-listed_keeps word false (Float narrow wide ∷ ts) o = stay (Float narrow wide ∷ ts)
-listed_keeps word false (Other ∷ ts) o = stay (Other ∷ ts)
-listed_keeps word true (Word w ∷ ts) o = types_end (grammar.value_type w) w (grammar.listed word true ts) ts (value_word w) (listed_keeps word true ts o)
-listed_keeps word true (Close ∷ ts) o = shut (grammar.listed word false ts) ts (listed_keeps word false ts o)
-listed_keeps word true [] o = tt
-listed_keeps word true (Open ∷ ts) o = tt
-listed_keeps word true (Id x ∷ ts) o = tt
-listed_keeps word true (Integer s n ∷ ts) o = tt
-listed_keeps word true (Text v ∷ ts) o = tt
-listed_keeps word true (Float narrow wide ∷ ts) o = tt
-listed_keeps word true (Other ∷ ts) o = tt
+listed_keeps p word false (Open ∷ Word w ∷ ts) o = group_keeps p (bytes_eq w word) w word ts (λ f. subst (IsListWord p) (sym (same_word w word f)) o) (listed_keeps p word true ts o)
+listed_keeps p word false [] o = stay []
+listed_keeps p word false (Open ∷ []) o = stay (Open ∷ [])
+listed_keeps p word false (Open ∷ Open ∷ ts) o = stay (Open ∷ Open ∷ ts)
+listed_keeps p word false (Open ∷ Close ∷ ts) o = stay (Open ∷ Close ∷ ts)
+listed_keeps p word false (Open ∷ Id x ∷ ts) o = stay (Open ∷ Id x ∷ ts)
+listed_keeps p word false (Open ∷ Integer s n ∷ ts) o = stay (Open ∷ Integer s n ∷ ts)
+listed_keeps p word false (Open ∷ Text v ∷ ts) o = stay (Open ∷ Text v ∷ ts)
+listed_keeps p word false (Open ∷ Float narrow wide ∷ ts) o = stay (Open ∷ Float narrow wide ∷ ts)
+listed_keeps p word false (Open ∷ Other ∷ ts) o = stay (Open ∷ Other ∷ ts)
+listed_keeps p word false (Close ∷ ts) o = stay (Close ∷ ts)
+listed_keeps p word false (Word v ∷ ts) o = stay (Word v ∷ ts)
+listed_keeps p word false (Id x ∷ ts) o = stay (Id x ∷ ts)
+listed_keeps p word false (Integer s n ∷ ts) o = stay (Integer s n ∷ ts)
+listed_keeps p word false (Text v ∷ ts) o = stay (Text v ∷ ts)
+listed_keeps p word false (Float narrow wide ∷ ts) o = stay (Float narrow wide ∷ ts)
+listed_keeps p word false (Other ∷ ts) o = stay (Other ∷ ts)
+listed_keeps p word true (Word w ∷ ts) o = types_end (grammar.value_type w) w (grammar.listed word true ts) ts (value_word w) (listed_keeps p word true ts o)
+listed_keeps p word true (Close ∷ ts) o = list_shut (grammar.listed word false ts) ts (listed_keeps p word false ts o)
+listed_keeps p word true [] o = tt
+listed_keeps p word true (Open ∷ ts) o = tt
+listed_keeps p word true (Id x ∷ ts) o = tt
+listed_keeps p word true (Integer s n ∷ ts) o = tt
+listed_keeps p word true (Text v ∷ ts) o = tt
+listed_keeps p word true (Float narrow wide ∷ ts) o = tt
+listed_keeps p word true (Other ∷ ts) o = tt
 
 with_results_keeps : (ps : List ValueType) (q : Result (List ValueType × List Terminal) Fault) (ts us : List Terminal) → Passes ts us → Keeps q us → Keeps (grammar.with_results ps q) ts
 with_results_keeps ps (Ok (rs, vs)) ts us h k = on ts us vs h k
 with_results_keeps ps (Err f) ts us h k = tt
 
 and_results_keeps : (q : Result (List ValueType × List Terminal) Fault) (ts : List Terminal) → Keeps q ts → Keeps (grammar.and_results q) ts
-and_results_keeps (Ok (ps, us)) ts h = with_results_keeps ps (grammar.listed (codes "result") false us) ts us h (listed_keeps (codes "result") false us refl)
+and_results_keeps (Ok (ps, us)) ts h = with_results_keeps ps (grammar.listed (codes "result") false us) ts us h (listed_keeps false (codes "result") false us result_word)
 and_results_keeps (Err f) ts h = tt
 
 lists_keeps : (ts : List Terminal) → Keeps (grammar.lists_of ts) ts
 unfolding grammar.lists_of
-lists_keeps ts = and_results_keeps (grammar.listed (codes "param") false ts) ts (listed_keeps (codes "param") false ts refl)
+lists_keeps ts = and_results_keeps (grammar.listed (codes "param") false ts) ts (listed_keeps true (codes "param") false ts param_word)
 
 listed_use_keeps : (q : Result (FunctionType × List Terminal) Fault) (ts : List Terminal) → Keeps q ts → Keeps (grammar.listed_use q) ts
 listed_use_keeps (Ok (t, us)) ts h = h
@@ -334,13 +385,22 @@ indexed_ends types all (Err f) ts h = tt
 listed_alone : (types : Types) (ts : List Terminal) → Keeps (grammar.use_by types None ts) ts
 listed_alone types ts = listed_use_keeps (grammar.lists_of ts) ts (lists_keeps ts)
 
-use_word : (types : Types) (b : Bool) (w : List ℕ) (ts : List Terminal) → (b ≡ true → is_structural w ≡ false) → Keeps (grammar.use_by types (if b then Some ts else None) (Open ∷ Word w ∷ ts)) (Open ∷ Word w ∷ ts)
-use_word types true w ts f = opened w (grammar.indexed_use types ts (grammar.index space.Type types.names ts)) ts (f refl) (indexed_ends types ts (grammar.index space.Type types.names ts) ts (index_keeps space.Type types.names ts))
+-- the keyword of an index
+record IsTypeWord (w : List ℕ) : Type 0 where
+  role : role_of w ≡ role.Field
+  plain : is_structural w ≡ false
+
+type_word : IsTypeWord (codes "type")
+unfolding role_of
+type_word = record { role = refl; plain = refl }
+
+use_word : (types : Types) (b : Bool) (w : List ℕ) (ts : List Terminal) → (b ≡ true → IsTypeWord w) → Keeps (grammar.use_by types (if b then Some ts else None) (Open ∷ Word w ∷ ts)) (Open ∷ Word w ∷ ts)
+use_word types true w ts f = let l = f refl in opened w (grammar.indexed_use types ts (grammar.index space.Type types.names ts)) ts l.role l.plain (indexed_ends types ts (grammar.index space.Type types.names ts) ts (index_keeps space.Type types.names ts))
 use_word types false w ts f = listed_alone types (Open ∷ Word w ∷ ts)
 
 use_keeps : (types : Types) (ts : List Terminal) → Keeps (grammar.use_of types ts) ts
 unfolding grammar.use_of
-use_keeps types (Open ∷ Word w ∷ ts) = use_word types (bytes_eq w (codes "type")) w ts (λ f. ap is_structural (same_word w (codes "type") f))
+use_keeps types (Open ∷ Word w ∷ ts) = use_word types (bytes_eq w (codes "type")) w ts (λ f. subst IsTypeWord (sym (same_word w (codes "type") f)) type_word)
 use_keeps types [] = listed_alone types []
 use_keeps types (Open ∷ []) = listed_alone types (Open ∷ [])
 use_keeps types (Open ∷ Open ∷ ts) = listed_alone types (Open ∷ Open ∷ ts)
@@ -405,7 +465,7 @@ with_types_keeps (Err f) ts h = tt
 
 select_keeps : (o : Option (List Terminal)) (ts : List Terminal) → Keeps (grammar.select_by o ts) ts
 select_keeps None ts = stay ts
-select_keeps (Some us) ts = with_types_keeps (grammar.listed (codes "result") false ts) ts (listed_keeps (codes "result") false ts refl)
+select_keeps (Some us) ts = with_types_keeps (grammar.listed (codes "result") false ts) ts (listed_keeps false (codes "result") false ts result_word)
 
 -- Tables and segments.
 
@@ -559,6 +619,7 @@ immediate_keeps context ls immediate.Vector ts = constant_keeps ts
 -- the opcode of no such instruction.
 pub record IsPlain (i : Instruction) (w : List ℕ) (ts us : List Terminal) : Type 0 where
   pub word : is_structural w ≡ false
+  pub role : is_other (role_of w) ≡ true
   pub immediate : Passes ts us
   pub opcode : opcodes_in i ≡ []
 
@@ -570,14 +631,14 @@ opcode_of_plain : (o : Opcode) (a : Argument) → structured_opcode o ≡ [] →
 opcode_of_plain o (argument.Select ts) e = refl
 opcode_of_plain o a e = e
 
-with_opcode_plain : (o : Opcode) (q : Result (Argument × List Terminal) Fault) (w : List ℕ) (ts : List Terminal) → is_structural w ≡ false → structured_opcode o ≡ [] → Keeps q ts → Plain (grammar.with_opcode o q) w ts
-with_opcode_plain o (Ok (a, us)) w ts f e h = record { word = f; immediate = h; opcode = opcode_of_plain o a e }
-with_opcode_plain o (Err f) w ts g e h = tt
+with_opcode_plain : (o : Opcode) (q : Result (Argument × List Terminal) Fault) (w : List ℕ) (ts : List Terminal) → is_structural w ≡ false → is_other (role_of w) ≡ true → structured_opcode o ≡ [] → Keeps q ts → Plain (grammar.with_opcode o q) w ts
+with_opcode_plain o (Ok (a, us)) w ts f k e h = record { word = f; role = k; immediate = h; opcode = opcode_of_plain o a e }
+with_opcode_plain o (Err f) w ts g k e h = tt
 
 plain_by_plain : (context : Context) (ls : List Label) (o : Option Mnemonic) (w : List ℕ) (ts : List Terminal) → found w mnemonics ≡ o → Plain (grammar.plain_by context ls o (Word w ∷ ts) ts) w ts
 plain_by_plain context ls None w ts e = tt
 plain_by_plain context ls (Some m) w ts e =
-    let row : IsPlainRow w m = found_row w m e in with_opcode_plain m.opcode (grammar.immediate_of context ls m.immediate ts) w ts row.word row.opcode (immediate_keeps context ls m.immediate ts)
+    let row : IsPlainRow w m = found_row w m e in with_opcode_plain m.opcode (grammar.immediate_of context ls m.immediate ts) w ts row.word row.role row.opcode (immediate_keeps context ls m.immediate ts)
 
 plain_at : (context : Context) (ls : List Label) (w : List ℕ) (ts : List Terminal) → Plain (plain context ls (Word w ∷ ts)) w ts
 unfolding plain

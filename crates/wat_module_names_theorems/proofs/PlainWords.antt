@@ -2,13 +2,15 @@
 -- opcodes.
 use Rattle.std.proofs.Common.{◌≡◌, ◌∙◌, ℕ, Bool, true, false, List, [], ◌∷◌, ◌++◌, Some, refl, sym, ap, subst}
 use Rattle.std.specs.Prelude.{if◌then◌else◌, not, ◌==◌, ◌&&◌, ◌||◌, bytes_eq, codes, is_some}
-use Rattle.wat_module_ast.specs.Grammar.{heap_type, is_else, is_end, is_then, shape, value_type}
+use Rattle.wat_module_ast.specs.Grammar.{heap_type, is_else, is_end, is_then, reference_type, shape, value_type}
 use Rattle.wat_module_ast.specs.Memory as memory
 use Rattle.wat_module_ast.specs.Table.{Mnemonic, found, high, high_vectors, low, low_vectors, mnemonics, prefixed}
 use Rattle.wat_module_ast.specs.declared.instruction.Opcode.{Opcode}
 use Rattle.wat_module_ast.specs.declared.instruction.Opcode.TheVariants.{Byte, Prefixed}
 use Rattle.wat_module_names_theorems.specs.BlockLabels.{is_structural}
 use Rattle.wat_module_names_theorems.specs.Bodies.{structured_opcode}
+use Rattle.wat_module_annotations.specs.Items.{role_of}
+use Rattle.wat_module_names_theorems.proofs.Filling.{is_other}
 use Rattle.wat_module_names_theorems.proofs.Keywords.{not_true, opcode, same_word}
 
 -- What holds of each of these keywords.
@@ -50,6 +52,9 @@ align_word = other (λ w. is_some (memory.align w)) refl refl refl refl refl ref
 pub value_word : (w : List ℕ) → is_some (value_type w) ≡ true → is_structural w ≡ false
 value_word = other (λ w. is_some (value_type w)) refl refl refl refl refl refl
 
+pub reference_word : (w : List ℕ) → is_some (reference_type w) ≡ true → is_structural w ≡ false
+reference_word = other (λ w. is_some (reference_type w)) refl refl refl refl refl refl
+
 pub heap_word : (w : List ℕ) → is_some (heap_type w) ≡ true → is_structural w ≡ false
 heap_word = other (λ w. is_some (heap_type w)) refl refl refl refl refl refl
 
@@ -63,7 +68,7 @@ is_plain_opcode (Byte b) = not ((b == 0x02) || ((b == 0x03) || (b == 0x04)))
 is_plain_opcode (Prefixed prefix b) = true
 
 abbrev is_plain_row : Mnemonic → Bool
-is_plain_row m = not (is_structural m.word) && is_plain_opcode m.opcode
+is_plain_row m = not (is_structural m.word) && (is_plain_opcode m.opcode && is_other (role_of m.word))
 
 abbrev are_plain : List Mnemonic → Bool
 are_plain [] = true
@@ -86,23 +91,23 @@ plain_on [] ns e f = f
 plain_on (m ∷ ms) ns e f = both_true (is_plain_row m) (are_plain ms) (are_plain (ms ++ ns)) e (λ g. plain_on ms ns g f)
 
 plain_low : are_plain low ≡ true
-unfolding low
+unfolding low role_of
 plain_low = refl
 
 plain_high : are_plain high ≡ true
-unfolding high
+unfolding high role_of
 plain_high = refl
 
 plain_prefixed : are_plain prefixed ≡ true
-unfolding prefixed
+unfolding prefixed role_of
 plain_prefixed = refl
 
 plain_low_vectors : are_plain low_vectors ≡ true
-unfolding low_vectors
+unfolding low_vectors role_of
 plain_low_vectors = refl
 
 plain_high_vectors : are_plain high_vectors ≡ true
-unfolding high_vectors
+unfolding high_vectors role_of
 plain_high_vectors = refl
 
 plain_rows : are_plain mnemonics ≡ true
@@ -111,6 +116,7 @@ plain_rows = plain_on low (high ++ (prefixed ++ (low_vectors ++ high_vectors))) 
 
 pub record IsPlainRow (w : List ℕ) (m : Mnemonic) : Type 0 where
   pub word : is_structural w ≡ false
+  pub role : is_other (role_of w) ≡ true
   pub opcode : structured_opcode m.opcode ≡ []
 
 plain_byte : (b : Bool) (n : ℕ) → not b ≡ true → (if b then n ∷ [] else []) ≡ []
@@ -123,8 +129,9 @@ plain_opcode (Prefixed prefix b) e = refl
 
 row : (w : List ℕ) (m : Mnemonic) → m.word ≡ w → is_plain_row m ≡ true → IsPlainRow w m
 row w m e p = record {
-  word = not_true (is_structural w) (ap (λ v. not (is_structural v)) (sym e) ∙ first_true (not (is_structural m.word)) (is_plain_opcode m.opcode) p);
-  opcode = plain_opcode m.opcode (second_true (not (is_structural m.word)) (is_plain_opcode m.opcode) p);
+  word = not_true (is_structural w) (ap (λ v. not (is_structural v)) (sym e) ∙ first_true (not (is_structural m.word)) (is_plain_opcode m.opcode && is_other (role_of m.word)) p);
+  role = ap (λ v. is_other (role_of v)) (sym e) ∙ second_true (is_plain_opcode m.opcode) (is_other (role_of m.word)) (second_true (not (is_structural m.word)) (is_plain_opcode m.opcode && is_other (role_of m.word)) p);
+  opcode = plain_opcode m.opcode (first_true (is_plain_opcode m.opcode) (is_other (role_of m.word)) (second_true (not (is_structural m.word)) (is_plain_opcode m.opcode && is_other (role_of m.word)) p));
 }
 
 row_by : (w : List ℕ) (b : Bool) (n m : Mnemonic) (ms : List Mnemonic) → bytes_eq n.word w ≡ b → (is_plain_row n && are_plain ms) ≡ true → (if b then Some n else found w ms) ≡ Some m → (are_plain ms ≡ true → found w ms ≡ Some m → IsPlainRow w m) → IsPlainRow w m

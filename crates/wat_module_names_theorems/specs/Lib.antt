@@ -4,3 +4,6 @@ pub mod Examples
 pub mod IndirectNameMaps
 pub mod NameMaps
 pub mod Repetitions
+pub mod TokenExamples
+pub mod TokenForms
+pub mod TokenItems

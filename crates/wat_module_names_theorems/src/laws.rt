@@ -6,7 +6,12 @@ ghost use Rattle.wat_module_names_theorems.specs.Examples.{Examples};
 ghost use Rattle.wat_module_names_theorems.specs.IndirectNameMaps.{IndirectAssociationsAreNameMap};
 ghost use Rattle.wat_module_names_theorems.specs.NameMaps.{AssociationsAreNameMap};
 ghost use Rattle.wat_module_names_theorems.specs.Repetitions.{FirstIsRepeated};
+ghost use Rattle.wat_module_names_theorems.specs.TokenExamples.{TokenExamples};
+ghost use Rattle.wat_module_names_theorems.specs.TokenForms.{AnnotatedModulesHaveForm};
+ghost use Rattle.wat_module_names_theorems.specs.TokenForms.{BodiesHaveForm, ModulesHaveForm};
 ghost use Rattle.wat_module_tokens.specs.Terminals.{Label};
+
+use wat_module_annotations::laws::names_are_placed;
 
 /// Theorem: the labels of a body, from which the name section is made, are those of its structured
 /// control instructions, in the order of the binary format.
@@ -42,4 +47,30 @@ pub fn indirect_associations_are_name_map()
 /// the identifiers are distinct.
 pub fn first_is_repeated()
     ensures { (labels : List Label) → FirstIsRepeated labels }
+{}
+
+/// Theorem: the items of each body in the grammar are instructions, in the grammar of name
+/// annotations.
+pub fn bodies_have_form()
+    ensures { BodiesHaveForm }
+{}
+
+/// Theorem: the items of each module in the grammar are a module, in the grammar of name
+/// annotations.
+pub fn modules_have_form()
+    ensures { ModulesHaveForm }
+{}
+
+/// Theorem: the items of each module in the grammar have the form of a module, also with
+/// annotations. If names are computed for them, their annotations give these names, and none is
+/// misplaced.
+pub fn annotated_modules_have_form()
+    ensures { AnnotatedModulesHaveForm }
+{
+    names_are_placed();
+}
+
+/// Theorem: the items of the tokens of four texts.
+pub fn token_examples()
+    ensures { TokenExamples }
 {}

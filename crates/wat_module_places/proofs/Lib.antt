@@ -1,8 +1,10 @@
+mod Begins
 mod Examples
 mod FieldPlaces
 mod Finding
 mod ModulePlaces
 mod Passing
 mod Steps
+mod Tails
 mod Walking
 mod Words

@@ -167,10 +167,10 @@ pub fn compile_with_customs(alloc: Global, text: &str) -> Result<Vec<u8>, Error>
 /// # Errors
 ///
 /// Returns the errors of [`compile_with_customs`], but if the text is a module that is not valid,
-/// returns an error in its first field that is not valid: at the first instruction of a body that
-/// is not valid, or at the first one of an initial value or an offset that is not valid. An error
-/// at the end of a body, in an element, or of another condition is at the keyword of the field
-/// (`specs/ValidityMessages`).
+/// returns an error in its first field that is not valid: for a body at its first instruction that
+/// is not valid, for an initial value or an offset at its first instruction. Any other error (the
+/// end of a body, an empty initial value or offset, an element, another condition) is at the
+/// keyword of the field (`specs/ValidityMessages`).
 ///
 /// # Proved
 ///
@@ -227,10 +227,10 @@ pub fn compile_valid(alloc: Global, text: &str) -> Result<Vec<u8>, Error> {
 /// # Errors
 ///
 /// Returns the errors of [`compile`], but if the text is a module that is not valid, returns an
-/// error in its first field that is not valid: at the first instruction of a body that is not
-/// valid, or at the first one of an initial value or an offset that is not valid. An error at the
-/// end of a body, in an element, or of another condition is at the keyword of the field
-/// (`specs/ValidityMessages`).
+/// error in its first field that is not valid: for a body at its first instruction that is not
+/// valid, for an initial value or an offset at its first instruction. Any other error (the end of a
+/// body, an empty initial value or offset, an element, another condition) is at the keyword of the
+/// field (`specs/ValidityMessages`).
 ///
 /// # Proved
 ///

@@ -3,7 +3,8 @@
 //! theorem.
 
 use wat_lex::shim::prelude::*;
-/// Theorem: the instructions that have positions are those that the grammar derives.
+/// Theorem: the instructions of an expression that have positions are those that the grammar
+/// derives.
 ///
 /// # Proved
 ///
@@ -12,7 +13,7 @@ use wat_lex::shim::prelude::*;
 /// ```
 pub fn instructions_are_placed() {}
 
-/// Theorem: the fields that have positions are those of the module.
+/// Theorem: the fields that have positions are those of the module, one after another.
 ///
 /// # Proved
 ///
@@ -20,6 +21,34 @@ pub fn instructions_are_placed() {}
 /// ensures { FieldsArePlaced }
 /// ```
 pub fn fields_are_placed() {}
+
+/// Theorem: the position of a field is its keyword, and that of an instruction is in its field, at
+/// tokens with which such an instruction begins.
+///
+/// # Proved
+///
+/// ```text
+/// ensures { PositionsAreTokens }
+/// ```
+pub fn positions_are_tokens() {}
+
+/// Theorem: a position that `place_in_module` returns for a module is in its tokens.
+///
+/// # Proved
+///
+/// ```text
+/// ensures { PositionsAreInText }
+/// ```
+pub fn positions_are_in_text() {}
+
+/// Theorem: the positions do not depend on the derivation of the module.
+///
+/// # Proved
+///
+/// ```text
+/// ensures { PositionsAreUnique }
+/// ```
+pub fn positions_are_unique() {}
 
 /// Theorem: the positions that the code finds are those of the grammar.
 ///
