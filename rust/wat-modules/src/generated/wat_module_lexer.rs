@@ -311,12 +311,37 @@ fn push_close(
     packed: &mut PackedTokens<'_>,
     groups: &mut Vec<u32>,
 ) -> Result<(), AllocError> {
-    packed.tokens.push(PackedToken::Close)?;
     if let Some(begin) = groups.pop() {
+        if let Some(group) = keyword_group(&packed.tokens, begin as usize) {
+            packed.tokens.truncate(begin as usize);
+            packed.tokens.push(group)?;
+            return Ok(());
+        }
+        packed.tokens.push(PackedToken::Close)?;
         let end = PackedU32::new(packed.tokens.len() as u32);
         packed.tokens[begin as usize] = PackedToken::Open(end);
+        return Ok(());
     }
+    packed.tokens.push(PackedToken::Close)?;
     Ok(())
+}
+
+/// Returns one packed token for a group of two keywords, if the tokens from an index on are those
+/// of one without its `)`.
+fn keyword_group(tokens: &[PackedToken], begin: usize) -> Option<PackedToken> {
+    if tokens.len() != begin + 3 {
+        return None;
+    }
+    match (tokens[begin + 1], tokens[begin + 2]) {
+        (PackedToken::Word(first, len), PackedToken::Word(second, other_len))
+            if len < 16
+                && other_len < 16
+                && second.number() == first.number() + u32::from(len) + 1 =>
+        {
+            Some(PackedToken::KeywordGroup(first, len * 16 + other_len))
+        }
+        _ => None,
+    }
 }
 
 /// Appends a token that has no entry in the side table.
