@@ -100,6 +100,7 @@ module _ (P : List (List Terminal)) (v w : List ℕ) where
       after_open : (Q : List (List Terminal)) → joined (drop (suc (length Q)) (Q ++ three)) ≡ Word v ∷ Word w ∷ []
       after_open [] = refl
       after_open (q ∷ Q) = after_open Q
+
       none_left : (inner : ℕ) → past (suc inner) (Close ∷ Word v ∷ []) ≡ []
       none_left inner = refl
 
@@ -111,6 +112,7 @@ module _ (P : List (List Terminal)) (v w : List ℕ) where
     where
       apart : ¬ (j ≡ length P)
       apart e = not_last inner (subst (λ k. IsOpen (P ++ three) k (suc inner)) e o)
+
       before : j < length P
       before = let k = open_before P j o.begins in omega (arith, k, apart)
 
@@ -125,6 +127,7 @@ module _ (P : List (List Terminal)) (v w : List ℕ) where
       nothing_left : (e : ℕ) → length (joined (drop e [])) ≤ 2
       nothing_left zero = omega arith
       nothing_left (suc e) = omega arith
+
       tail_size : (Q : List (List Terminal)) (e : ℕ) → length Q < e → length (joined (drop e (Q ++ three))) ≤ 2
       tail_size [] zero k = absurd (omega (arith, k))
       tail_size [] (suc zero) k = omega arith
@@ -132,8 +135,10 @@ module _ (P : List (List Terminal)) (v w : List ℕ) where
       tail_size [] (suc (suc (suc e))) k = nothing_left e
       tail_size (q ∷ Q) zero k = absurd (omega (arith, k))
       tail_size (q ∷ Q) (suc e) k = tail_size Q e (omega (arith, k))
+
       is_past : (more : List Terminal) → past 0 (joined (drop (suc j) P) ++ (Open ∷ Word v ∷ Word w ∷ more)) ≡ joined (drop e (P ++ three)) ++ more
       is_past more = sym (ap (past 0) (from_old (suc j) more (omega (arith, l)))) ∙ h.ended more
+
       late : length P < e → ⊥
       late k = wrong (goes (joined (drop (suc j) P)) 0)
         where
@@ -146,6 +151,7 @@ module _ (P : List (List Terminal)) (v w : List ℕ) where
               let c = sym (g.1 (Word v ∷ Word w ∷ [])) ∙ is_past [] in
               let n = ap length c in
               omega (arith, n, length-append g.0 (Open ∷ Word v ∷ Word w ∷ []), length-append (joined (drop e (P ++ three))) [], tail_size P e k)
+
       by : Goes (joined (drop (suc j) P)) 0 → e ≤ length P
       by g = omega (arith, late)
 
@@ -160,11 +166,11 @@ module _ (P : List (List Terminal)) (v w : List ℕ) where
   pub linked_rest : (ps : List PackedToken) (x y z g : PackedToken) (is : List ℕ) → length ps ≡ length P → ((e : PackedU32) → ¬ (g ≡ short.Open e)) → AreLinkedBut (P ++ three) (ps ++ x ∷ y ∷ z ∷ []) (is ++ length P ∷ []) → AreLinkedBut (P ++ four ∷ []) (ps ++ g ∷ []) is
   linked_rest ps x y z g is l n h = λ i e k. elim (get_cases ps g i (short.Open e) k) [
     | inl f ↦
-      let small : i < length P = omega (arith, l, slice_get_within ps i (short.Open e) f) in
-      elim (h i e (get_left ps (x ∷ y ∷ z ∷ []) i (short.Open e) f)) [
-        | inl c ↦ elim (Contains-push_cases is (length P) i c.0) [ inl b ↦ inl (b, c.1) | inr b ↦ absurd (omega (arith, small, b)) ]
-        | inr c ↦ inr (ended_one i (number_of e) small c)
-      ]
+        let small : i < length P = omega (arith, l, slice_get_within ps i (short.Open e) f) in
+        elim (h i e (get_left ps (x ∷ y ∷ z ∷ []) i (short.Open e) f)) [
+          | inl c ↦ elim (Contains-push_cases is (length P) i c.0) [ inl b ↦ inl (b, c.1) | inr b ↦ absurd (omega (arith, small, b)) ]
+          | inr c ↦ inr (ended_one i (number_of e) small c)
+        ]
     | inr f ↦ absurd (n e f.1)
   ]
 
@@ -194,64 +200,91 @@ put_keywords text d e is js b t k i same g h = record {
   where
     ts : List PackedToken
     ts = d.tokens.items
+
     count : ℕ
     count = length d.kept.items
+
     f : PackedToken → List Terminal
     f = terminals_in text d.kept.items
+
     y : PackedToken
     y = short.Word k.first k.n
+
     z : PackedToken
     z = short.Word k.second k.m
+
     one_more : b + 1 ≡ suc b
     one_more = omega arith
+
     two_more : b + 2 ≡ suc (suc b)
     two_more = omega arith
+
     s : Split ts b y z
     s = split ts b y z k.long (subst (λ j. slice_get ts j ≡ Some y) one_more k.word) (subst (λ j. slice_get ts j ≡ Some z) two_more k.other)
+
     ps : List PackedToken
     ps = s.before
+
     P : List (List Terminal)
     P = map f ps
+
     v : List ℕ
     v = bytes_at text (number_of k.first) k.n
+
     w : List ℕ
     w = bytes_at text (number_of k.second) k.m
+
     at : length P ≡ b
     at = length-map ps f ∙ s.long
+
     cut_pieces : draft_pieces text d ≡ P ++ f s.x ∷ f y ∷ f z ∷ []
     cut_pieces = ap (map f) s.is ∙ map-append f ps (s.x ∷ y ∷ z ∷ [])
+
     opens : f s.x ≡ Open ∷ []
     opens =
         let a : slice_get (P ++ f s.x ∷ f y ∷ f z ∷ []) (length P) ≡ Some (Open ∷ []) = subst (λ n. slice_get (P ++ f s.x ∷ f y ∷ f z ∷ []) n ≡ Some (Open ∷ [])) (sym at) (subst (λ xss. slice_get xss b ≡ Some (Open ∷ [])) cut_pieces (begun text d is js b g h).begins) in
         let c : Some (f s.x) ≡ Some (Open ∷ []) = sym (get_at P (f s.x) (f y ∷ f z ∷ [])) ∙ a in
         let r : f s.x ≡ Open ∷ [] = cc in
         r
+
     old_pieces : draft_pieces text d ≡ P ++ three P v w
     old_pieces = cut_pieces ∙ ap (λ xs. P ++ xs ∷ f y ∷ f z ∷ []) opens
+
     new_tokens : e.tokens.items ≡ ps ++ t ∷ []
     new_tokens = i ∙ ap (λ j. take j (slice_set ts b t)) one_more ∙ ap (λ us. take (suc b) (slice_set us b t)) s.is ∙ ap (λ n. take (suc n) (slice_set (ps ++ s.x ∷ y ∷ z ∷ []) n t)) (sym s.long) ∙ cut ps s.x y z t
+
     n : ℕ
     n = k.n * 16 + k.m
+
     begins_at : second_at (number_of k.first) n ≡ number_of k.second
     begins_at = ap (λ j. number_of k.first + j + 1) (first_is k.n k.m k.fewer) ∙ sym k.near
+
     group_is : f t ≡ four P v w
     group_is = ap f k.are ∙ ap (λ j. Open ∷ Word (bytes_at text (number_of k.first) j) ∷ Word (bytes_at text (second_at (number_of k.first) n) (second_len n)) ∷ Close ∷ []) (first_is k.n k.m k.fewer)
         ∙ ap (λ j. Open ∷ Word v ∷ Word (bytes_at text (second_at (number_of k.first) n) j) ∷ Close ∷ []) (second_is k.n k.m k.fewer)
         ∙ ap (λ o. Open ∷ Word v ∷ Word (bytes_at text o k.m) ∷ Close ∷ []) begins_at
+
     new_pieces : draft_pieces text e ≡ P ++ four P v w ∷ []
     new_pieces = as_before text d e (ps ++ t ∷ []) new_tokens same ∙ map-append f ps (t ∷ []) ∙ ap (λ xs. P ++ xs ∷ []) group_is
+
     all_same : joined (P ++ four P v w ∷ []) ≡ joined (P ++ three P v w) ++ Close ∷ []
     all_same = sym (append-nil (joined (P ++ four P v w ∷ []))) ∙ same_from P v w 0 [] (omega arith)
+
     readable : AreReadable text count (ps ++ s.x ∷ y ∷ z ∷ [])
     readable = subst (AreReadable text count) s.is h.readable
+
     left_readable : AreReadable text count ps
     left_readable = λ j u l. subst (IsReadable text count) (get_or_append_left ps (s.x ∷ y ∷ z ∷ []) u j l) (readable j u (omega (arith, l, length-append ps (s.x ∷ y ∷ z ∷ []))))
+
     at_word : (j : ℕ) (u : PackedToken) → slice_get ts j ≡ Some u → IsReadable text count u
     at_word j u l = subst (IsReadable text count) (get_or_from_slice_get ts j u u l) (h.readable j u (slice_get_within ts j u l))
+
     t_readable : IsReadable text count t
-    t_readable = subst (IsReadable text count) (sym k.are)
-        (subst (λ j. AreCharacters text (number_of k.first) j) (sym (first_is k.n k.m k.fewer)) (at_word (b + 1) y k.word),
-        subst (λ o. AreCharacters text o (second_len n)) (sym begins_at) (subst (λ j. AreCharacters text (number_of k.second) j) (sym (second_is k.n k.m k.fewer)) (at_word (b + 2) z k.other)),
-        omega (arith, begins_at, k.small))
+    t_readable = subst (IsReadable text count) (sym k.are) (
+      subst (λ j. AreCharacters text (number_of k.first) j) (sym (first_is k.n k.m k.fewer)) (at_word (b + 1) y k.word),
+      subst (λ o. AreCharacters text o (second_len n)) (sym begins_at) (subst (λ j. AreCharacters text (number_of k.second) j) (sym (second_is k.n k.m k.fewer)) (at_word (b + 2) z k.other)),
+      omega (arith, begins_at, k.small),
+    )
+
     not_open : (m : PackedU32) → ¬ (t ≡ short.Open m)
     not_open m c = let r : short.KeywordGroup k.first n ≡ short.Open m = sym k.are ∙ c in cc

@@ -305,8 +305,7 @@ fn keyword_group(tokens: &[PackedToken], begin: usize) -> Option<PackedToken>
         (PackedToken::Word(first, len), PackedToken::Word(second, other_len))
             if len < 16
                 && other_len < 16
-                && u64::from(second.number()) == u64::from(first.number()) + u64::from(len) + 1 =>
-        {
+                && u64::from(second.number()) == u64::from(first.number()) + u64::from(len) + 1 => {
             Some(PackedToken::KeywordGroup(first, len * 16 + other_len))
         }
         _ => None,

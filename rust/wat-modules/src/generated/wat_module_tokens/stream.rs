@@ -143,6 +143,7 @@ impl<'a> TokenStream<'a> {
     /// ensures { terminals_of result ≡ joined self.now.terminals }
     /// ```
     pub fn cursor(&self) -> TokenCursor<'_, 'a> {
+        let _ = &self.text;
         TokenCursor {
             source: self,
             at: 0,
