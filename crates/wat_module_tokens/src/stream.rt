@@ -118,7 +118,8 @@ pub struct TokenCursor<'p, 'a> {
     at: usize,
 }
 
-/// The distance of two positions in the same packed token. It is above all indices of packed tokens.
+/// The distance of two positions in the same packed token. It is greater than all indices of packed
+/// tokens.
 const PART: usize = usize::MAX / 4 + 1;
 
 /// A token of a keyword group after its `(`.
