@@ -10,7 +10,8 @@ ghost use Rattle.wat_module_tokens.specs.Terminals.{float_of};
 ghost use Rattle.wat_module_tokens.specs.Tokens.{AreLinked, AreReadable};
 ghost use Rattle.wat_lex.specs.tokens.ReadableTokens.{IsTokenOf, token_text};
 ghost use Rattle.wat_lexer_parser.specs.parser.State.{Answers, IsSound, at_place, peek_at};
-ghost use Rattle.wat_module_lexer.specs.Drafts.{IsPacking, IsReadAs, draft_terminals};
+ghost use Rattle.wat_module_lexer.specs.Drafts.{AreKeywords, IsPacking, IsReadAs, draft_pieces};
+ghost use Rattle.wat_module_lexer.specs.Drafts.{draft_terminals};
 ghost use Rattle.wat_module_lexer.specs.TokenTerminals.{sign_of, terminal_of};
 ghost use Rattle.wat_module_lexer.specs.Shown.{TerminalsFrom, TerminalsShown, ShownFrom, TextShown};
 
@@ -273,15 +274,42 @@ fn push_close(
         draft_terminals text.now packed.old ++ Close ∷ []) }
     ensures sound { OnOk result (IsPacking text.now packed.new groups.new.items) }
     ensures few { OnOk result (length packed.new.kept.items ≡ length packed.old.kept.items) }
-    ensures count { OnOk result (length packed.new.tokens.items ≡
+    ensures count { OnOk result (length packed.new.tokens.items ≤
         suc (length packed.old.tokens.items)) }
 {
-    packed.tokens.push(PackedToken::Close)?;
-    if let Some(begin) = groups.pop() {
-        let end = PackedU32::new(packed.tokens.len() as u32);
-        packed.tokens[begin as usize] = PackedToken::Open(end);
+    let Some(begin) = groups.pop() else {
+        packed.tokens.push(PackedToken::Close)?;
+        return Ok(());
+    };
+    if let Some(group) = keyword_group(&packed.tokens, begin as usize) {
+        packed.tokens[begin as usize] = group;
+        packed.tokens.truncate(begin as usize + 1);
+        return Ok(());
     }
+    packed.tokens.push(PackedToken::Close)?;
+    let end = PackedU32::new(packed.tokens.len() as u32);
+    packed.tokens[begin as usize] = PackedToken::Open(end);
     Ok(())
+}
+
+/// Returns the packed token of a group of two keywords, if the tokens from an index on are its `(`
+/// and its keywords. Returns `None` if they do not fit into one packed token.
+fn keyword_group(tokens: &[PackedToken], begin: usize) -> Option<PackedToken>
+    requires { begin < length tokens.now }
+    ensures { IfSome result (AreKeywords tokens.now begin) }
+{
+    if tokens.len() - begin != 3 {
+        return None;
+    }
+    match (tokens[begin + 1], tokens[begin + 2]) {
+        (PackedToken::Word(first, len), PackedToken::Word(second, other_len))
+            if len < 16
+                && other_len < 16
+                && u64::from(second.number()) == u64::from(first.number()) + u64::from(len) + 1 => {
+            Some(PackedToken::KeywordGroup(first, len * 16 + other_len))
+        }
+        _ => None,
+    }
 }
 
 /// Appends a token that has no entry in the side table.
@@ -345,7 +373,7 @@ fn push<'t>(
     ensures sound { OnOk result ((x : Terminal) → IsReadAs text.now read.entry x →
         IsPacking text.now packed.new groups.new.items) }
     ensures few { OnOk result (length packed.new.kept.items ≤ suc (length packed.old.kept.items)) }
-    ensures count { OnOk result (length packed.new.tokens.items ≡
+    ensures count { OnOk result (length packed.new.tokens.items ≤
         suc (length packed.old.tokens.items)) }
 {
     match read {
@@ -374,7 +402,7 @@ fn push_token<'t>(
         draft_terminals text.now packed.old ++ terminal_of text.now token.now ∷ []) }
     ensures sound { OnOk result (IsPacking text.now packed.new groups.new.items) }
     ensures few { OnOk result (length packed.new.kept.items ≤ suc (length packed.old.kept.items)) }
-    ensures count { OnOk result (length packed.new.tokens.items ≡
+    ensures count { OnOk result (length packed.new.tokens.items ≤
         suc (length packed.old.tokens.items)) }
 {
     let read = read_token(alloc, text, token)?;
@@ -390,7 +418,7 @@ pub fn pack_tokens(alloc: Global, text: &str) -> Result<PackedText<'_>, Error>
         r.error) }
     ensures readable { IfOk result (λ r. AreReadable text.now (length r.packed.kept.items)
         r.packed.tokens.items) }
-    ensures linked { IfOk result (λ r. AreLinked (draft_terminals text.now r.packed)
+    ensures linked { IfOk result (λ r. AreLinked (draft_pieces text.now r.packed)
         r.packed.tokens.items) }
     ensures refused { IfErr result (λ e. e ≡ None) }
 {
@@ -448,7 +476,7 @@ fn pack_all<'t>(
         (draft_terminals text.now r.packed) r.error) }
     ensures readable { IfOk result (λ r. AreReadable text.now (length r.packed.kept.items)
         r.packed.tokens.items) }
-    ensures linked { IfOk result (λ r. AreLinked (draft_terminals text.now r.packed)
+    ensures linked { IfOk result (λ r. AreLinked (draft_pieces text.now r.packed)
         r.packed.tokens.items) }
     ensures refused { IfErr result (λ e. e ≡ None) }
 {

@@ -304,10 +304,7 @@ fn has_label(body: TokenCursor<'_, '_>) -> bool
     let mut depth = 0;
     let mut previous = body;
     let mut left = body;
-    for step in 0..body.len() {
-        let Some((token, rest)) = left.first() else {
-            return false;
-        };
+    while let Some((token, rest)) = left.first() {
         let Some(inner) = depth_after(depth, token) else {
             return false;
         };
@@ -353,10 +350,7 @@ fn all_labels<'p, 'a>(
     let mut waiting = WaitingLabels::new(alloc);
     let mut depth = 0;
     let mut left = body;
-    for step in 0..body.len() {
-        let Some((token, rest)) = left.first() else {
-            return Ok(labels.names);
-        };
+    while let Some((token, rest)) = left.first() {
         let Some((inner, after)) = token_label(&mut labels, &mut waiting, depth, token, rest)?
         else {
             return Ok(labels.names);

@@ -1,3 +1,4 @@
 pub mod Terminals
 pub mod Tokens
+pub mod Parts
 pub mod TokenCursor

@@ -1,11 +1,13 @@
 //! The significant tokens of a source text, packed into 6 bytes each. The value of a token is read
 //! from the text, or from a side table, whenever a parser peeks at the token.
-ghost use Rattle.std.specs.Prelude.{◌≡◌, ◌≢◌, ◌≤◌, ◌<◌, ◌^◌, ◌+◌, ◌∷◌, [], suc, List, None, Some};
-ghost use Rattle.std.specs.Prelude.{drop, length, map, slice_get, IfSome, MatchOption};
+ghost use Rattle.std.specs.Prelude.{◌≡◌, ◌≢◌, ◌≤◌, ◌+◌, ◌∷◌, [], List};
+ghost use Rattle.std.specs.Prelude.{length, map, slice_get, MatchOption};
 ghost use Rattle.wat_module_tokens.specs.TokenCursor.{terminals_of};
 ghost use Rattle.wat_module_tokens.specs.Terminals.{past, Open, Terminal, terminal};
 ghost use Rattle.wat_module_tokens.specs.Tokens.{AreCharacters, AreLinked, AreReadable, IsReadable};
-ghost use Rattle.wat_module_tokens.specs.Tokens.{bytes_at, kept_or, number_of, terminal_in};
+ghost use Rattle.wat_module_tokens.specs.Tokens.{bytes_at, from_position, joined, kept_or, number_of};
+ghost use Rattle.wat_module_tokens.specs.Tokens.{step_of, terminal_in, terminals_in};
+ghost use Rattle.wat_module_tokens.specs.Parts.{IsPart};
 
 use crate::token::{DecodedToken, Sign};
 use std::borrow::{CowSlice, CowStr};
@@ -60,6 +62,10 @@ pub enum PackedToken {
     Text(PackedU32, u8),
     /// A token whose value is in the side table, by its index there.
     SideValue(PackedU32),
+    /// `(`, a keyword, another keyword and `)`, as in `(local i32)`, by the offset of the first
+    /// keyword. One byte separates the keywords. The other field has both lengths, each below 16:
+    /// 16 times the first, plus the second.
+    KeywordGroup(PackedU32, u8),
     /// Any other token.
     Other,
 }
@@ -90,23 +96,41 @@ pub struct TokenStream<'a> {
 }
 
 impl<'a> Model for TokenStream<'a> {
-    ghost use Rattle.std.specs.Prelude.{List, length, map};
-    ghost use Rattle.wat_module_tokens.specs.Terminals.{Terminal};
-    ghost use Rattle.wat_module_tokens.specs.Tokens.{AreLinked, AreReadable, terminal_in};
+    ghost use Rattle.std.specs.Prelude.{length, map};
+    ghost use Rattle.wat_module_tokens.specs.Tokens.{AreLinked, AreReadable, Stream, terminals_in};
 
-    ghost Value = { List Terminal };
+    ghost Value = { Stream };
 
-    ghost view = { λ s. map (terminal_in s.text.now s.kept.now) s.tokens.items };
+    ghost view = { λ s. record {
+      text = s.text.now;
+      terminals = map (terminals_in s.text.now s.kept.now) s.tokens.items;
+    } };
 
     ghost invariant = { λ s. AreReadable s.text.now (length s.kept.now) s.tokens.items
-        × AreLinked (map (terminal_in s.text.now s.kept.now) s.tokens.items) s.tokens.items };
+        × AreLinked (map (terminals_in s.text.now s.kept.now) s.tokens.items) s.tokens.items };
 }
 
-/// The remaining tokens of a parser: those of a source text from an index on.
+/// The remaining tokens of a parser: those of a source text from a position on.
 #[derive(Clone, Copy)]
 pub struct TokenCursor<'p, 'a> {
     source: &'p TokenStream<'a>,
+    /// The index of a packed token, plus `PART` for each of its tokens that are consumed.
     at: usize,
+}
+
+/// The distance of two positions in the same packed token. It is greater than all indices of packed
+/// tokens.
+const PART: usize = usize::MAX / 4 + 1;
+
+/// A token of a keyword group after its `(`.
+#[derive(Clone, Copy)]
+enum Part {
+    /// A keyword, by its offset and its length, both in bytes.
+    Word(PackedU32, u8),
+    /// `)`.
+    Close,
+    /// No token: the position is not in a keyword group.
+    Outside,
 }
 
 impl<'a> TokenStream<'a> {
@@ -117,77 +141,121 @@ impl<'a> TokenStream<'a> {
         kept: &'a [SideValue<'a>],
     ) -> TokenStream<'a>
         requires readable { AreReadable text.now (length kept.now) tokens.items }
-        requires linked { AreLinked (map (terminal_in text.now kept.now) tokens.items)
+        requires linked { AreLinked (map (terminals_in text.now kept.now) tokens.items)
             tokens.items }
-        ensures { result ≡ map (terminal_in text.now kept.now) tokens.items }
+        ensures { result.terminals ≡ map (terminals_in text.now kept.now) tokens.items }
     {
         TokenStream { text, tokens, kept }
     }
 
     /// Returns all tokens.
     pub fn cursor(&self) -> TokenCursor<'_, 'a>
-        ensures { terminals_of result ≡ self.now }
+        ensures { terminals_of result ≡ joined self.now.terminals }
     {
+        let _ = &self.text;
         TokenCursor {
             source: self,
             at: 0,
         }
     }
 
-    /// Returns the number of tokens.
-    fn len(&self) -> usize
-        ensures { result ≡ length self.now }
-    {
-        self.tokens.len()
-    }
-
-    /// Returns the token at an index with its value, or `None` if the index is out of range.
+    /// Returns the token at a position with its value, and the position after it. Returns `None` if
+    /// no token is left.
     #[inline(always)]
-    fn token(&self, at: usize) -> Option<DecodedToken<'a>>
-        ensures is { MatchOption result
-            (slice_get self.now at ≡ None)
-            (λ p. slice_get self.now at ≡ Some (terminal p)) }
-        ensures small { IfSome result (λ _. at < 2 ^ 63) }
+    fn token(&self, at: usize) -> Option<(DecodedToken<'a>, usize)>
+        ensures { MatchOption result
+            (from_position at self.now.terminals ≡ [])
+            (λ r. from_position at self.now.terminals ≡
+            terminal r.0 ∷ from_position r.1 self.now.terminals) }
     {
         match self.tokens.get(at) {
-            Some(token) => Some(read(self.text, self.kept, *token)),
-            None => None,
+            Some(token) => {
+                let (token, step) = read(self.text, self.kept, *token);
+                Some((token, at + step))
+            }
+            None => match self.part(at) {
+                Part::Word(offset, len) => {
+                    Some((
+                        DecodedToken::Word(characters(self.text, offset, len)),
+                        at + PART,
+                    ))
+                }
+                Part::Close => Some((DecodedToken::Close, at % PART + 1)),
+                Part::Outside => None,
+            },
         }
     }
 
-    /// Returns the index of the token after the group that begins with the token at an index.
-    /// Returns `None` if that token is not `(`. The result is `u32::MAX` if the group is not
-    /// closed.
-    fn group_end(&self, at: usize) -> Option<usize>
-        ensures is { MatchOption result
-            (slice_get self.now at ≢ Some Open)
-            (λ end. (slice_get self.now at ≡ Some Open) ×
-            (past 0 (drop (suc at) self.now) ≡ drop end self.now)) }
-        ensures small { IfSome result (λ _. at < 2 ^ 63) }
+    /// Returns the token at a position that is not the index of a packed token.
+    #[cold]
+    #[inline(never)]
+    fn part(&self, at: usize) -> Part
+        requires { length self.now.terminals ≤ at }
+        ensures { IsPart self.now at result }
+    {
+        let Some(PackedToken::KeywordGroup(offset, lens)) = self.tokens.get(at % PART) else {
+            return Part::Outside;
+        };
+        match at / PART {
+            1 => Part::Word(*offset, *lens / 16),
+            2 => {
+                let second = offset.number() + u32::from(*lens / 16) + 1;
+                Part::Word(PackedU32::new(second), *lens % 16)
+            }
+            _ => Part::Close,
+        }
+    }
+
+    /// Returns the position after the `(` at a position, and the position after its group. Returns
+    /// `None` if the token is not `(`.
+    fn group(&self, at: usize) -> Option<(usize, usize)>
+        ensures { MatchOption result
+            ((ts : List Terminal) → from_position at self.now.terminals ≢ Open ∷ ts)
+            (λ r. (from_position at self.now.terminals ≡
+            Open ∷ from_position r.0 self.now.terminals) ×
+            (from_position r.1 self.now.terminals ≡
+            past 0 (from_position r.0 self.now.terminals))) }
     {
         match self.tokens.get(at) {
-            Some(PackedToken::Open(end)) => Some(end.number() as usize),
+            Some(PackedToken::Open(end)) => Some((at + 1, end.number() as usize)),
+            Some(PackedToken::KeywordGroup(_, _)) => Some((at + PART, at + 1)),
             _ => None,
         }
     }
+
+    /// Returns an upper bound of the number of tokens from a position on.
+    fn most_from(&self, at: usize) -> usize
+        ensures { length (from_position at self.now.terminals) ≤ result }
+    {
+        self.tokens.len().saturating_sub(at % PART) * 4
+    }
 }
 
-/// Returns a token with its value.
+/// Returns the first token of a packed token with its value, and the distance to the position after
+/// it.
 #[inline(always)]
-fn read<'a>(text: &'a str, kept: &'a [SideValue<'a>], token: PackedToken) -> DecodedToken<'a>
+fn read<'a>(
+    text: &'a str,
+    kept: &'a [SideValue<'a>],
+    token: PackedToken,
+) -> (DecodedToken<'a>, usize)
     requires { IsReadable text.now (length kept.now) token }
-    ensures { terminal result ≡ terminal_in text.now kept.now token }
+    ensures token { terminal result.0 ≡ terminal_in text.now kept.now token }
+    ensures step { result.1 ≡ step_of token }
 {
     match token {
-        PackedToken::Open(_) => DecodedToken::Open,
-        PackedToken::Close => DecodedToken::Close,
-        PackedToken::Word(offset, len) => DecodedToken::Word(characters(text, offset, len)),
-        PackedToken::Id(offset, len) => DecodedToken::Id(characters(text, offset, len)),
-        PackedToken::Integer(sign, size) => DecodedToken::Integer(sign, u64::from(size.number())),
-        PackedToken::Float(offset, len) => DecodedToken::Float(characters(text, offset, len)),
-        PackedToken::Text(offset, len) => DecodedToken::Text(bytes(text, offset, len)),
-        PackedToken::SideValue(index) => at_index(kept, index.number() as usize),
-        PackedToken::Other => DecodedToken::Other,
+        PackedToken::Open(_) => (DecodedToken::Open, 1),
+        PackedToken::Close => (DecodedToken::Close, 1),
+        PackedToken::Word(offset, len) => (DecodedToken::Word(characters(text, offset, len)), 1),
+        PackedToken::Id(offset, len) => (DecodedToken::Id(characters(text, offset, len)), 1),
+        PackedToken::Integer(sign, size) => {
+            (DecodedToken::Integer(sign, u64::from(size.number())), 1)
+        }
+        PackedToken::Float(offset, len) => (DecodedToken::Float(characters(text, offset, len)), 1),
+        PackedToken::Text(offset, len) => (DecodedToken::Text(bytes(text, offset, len)), 1),
+        PackedToken::SideValue(index) => (at_index(kept, index.number() as usize), 1),
+        PackedToken::KeywordGroup(_, _) => (DecodedToken::Open, PART),
+        PackedToken::Other => (DecodedToken::Other, 1),
     }
 }
 
@@ -241,14 +309,9 @@ impl<'p, 'a> TokenCursor<'p, 'a> {
             (terminals_of self.entry ≡ [])
             (λ r. terminals_of self.entry ≡ terminal r.0 ∷ terminals_of r.1) }
     {
-        match self.source.token(self.at) {
-            Some(token) => {
-                let rest = TokenCursor {
-                    source: self.source,
-                    at: self.at + 1,
-                };
-                Some((token, rest))
-            }
+        let source = self.source;
+        match source.token(self.at) {
+            Some((token, at)) => Some((token, TokenCursor { source, at })),
             None => None,
         }
     }
@@ -262,22 +325,34 @@ impl<'p, 'a> TokenCursor<'p, 'a> {
             (terminals_of r.1 ≡ past 0 (terminals_of r.0))) }
     {
         let source = self.source;
-        match source.group_end(self.at) {
-            Some(end) => {
-                let inside = TokenCursor {
-                    source,
-                    at: self.at + 1,
-                };
-                Some((inside, TokenCursor { source, at: end }))
+        match source.group(self.at) {
+            Some((inside, at)) => {
+                let inside = TokenCursor { source, at: inside };
+                Some((inside, TokenCursor { source, at }))
             }
             None => None,
         }
     }
 
-    /// Returns the number of tokens.
+    /// Returns an upper bound of the number of tokens.
+    pub fn most(self) -> usize
+        ensures { length (terminals_of self.entry) ≤ result }
+    {
+        self.source.most_from(self.at)
+    }
+
+    /// Returns the number of tokens. Reads each of them.
     pub fn len(self) -> usize
         ensures { result ≡ length (terminals_of self.entry) }
     {
-        self.source.len().saturating_sub(self.at)
+        let mut left = self;
+        let most = self.most();
+        for count in 0..most {
+            match left.first() {
+                Some((_, rest)) => left = rest,
+                None => return count,
+            }
+        }
+        most
     }
 }

@@ -7,7 +7,7 @@ ghost use Rattle.std.specs.Result.{IsErrAnd};
 ghost use Rattle.wat_module_ast.specs.Fields.{Field};
 ghost use Rattle.wat_module_tokens.specs.TokenCursor.{terminals_of};
 ghost use Rattle.wat_module_tokens.specs.Terminals.{Label, label};
-ghost use Rattle.wat_module_tokens.specs.Tokens.{AreLinked, AreReadable};
+ghost use Rattle.wat_module_tokens.specs.Tokens.{AreLinked, AreReadable, joined};
 ghost use Rattle.std.specs.List.{All};
 ghost use Rattle.wat_lex.specs.tokens.ReadableTokens.{IsTokenOf};
 ghost use Rattle.wat_lex.specs.declared.lexer.kinds.Token.{Token};
@@ -25,7 +25,7 @@ ghost use Rattle.wat_modules.specs.Compiling.{fitted, module_name, named_bytes};
 ghost use Rattle.wat_modules.specs.Validity.{Compiles, IsErrorOf, IsInvalid, IsValidText};
 ghost use Rattle.wat_modules.specs.Views.{wanted_by};
 ghost use Rattle.wat_modules.specs.Messages as messages;
-ghost use Rattle.wat_module_lexer.specs.Drafts.{draft_terminals};
+ghost use Rattle.wat_module_lexer.specs.Drafts.{draft_pieces, draft_terminals};
 ghost use Rattle.wat_module_lexer.specs.TokenTerminals.{plain, terminal_of};
 ghost use Rattle.wat_module_ast.specs.Views.{fields_of};
 ghost use Rattle.wat_module_encoder.specs.Binary.{module_bytes};
@@ -343,7 +343,7 @@ fn compile_packed(
 ) -> Result<Vec<u8>, Error>
     requires short { length text.now < 2 ^ 32 }
     requires readable { AreReadable text.now (length packed.kept.items) packed.tokens.items }
-    requires linked { AreLinked (draft_terminals text.now packed) packed.tokens.items }
+    requires linked { AreLinked (draft_pieces text.now packed) packed.tokens.items }
     ensures { (r : Sections) → AnnotationsDefine text.now r →
         (tokens : List Token) → TextShows (plain text.now) no_names tokens None →
         draft_terminals text.now packed.entry ≡ map (terminal_of text.now) tokens →
@@ -370,7 +370,7 @@ fn compile_tokens(
     requires { length text.now < 2 ^ 32 }
     ensures { (r : Sections) → AnnotationsDefine text.now r →
         (tokens : List Token) → TextShows (plain text.now) no_names tokens None →
-        source.entry ≡ map (terminal_of text.now) tokens →
+        joined source.entry.terminals ≡ map (terminal_of text.now) tokens →
         Compiles (wanted_by extras r) is_checked text.now tokens result }
 {
     wat_module_parser::laws::reading_is_grammar();

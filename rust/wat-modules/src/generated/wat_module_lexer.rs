@@ -303,7 +303,7 @@ fn push_open(
 ///     draft_terminals text.now packed.old ++ Close ∷ []) }
 /// ensures sound { OnOk result (IsPacking text.now packed.new groups.new.items) }
 /// ensures few { OnOk result (length packed.new.kept.items ≡ length packed.old.kept.items) }
-/// ensures count { OnOk result (length packed.new.tokens.items ≡
+/// ensures count { OnOk result (length packed.new.tokens.items ≤
 ///     suc (length packed.old.tokens.items)) }
 /// ```
 fn push_close(
@@ -311,12 +311,44 @@ fn push_close(
     packed: &mut PackedTokens<'_>,
     groups: &mut Vec<u32>,
 ) -> Result<(), AllocError> {
-    packed.tokens.push(PackedToken::Close)?;
-    if let Some(begin) = groups.pop() {
-        let end = PackedU32::new(packed.tokens.len() as u32);
-        packed.tokens[begin as usize] = PackedToken::Open(end);
+    let Some(begin) = groups.pop() else {
+        packed.tokens.push(PackedToken::Close)?;
+        return Ok(());
+    };
+    if let Some(group) = keyword_group(&packed.tokens, begin as usize) {
+        packed.tokens[begin as usize] = group;
+        packed.tokens.truncate(begin as usize + 1);
+        return Ok(());
     }
+    packed.tokens.push(PackedToken::Close)?;
+    let end = PackedU32::new(packed.tokens.len() as u32);
+    packed.tokens[begin as usize] = PackedToken::Open(end);
     Ok(())
+}
+
+/// Returns the packed token of a group of two keywords, if the tokens from an index on are its `(`
+/// and its keywords. Returns `None` if they do not fit into one packed token.
+///
+/// # Proved
+///
+/// ```text
+/// requires { begin < length tokens.now }
+/// ensures { IfSome result (AreKeywords tokens.now begin) }
+/// ```
+fn keyword_group(tokens: &[PackedToken], begin: usize) -> Option<PackedToken> {
+    if tokens.len() - begin != 3 {
+        return None;
+    }
+    match (tokens[begin + 1], tokens[begin + 2]) {
+        (PackedToken::Word(first, len), PackedToken::Word(second, other_len))
+            if len < 16
+                && other_len < 16
+                && u64::from(second.number()) == u64::from(first.number()) + u64::from(len) + 1 =>
+        {
+            Some(PackedToken::KeywordGroup(first, len * 16 + other_len))
+        }
+        _ => None,
+    }
 }
 
 /// Appends a token that has no entry in the side table.
@@ -385,7 +417,7 @@ fn push_side_value<'t>(
 /// ensures sound { OnOk result ((x : Terminal) → IsReadAs text.now read.entry x →
 ///     IsPacking text.now packed.new groups.new.items) }
 /// ensures few { OnOk result (length packed.new.kept.items ≤ suc (length packed.old.kept.items)) }
-/// ensures count { OnOk result (length packed.new.tokens.items ≡
+/// ensures count { OnOk result (length packed.new.tokens.items ≤
 ///     suc (length packed.old.tokens.items)) }
 /// ```
 fn push<'t>(
@@ -417,7 +449,7 @@ fn push<'t>(
 ///     draft_terminals text.now packed.old ++ terminal_of text.now token.now ∷ []) }
 /// ensures sound { OnOk result (IsPacking text.now packed.new groups.new.items) }
 /// ensures few { OnOk result (length packed.new.kept.items ≤ suc (length packed.old.kept.items)) }
-/// ensures count { OnOk result (length packed.new.tokens.items ≡
+/// ensures count { OnOk result (length packed.new.tokens.items ≤
 ///     suc (length packed.old.tokens.items)) }
 /// ```
 fn push_token<'t>(
@@ -443,7 +475,7 @@ fn push_token<'t>(
 ///     r.error) }
 /// ensures readable { IfOk result (λ r. AreReadable text.now (length r.packed.kept.items)
 ///     r.packed.tokens.items) }
-/// ensures linked { IfOk result (λ r. AreLinked (draft_terminals text.now r.packed)
+/// ensures linked { IfOk result (λ r. AreLinked (draft_pieces text.now r.packed)
 ///     r.packed.tokens.items) }
 /// ensures refused { IfErr result (λ e. e ≡ None) }
 /// ```
@@ -508,7 +540,7 @@ fn next_visible(parser: &mut Parser<'_>) -> Result<Option<Token>, Error> {
 ///     (draft_terminals text.now r.packed) r.error) }
 /// ensures readable { IfOk result (λ r. AreReadable text.now (length r.packed.kept.items)
 ///     r.packed.tokens.items) }
-/// ensures linked { IfOk result (λ r. AreLinked (draft_terminals text.now r.packed)
+/// ensures linked { IfOk result (λ r. AreLinked (draft_pieces text.now r.packed)
 ///     r.packed.tokens.items) }
 /// ensures refused { IfErr result (λ e. e ≡ None) }
 /// ```

@@ -335,7 +335,7 @@ fn compile_as(
 /// ```text
 /// requires short { length text.now < 2 ^ 32 }
 /// requires readable { AreReadable text.now (length packed.kept.items) packed.tokens.items }
-/// requires linked { AreLinked (draft_terminals text.now packed) packed.tokens.items }
+/// requires linked { AreLinked (draft_pieces text.now packed) packed.tokens.items }
 /// ensures { (r : Sections) → AnnotationsDefine text.now r →
 ///     (tokens : List Token) → TextShows (plain text.now) no_names tokens None →
 ///     draft_terminals text.now packed.entry ≡ map (terminal_of text.now) tokens →
@@ -366,7 +366,7 @@ fn compile_packed(
 /// requires { length text.now < 2 ^ 32 }
 /// ensures { (r : Sections) → AnnotationsDefine text.now r →
 ///     (tokens : List Token) → TextShows (plain text.now) no_names tokens None →
-///     source.entry ≡ map (terminal_of text.now) tokens →
+///     joined source.entry.terminals ≡ map (terminal_of text.now) tokens →
 ///     Compiles (wanted_by extras r) is_checked text.now tokens result }
 /// ```
 fn compile_tokens(

@@ -9,4 +9,4 @@ returns-in_default c =
 
 pub returns : goal.returns
 returns c =
-    at_end c.loop-step.labels c.loop-step.waiting c.loop-step.depth (terminals_of c.loop-step.left) (omega (arith, c.loop-step.invariant.few, c.loop-step-test.false, c.len-step-end.ensures)) ∙ sym c.loop-step.invariant.are
+    at_end c.loop-step.labels c.loop-step.waiting c.loop-step.depth (terminals_of c.loop-step.left) (omega (arith, c.loop-step.invariant.few, c.loop-step-test.false, c.most-step-end.ensures)) ∙ sym c.loop-step.invariant.are

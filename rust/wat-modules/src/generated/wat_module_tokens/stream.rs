@@ -63,6 +63,10 @@ pub enum PackedToken {
     Text(PackedU32, u8),
     /// A token whose value is in the side table, by its index there.
     SideValue(PackedU32),
+    /// `(`, a keyword, another keyword and `)`, as in `(local i32)`, by the offset of the first
+    /// keyword. One byte separates the keywords. The other field has both lengths, each below 16:
+    /// 16 times the first, plus the second.
+    KeywordGroup(PackedU32, u8),
     /// Any other token.
     Other,
 }
@@ -90,11 +94,27 @@ pub struct TokenStream<'a> {
     kept: &'a [SideValue<'a>],
 }
 
-/// The remaining tokens of a parser: those of a source text from an index on.
+/// The remaining tokens of a parser: those of a source text from a position on.
 #[derive(Clone, Copy)]
 pub struct TokenCursor<'p, 'a> {
     source: &'p TokenStream<'a>,
+    /// The index of a packed token, plus `PART` for each of its tokens that are consumed.
     at: usize,
+}
+
+/// The distance of two positions in the same packed token. It is greater than all indices of packed
+/// tokens.
+const PART: usize = usize::MAX / 4 + 1;
+
+/// A token of a keyword group after its `(`.
+#[derive(Clone, Copy)]
+enum Part {
+    /// A keyword, by its offset and its length, both in bytes.
+    Word(PackedU32, u8),
+    /// `)`.
+    Close,
+    /// No token: the position is not in a keyword group.
+    Outside,
 }
 
 impl<'a> TokenStream<'a> {
@@ -104,9 +124,9 @@ impl<'a> TokenStream<'a> {
     ///
     /// ```text
     /// requires readable { AreReadable text.now (length kept.now) tokens.items }
-    /// requires linked { AreLinked (map (terminal_in text.now kept.now) tokens.items)
+    /// requires linked { AreLinked (map (terminals_in text.now kept.now) tokens.items)
     ///     tokens.items }
-    /// ensures { result ≡ map (terminal_in text.now kept.now) tokens.items }
+    /// ensures { result.terminals ≡ map (terminals_in text.now kept.now) tokens.items }
     /// ```
     pub fn new(
         text: &'a str,
@@ -121,85 +141,131 @@ impl<'a> TokenStream<'a> {
     /// # Proved
     ///
     /// ```text
-    /// ensures { terminals_of result ≡ self.now }
+    /// ensures { terminals_of result ≡ joined self.now.terminals }
     /// ```
     pub fn cursor(&self) -> TokenCursor<'_, 'a> {
+        let _ = &self.text;
         TokenCursor {
             source: self,
             at: 0,
         }
     }
 
-    /// Returns the number of tokens.
+    /// Returns the token at a position with its value, and the position after it. Returns `None` if
+    /// no token is left.
     ///
     /// # Proved
     ///
     /// ```text
-    /// ensures { result ≡ length self.now }
-    /// ```
-    fn len(&self) -> usize {
-        self.tokens.len()
-    }
-
-    /// Returns the token at an index with its value, or `None` if the index is out of range.
-    ///
-    /// # Proved
-    ///
-    /// ```text
-    /// ensures is { MatchOption result
-    ///     (slice_get self.now at ≡ None)
-    ///     (λ p. slice_get self.now at ≡ Some (terminal p)) }
-    /// ensures small { IfSome result (λ _. at < 2 ^ 63) }
+    /// ensures { MatchOption result
+    /// (from_position at self.now.terminals ≡ [])
+    /// (λ r. from_position at self.now.terminals ≡
+    /// terminal r.0 ∷ from_position r.1 self.now.terminals) }
     /// ```
     #[inline(always)]
-    fn token(&self, at: usize) -> Option<DecodedToken<'a>> {
+    fn token(&self, at: usize) -> Option<(DecodedToken<'a>, usize)> {
         match self.tokens.get(at) {
-            Some(token) => Some(read(self.text, self.kept, *token)),
-            None => None,
+            Some(token) => {
+                let (token, step) = read(self.text, self.kept, *token);
+                Some((token, at + step))
+            }
+            None => match self.part(at) {
+                Part::Word(offset, len) => Some((
+                    DecodedToken::Word(characters(self.text, offset, len)),
+                    at + PART,
+                )),
+                Part::Close => Some((DecodedToken::Close, at % PART + 1)),
+                Part::Outside => None,
+            },
         }
     }
 
-    /// Returns the index of the token after the group that begins with the token at an index.
-    /// Returns `None` if that token is not `(`. The result is `u32::MAX` if the group is not
-    /// closed.
+    /// Returns the token at a position that is not the index of a packed token.
     ///
     /// # Proved
     ///
     /// ```text
-    /// ensures is { MatchOption result
-    ///     (slice_get self.now at ≢ Some Open)
-    ///     (λ end. (slice_get self.now at ≡ Some Open) ×
-    ///     (past 0 (drop (suc at) self.now) ≡ drop end self.now)) }
-    /// ensures small { IfSome result (λ _. at < 2 ^ 63) }
+    /// requires { length self.now.terminals ≤ at }
+    /// ensures { IsPart self.now at result }
     /// ```
-    fn group_end(&self, at: usize) -> Option<usize> {
+    #[cold]
+    #[inline(never)]
+    fn part(&self, at: usize) -> Part {
+        let Some(PackedToken::KeywordGroup(offset, lens)) = self.tokens.get(at % PART) else {
+            return Part::Outside;
+        };
+        match at / PART {
+            1 => Part::Word(*offset, *lens / 16),
+            2 => {
+                let second = offset.number() + u32::from(*lens / 16) + 1;
+                Part::Word(PackedU32::new(second), *lens % 16)
+            }
+            _ => Part::Close,
+        }
+    }
+
+    /// Returns the position after the `(` at a position, and the position after its group. Returns
+    /// `None` if the token is not `(`.
+    ///
+    /// # Proved
+    ///
+    /// ```text
+    /// ensures { MatchOption result
+    /// ((ts : List Terminal) → from_position at self.now.terminals ≢ Open ∷ ts)
+    /// (λ r. (from_position at self.now.terminals ≡
+    /// Open ∷ from_position r.0 self.now.terminals) ×
+    /// (from_position r.1 self.now.terminals ≡
+    /// past 0 (from_position r.0 self.now.terminals))) }
+    /// ```
+    fn group(&self, at: usize) -> Option<(usize, usize)> {
         match self.tokens.get(at) {
-            Some(PackedToken::Open(end)) => Some(end.number() as usize),
+            Some(PackedToken::Open(end)) => Some((at + 1, end.number() as usize)),
+            Some(PackedToken::KeywordGroup(_, _)) => Some((at + PART, at + 1)),
             _ => None,
         }
     }
+
+    /// Returns an upper bound of the number of tokens from a position on.
+    ///
+    /// # Proved
+    ///
+    /// ```text
+    /// ensures { length (from_position at self.now.terminals) ≤ result }
+    /// ```
+    fn most_from(&self, at: usize) -> usize {
+        self.tokens.len().saturating_sub(at % PART) * 4
+    }
 }
 
-/// Returns a token with its value.
+/// Returns the first token of a packed token with its value, and the distance to the position after
+/// it.
 ///
 /// # Proved
 ///
 /// ```text
 /// requires { IsReadable text.now (length kept.now) token }
-/// ensures { terminal result ≡ terminal_in text.now kept.now token }
+/// ensures token { terminal result.0 ≡ terminal_in text.now kept.now token }
+/// ensures step { result.1 ≡ step_of token }
 /// ```
 #[inline(always)]
-fn read<'a>(text: &'a str, kept: &'a [SideValue<'a>], token: PackedToken) -> DecodedToken<'a> {
+fn read<'a>(
+    text: &'a str,
+    kept: &'a [SideValue<'a>],
+    token: PackedToken,
+) -> (DecodedToken<'a>, usize) {
     match token {
-        PackedToken::Open(_) => DecodedToken::Open,
-        PackedToken::Close => DecodedToken::Close,
-        PackedToken::Word(offset, len) => DecodedToken::Word(characters(text, offset, len)),
-        PackedToken::Id(offset, len) => DecodedToken::Id(characters(text, offset, len)),
-        PackedToken::Integer(sign, size) => DecodedToken::Integer(sign, u64::from(size.number())),
-        PackedToken::Float(offset, len) => DecodedToken::Float(characters(text, offset, len)),
-        PackedToken::Text(offset, len) => DecodedToken::Text(bytes(text, offset, len)),
-        PackedToken::SideValue(index) => at_index(kept, index.number() as usize),
-        PackedToken::Other => DecodedToken::Other,
+        PackedToken::Open(_) => (DecodedToken::Open, 1),
+        PackedToken::Close => (DecodedToken::Close, 1),
+        PackedToken::Word(offset, len) => (DecodedToken::Word(characters(text, offset, len)), 1),
+        PackedToken::Id(offset, len) => (DecodedToken::Id(characters(text, offset, len)), 1),
+        PackedToken::Integer(sign, size) => {
+            (DecodedToken::Integer(sign, u64::from(size.number())), 1)
+        }
+        PackedToken::Float(offset, len) => (DecodedToken::Float(characters(text, offset, len)), 1),
+        PackedToken::Text(offset, len) => (DecodedToken::Text(bytes(text, offset, len)), 1),
+        PackedToken::SideValue(index) => (at_index(kept, index.number() as usize), 1),
+        PackedToken::KeywordGroup(_, _) => (DecodedToken::Open, PART),
+        PackedToken::Other => (DecodedToken::Other, 1),
     }
 }
 
@@ -269,14 +335,9 @@ impl<'p, 'a> TokenCursor<'p, 'a> {
     /// ```
     #[inline(always)]
     pub fn first(self) -> Option<(DecodedToken<'a>, TokenCursor<'p, 'a>)> {
-        match self.source.token(self.at) {
-            Some(token) => {
-                let rest = TokenCursor {
-                    source: self.source,
-                    at: self.at + 1,
-                };
-                Some((token, rest))
-            }
+        let source = self.source;
+        match source.token(self.at) {
+            Some((token, at)) => Some((token, TokenCursor { source, at })),
             None => None,
         }
     }
@@ -294,19 +355,27 @@ impl<'p, 'a> TokenCursor<'p, 'a> {
     /// ```
     pub fn group(self) -> Option<(TokenCursor<'p, 'a>, TokenCursor<'p, 'a>)> {
         let source = self.source;
-        match source.group_end(self.at) {
-            Some(end) => {
-                let inside = TokenCursor {
-                    source,
-                    at: self.at + 1,
-                };
-                Some((inside, TokenCursor { source, at: end }))
+        match source.group(self.at) {
+            Some((inside, at)) => {
+                let inside = TokenCursor { source, at: inside };
+                Some((inside, TokenCursor { source, at }))
             }
             None => None,
         }
     }
 
-    /// Returns the number of tokens.
+    /// Returns an upper bound of the number of tokens.
+    ///
+    /// # Proved
+    ///
+    /// ```text
+    /// ensures { length (terminals_of self.entry) ≤ result }
+    /// ```
+    pub fn most(self) -> usize {
+        self.source.most_from(self.at)
+    }
+
+    /// Returns the number of tokens. Reads each of them.
     ///
     /// # Proved
     ///
@@ -314,6 +383,14 @@ impl<'p, 'a> TokenCursor<'p, 'a> {
     /// ensures { result ≡ length (terminals_of self.entry) }
     /// ```
     pub fn len(self) -> usize {
-        self.source.len().saturating_sub(self.at)
+        let mut left = self;
+        let most = self.most();
+        for count in 0..most {
+            match left.first() {
+                Some((_, rest)) => left = rest,
+                None => return count,
+            }
+        }
+        most
     }
 }
