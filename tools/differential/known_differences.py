@@ -10,7 +10,7 @@ from name_sections import LOCALS, are_shifted, subsections
 # Texts that `wat2wasm` accepts and the program rejects: the beginning of the program's message, and a test of the tokens.
 REFUSED = {
     "of an `if` without `then` or `else`, which wat2wasm takes": ("expected ", tokens_of.has_bare_part),
-    "of a table or elements of numbers, which wat2wasm takes": (("unknown reference type ", "expected a reference type or `func`, "), tokens_of.has_number_table),
+    "of a table or elements of numbers, which wat2wasm takes": (("unknown reference type ", "expected a reference type", "expected `(table`, an offset, "), tokens_of.has_number_table),
     "of an unknown name in an element, for which wat2wasm does not look": ("unknown function ", tokens_of.has_name_in_element),
     "of a table that is said, without `func` or an offset, which wat2wasm takes": ("expected ", tokens_of.has_said_table),
     "of a segment with `declare` and indices without `func`, which wat2wasm takes": ("expected a reference type or `func`, ", tokens_of.has_declared_indices),
@@ -223,7 +223,7 @@ def validity_difference(verdict, units, ours, theirs):
         return OF_GLOBAL if is_global else None
     if theirs != "=":
         return None
-    if ours.startswith(("! unknown reference type", "! expected a reference type")):
+    if ours.startswith(("! unknown reference type", "! expected a reference type", "! expected `(table`, an offset, ")):
         return NUMBERS
     if has_empty_expression(units) and "not a constant expression" in ours:
         return NO_OFFSET

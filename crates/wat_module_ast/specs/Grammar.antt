@@ -323,7 +323,7 @@ before_type t (Ok (us, ts)) = Ok (t ∷ us, ts)
 before_type t (Err f) = Err f
 
 abbrev pub before_types : Option ValueType → List Terminal → Result (List ValueType × List Terminal) Fault → Result (List ValueType × List Terminal) Fault
-before_types None all q = Err (UnknownWord expected.ValueType, all)
+before_types None all q = Err (UnknownWord expected.ValueTypeOrClose, all)
 before_types (Some t) all q = before_type t q
 
 -- `listed word inside ts`: the types in all groups `(word valtype*)` at the front of `ts`. If `inside` is true, `ts`

@@ -2,8 +2,11 @@
 use Rattle.std.proofs.Common.{◌≡◌, ◌≤◌, ◌<◌, ◌+◌, ◌-◌, List, [], ◌∷◌, ◌++◌, length, take, get_or, Some, None, refl, ap, sym, ◌∙◌, arith}
 use Rattle.std.proofs.lemmas.List.{take_more}
 use Rattle.std.proofs.Math.Seq.{take-length}
+use Rattle.wat_module_ast.specs.declared.error.Expected.TheVariants as expected
+use Rattle.wat_module_ast.specs.declared.error.FaultKind.{FaultKind}
+use Rattle.wat_module_ast.specs.declared.error.FaultKind.TheVariants.{UnknownWord}
 use Rattle.wat_module_instructions.specs.declared.frame.Frame.{Frame}
-use Rattle.wat_module_instructions.specs.Machine.{Part}
+use Rattle.wat_module_instructions.specs.Machine.{Part, expected_in, kind_in}
 use Rattle.wat_module_instructions.specs.Named.{innermost}
 use Rattle.wat_module_instructions.specs.Stack.{part, stack, stack_on}
 
@@ -36,3 +39,12 @@ on_top (q ∷ ps) p e = let same : q ≡ p = cc in (ps, ap (λ r. r ∷ ps) same
 pub is_empty : (qs : List Part) → innermost qs ≡ None → qs ≡ []
 is_empty [] e = refl
 is_empty (q ∷ qs) e = cc
+
+-- the kind of an error at a keyword that is not an instruction, by the innermost part
+pub kind_inside : (qs : List Part) (p : Part) → innermost qs ≡ Some p → kind_in (UnknownWord expected.Instruction) qs ≡ UnknownWord (expected_in p)
+kind_inside [] p e = cc
+kind_inside (q ∷ ps) p e = let same : q ≡ p = cc in ap (λ r. UnknownWord (expected_in r)) same
+
+pub kind_outside : (qs : List Part) → innermost qs ≡ None → kind_in (UnknownWord expected.Instruction) qs ≡ UnknownWord expected.Instruction
+kind_outside [] e = refl
+kind_outside (q ∷ qs) e = cc

@@ -6,7 +6,8 @@ use Rattle.wat_module_ast.specs.declared.instruction.Argument.{Argument}
 use Rattle.wat_module_ast.specs.declared.instruction.Instruction.{Instruction}
 use Rattle.wat_module_ast.specs.declared.error.Expected.{Expected}
 use Rattle.wat_module_ast.specs.declared.error.Expected.TheVariants as expected
-use Rattle.wat_module_ast.specs.declared.error.FaultKind.TheVariants.{Unexpected}
+use Rattle.wat_module_ast.specs.declared.error.FaultKind.{FaultKind}
+use Rattle.wat_module_ast.specs.declared.error.FaultKind.TheVariants.{Unexpected, UnknownWord}
 use Rattle.wat_module_tokens.specs.Terminals.{Terminal, Open, Close, Word, Label}
 use Rattle.wat_module_ast.specs.Grammar.{Context, Fault, plain, label_of, end_label, structured, is_end, is_else, is_then, is_if, block_type, instruction, end, otherwise}
 
@@ -43,15 +44,30 @@ abbrev pub labels_in : List Part → List Label
 labels_in [] = []
 labels_in (p ∷ ps) = bound p ++ labels_in ps
 
+-- 6.5.2: what the grammar accepts next in `block .. end`, which may have an `else` if the flag is true.
+abbrev pub expected_in_block : Bool → Expected
+expected_in_block true = expected.InstructionElseOrEnd
+expected_in_block false = expected.InstructionOrEnd
+
 -- What the grammar accepts next in a part, unless it is in the middle of an instruction.
 abbrev pub expected_in : Part → Expected
 expected_in Body = expected.InstructionOrClose
-expected_in (Block b l) = expected.InstructionOrEnd
+expected_in (Block b l) = expected_in_block b
 expected_in (Group l) = expected.InstructionOrClose
 expected_in (Operands i) = expected.OpenOrClose
 expected_in (Condition i l) = expected.Then
 expected_in (Then l) = expected.InstructionOrClose
 expected_in (Else l) = expected.InstructionOrClose
+
+-- The kind of an error of a plain instruction in the innermost of these parts. At a keyword that is not an instruction,
+-- the grammar accepts what it accepts next in the part.
+abbrev pub kind_in : FaultKind → List Part → FaultKind
+kind_in (UnknownWord expected.Instruction) (p ∷ ps) = UnknownWord (expected_in p)
+kind_in k ps = k
+
+-- The error of a plain instruction in the innermost of these parts.
+abbrev pub fault_in : List Part → Fault → Fault
+fault_in ps f = (kind_in f.0 ps, f.1)
 
 -- The result of a step: the instructions that it yields, the stack after it, and the remaining tokens.
 pub record Step : Type 0 where
@@ -71,7 +87,7 @@ ended (Err f) ps = Err f
 -- The step at a plain instruction.
 abbrev pub at_plain : Result (Instruction × List Terminal) Fault → List Part → Result Step Fault
 at_plain (Ok (i, ts)) ps = on_to (i ∷ []) ps ts
-at_plain (Err f) ps = Err f
+at_plain (Err f) ps = Err (fault_in ps f)
 
 -- The step at a folded plain instruction, which waits for its operands.
 abbrev pub at_operands : Result (Instruction × List Terminal) Fault → List Part → Result Step Fault
@@ -161,7 +177,7 @@ close_step (Group l) all ts ps = on_to (end ∷ []) ps ts
 close_step (Operands i) all ts ps = on_to (i ∷ []) ps ts
 close_step (Then l) all ts ps = then_step l ts ps
 close_step (Else l) all ts ps = else_step ts ps
-close_step (Block b l) all ts ps = Err (Unexpected expected.InstructionOrEnd, all)
+close_step (Block b l) all ts ps = Err (Unexpected (expected_in_block b), all)
 close_step (Condition i l) all ts ps = Err (Unexpected expected.Then, all)
 
 -- A step at the first token, in the part `p` on the stack `ps`.

@@ -12,7 +12,7 @@ use Rattle.wat_module_instructions.specs.declared.reading.Scope.{Scope}
 use Rattle.wat_module_ast.specs.TypeViews.{type_of}
 use Rattle.wat_module_ast.specs.Grammar.{Context, Fault, Lane, before_labels, before_type, labels_from, lane_bytes, lane_index, lane_of, listed}
 use Rattle.wat_module_ast.specs.Branches.{branches}
-use Rattle.wat_module_instructions.specs.Machine.{Part, Step, labels_in, run}
+use Rattle.wat_module_instructions.specs.Machine.{Part, Step, fault_in, labels_in, run}
 use Rattle.wat_module_tokens.specs.TokenCursor.{terminals_of}
 use Rattle.wat_module_tokens.specs.Terminals.{Terminal, Label}
 
@@ -58,10 +58,21 @@ ReadsExactly view expected result = MatchResult result (λ r. expected ≡ Ok (v
 abbrev pub SkipsExactly : Result (List Terminal) Fault → Result TokenCursor declared.Fault → Type 0
 SkipsExactly expected result = MatchResult result (λ r. expected ≡ Ok (terminals_of r)) (λ f. expected ≡ Err (fault_of f))
 
+-- `SkipsAs expected result`: a call returns the remaining tokens of the definition. Otherwise it fails with its error, or
+-- with an allocation failure.
+abbrev pub SkipsAs : Result (List Terminal) Fault → Result TokenCursor ParseFailure → Type 0
+SkipsAs expected result = MatchResult result (λ r. expected ≡ Ok (terminals_of r)) (λ e. Faults expected e)
+
 -- `IsMemory e`: the error `e` is an allocation failure.
 abbrev pub IsMemory : ParseFailure → Type 0
 IsMemory (Text f) = ⊥
 IsMemory (Memory e) = Unit {0}
+
+-- `FailsIn ps before after`: if a plain instruction fails with `before`, it fails with `after` in the innermost of the parts `ps`.
+abbrev pub FailsIn : List Part → ParseFailure → ParseFailure → Type 0
+FailsIn ps (Text f) (Text g) = fault_of g ≡ fault_in ps (fault_of f)
+FailsIn ps (Memory d) (Memory e) = d ≡ e
+FailsIn ps before after = ⊥
 
 -- `NoLabel ls n ts before after`: no label follows `n` at `ts`, and `after` is `before`.
 abbrev pub NoLabel : List Label → ℕ → List Terminal → List ℕ → List ℕ → Type 0

@@ -3,19 +3,19 @@ ghost use Rattle.wat_module_ast.specs.Grammar.{is_then, structured};
 ghost use Rattle.wat_module_tokens.specs.TokenCursor.{terminals_of};
 ghost use Rattle.wat_module_instructions.specs.Machine as spec;
 ghost use Rattle.wat_module_instructions.specs.Machine.{Part};
-ghost use Rattle.wat_module_instructions.specs.Parts.{ReadsAs, RunsInto, RunsTo, StepsAs};
+ghost use Rattle.wat_module_instructions.specs.Parts.{FailsIn, ReadsAs, RunsInto, RunsTo, StepsAs};
 ghost use Rattle.wat_module_instructions.specs.Stack.{part};
 ghost use Rattle.wat_module_instructions.specs.Parts.{StepsFrom};
 ghost use Rattle.wat_module_instructions.specs.Parts.{scope_of};
 ghost use Rattle.wat_module_tokens.specs.Terminals as terminals;
 ghost use Rattle.std.specs.Prelude.{◌≡◌, [], ◌∷◌, true, List, Ok, Err, MatchResult};
 
-use crate::faults::unexpected;
+use crate::faults::{fault, unexpected};
 use crate::frame::{Frame, Frames};
 use crate::reading::{self, Scope};
 use crate::uses;
 use std::alloc::Global;
-use wat_module_ast::error::{Expected, ParseFailure};
+use wat_module_ast::error::{Expected, FaultKind, ParseFailure};
 use wat_module_ast::instruction::{Argument, Instruction, Opcode};
 use wat_module_tokens::stream::TokenCursor;
 use wat_module_tokens::token::{DecodedToken, Name};
@@ -151,22 +151,35 @@ fn step<'p, 'a>(
             alloc, scope, frames, out, word, cursor, rest,
         ),
         _ => match frames.last() {
-            Some(Frame::Block(_, _)) => Err(ParseFailure::Text(unexpected(
-                Expected::InstructionOrEnd,
-                cursor,
-            ))),
-            Some(Frame::Operands(_)) => Err(ParseFailure::Text(unexpected(
-                Expected::OpenOrClose,
-                cursor,
-            ))),
-            Some(Frame::Condition(_, _)) => {
-                Err(ParseFailure::Text(unexpected(Expected::Then, cursor)))
-            }
-            Some(Frame::Body | Frame::Group(_) | Frame::Then(_) | Frame::Else(_)) | None => {
-                let expected = Expected::InstructionOrClose;
-                Err(ParseFailure::Text(unexpected(expected, cursor)))
-            }
+            Some(frame) => Err(ParseFailure::Text(unexpected(expected_in(frame), cursor))),
+            None => Err(ParseFailure::Text(unexpected(Expected::InstructionOrClose, cursor))),
         },
+    }
+}
+
+/// Returns what the grammar accepts next in a part, unless it is in the middle of an instruction.
+fn expected_in(frame: &Frame<'_>) -> Expected
+    ensures { result ≡ spec.expected_in (part frame.now) }
+{
+    match *frame {
+        Frame::Body | Frame::Group(_) | Frame::Then(_) | Frame::Else(_) => {
+            Expected::InstructionOrClose
+        }
+        Frame::Block(may_have_else, _) => expected_in_block(may_have_else),
+        Frame::Operands(_) => Expected::OpenOrClose,
+        Frame::Condition(_, _) => Expected::Then,
+    }
+}
+
+/// Returns what the grammar accepts next in a `block .. end`, which may have an `else` if
+/// `may_have_else` is `true`.
+fn expected_in_block(may_have_else: bool) -> Expected
+    ensures { result ≡ spec.expected_in_block may_have_else }
+{
+    if may_have_else {
+        Expected::InstructionElseOrEnd
+    } else {
+        Expected::InstructionOrEnd
     }
 }
 
@@ -214,10 +227,10 @@ fn closed<'p, 'a>(
         }
         Frame::Then(label) => after_then(label, frames, out, rest),
         Frame::Else(_) => after_else(frames, out, rest),
-        Frame::Block(_, _) => Err(ParseFailure::Text(unexpected(
-            Expected::InstructionOrEnd,
-            cursor,
-        ))),
+        Frame::Block(may_have_else, _) => {
+            let expected = expected_in_block(may_have_else);
+            Err(ParseFailure::Text(unexpected(expected, cursor)))
+        }
         Frame::Condition(_, _) => Err(ParseFailure::Text(unexpected(Expected::Then, cursor))),
     }
 }
@@ -551,10 +564,40 @@ fn instruction<'p, 'a>(
             })?;
             Ok(rest)
         }
-        None => {
-            let (instruction, rest) = reading::plain(alloc, scope, frames, cursor)?;
-            out.push(instruction)?;
-            Ok(rest)
+        None => match reading::plain(alloc, scope, frames, cursor) {
+            Ok((instruction, rest)) => {
+                out.push(instruction)?;
+                Ok(rest)
+            }
+            Err(failure) => Err(failure_in(frames, failure)),
+        },
+    }
+}
+
+/// Returns the failure of a plain instruction in the innermost part.
+fn failure_in<'p, 'a>(frames: &Frames<'_>, failure: ParseFailure<'p, 'a>) -> ParseFailure<'p, 'a>
+    ensures { FailsIn frames.now failure.entry result }
+{
+    match failure {
+        ParseFailure::Text(error) => {
+            let kind = kind_in(error.kind, frames);
+            ParseFailure::Text(fault(kind, error.left))
         }
+        ParseFailure::Memory(_) => failure,
+    }
+}
+
+/// Returns the kind of an error of a plain instruction in the innermost part. At a keyword that is
+/// not an instruction, the grammar accepts what it accepts next in the part.
+#[tactic(auto, using(crate::proofs::Stacks::kind_inside, crate::proofs::Stacks::kind_outside))]
+fn kind_in(kind: FaultKind, frames: &Frames<'_>) -> FaultKind
+    ensures { result ≡ spec.kind_in kind frames.now }
+{
+    match kind {
+        FaultKind::UnknownWord(Expected::Instruction) => match frames.last() {
+            Some(frame) => FaultKind::UnknownWord(expected_in(frame)),
+            None => kind,
+        },
+        _ => kind,
     }
 }

@@ -18,22 +18,22 @@ use Rattle.wat_module_ast.specs.declared.instruction.ReferenceType.{ReferenceTyp
 use Rattle.wat_module_ast.specs.declared.instruction.ReferenceType.TheVariants as reference
 use Rattle.wat_module_ast.specs.Fields.{Many, Group, InlineExport, IndexIs, by_number, by_identifier, LimitsAre, TypeUseIs, by_lists, by_index, by_both, by_unknown, ExternIs, by_type_use, by_table_type, by_memory_type, by_global_type, Variable, NamedUse, named_use, function_type, ExternType, FuncType, OfTable, OfMemory, OfGlobal, extern_space, Definition, definition, Field, TypeField, Import, Func, Table, Memory, Global, Export, Start, FieldIs, by_type, by_import, by_inline_import, by_func, by_table, by_memory, by_global, by_export, by_start, name_of, names_of, unnamed, with_locals, without_names, space_of, Data, StringIs, target, Elem, Passive, Active, Declarative, Elements, table_of, is_u32, by_table_items, by_table_functions, by_passive_elem, by_declarative_elem, by_active_elem, by_function_elem, by_memory_data, by_passive_data, by_active_data}
 use Rattle.wat_module_ast.specs.Names.{are_distinct}
-use Rattle.wat_module_parser.specs.Reading.{and_then, after, all, closed, closing, utf8_text, export, export_item, group_item, group, function, func_at, locals, instructions, agreed, lists_after, assumed_use, either_use, listed_use, indexed_use, use_by, use_at, limits_at, table_type_at, table_limits, table_open, table_by, table_at, elem_at, memory_type, memory_by, memory_at, segment_at, data_at, global_type_at, global_at, defined, import_names, func_type, extern_at, imported, inline_import, item_by, item_at, import_by, import_word, import_open, import_at, type_by, type_at, type_field, skip_two_closes, external_by, external_word, external_at, export_at, start_at, field_by, field, field_item, kind_of}
+use Rattle.wat_module_parser.specs.Reading.{and_then, after, all, closed, closing, utf8_text, export, export_item, group_item, group, function, func_at, locals, instructions, agreed, lists_after, assumed_use, either_use, listed_use, indexed_use, use_by, use_at, limits_at, table_type_at, table_limits, table_open, table_by, table_at, elem_at, memory_type, memory_by, memory_at, segment_at, data_at, global_type_at, global_at, defined, import_names, func_type, extern_at, imported, inline_import, item_by, item_at, import_by, import_word, import_open, import_at, type_by, type_at, type_field, skip_two_closes, external_by, external_word, external_at, export_at, start_at, field_by, field, field_item, kind_of, closed_or, skip_two_closes_or, after_memory_limits, after_extern, after_results}
 use Rattle.wat_module_parser.specs.Places.{duplicate_variable}
 use Rattle.wat_module_parser.proofs.SameTypes.{type_is, type_same}
 use Rattle.wat_module_parser.proofs.Headers.{Ends, IsNoInstruction, Listed, NoLists, lists_sound, lists_complete, ends_lists, ends_groups, ends_body, item_ends, other_word, export_is_none, import_is_none, type_is_none, param_is_none, result_is_none, local_is_none}
-use Rattle.wat_module_parser.proofs.Items.{exports_read, export_past, groups_read, group_past, group_takes, word_is, closing_inv, closed_is, utf8_inv, begins, after_is}
+use Rattle.wat_module_parser.proofs.Items.{exports_read, export_past, groups_read, group_past, group_takes, word_is, closing_inv, closed_is, utf8_inv, begins, after_is, closed_or_is}
 use Rattle.wat_module_parser.proofs.Manies.{Gives, gives_of, of_gives, and_then_inv, Brings, Reads, all_sound, all_complete, many_takes, many_past}
 pub use Rattle.wat_module_parser.proofs.SegmentKinds.{Laws}
 use Rattle.wat_module_parser.proofs.ElementKinds.{Elems, of_items, of_functions, elem_sound, table_elements_sound, table_word_complete, limits_first, either_items, either_functions, items_keep, functions_keep, elements_keep, passive_elem_complete, declarative_elem_complete, active_elem_complete, function_elem_complete}
 use Rattle.wat_module_parser.proofs.SegmentKinds.{Keeps, finds_of, data_sound, passive_complete, active_complete, memory_data_sound, memory_data_complete, strings_keep, used_keeps, expression_keeps}
-use Rattle.wat_module_parser.proofs.TypeRules.{Passes, IsTableType, limits_sound, limits_complete, limits_pass, limits_no_export, limits_no_import, limits_no_data, table_type_sound, table_type_complete, table_type_pass, global_type_sound, global_type_complete, global_type_pass, global_type_no_export, global_type_no_import, index_sound, index_complete, index_pass, twice_closed_is}
+use Rattle.wat_module_parser.proofs.TypeRules.{Passes, IsTableType, limits_sound, limits_complete, limits_pass, limits_no_export, limits_no_import, limits_no_data, table_type_sound, table_type_complete, table_type_pass, global_type_sound, global_type_complete, global_type_pass, global_type_no_export, global_type_no_import, index_sound, index_complete, index_pass, twice_closed_is, twice_closed_or_is}
 
 -- Type uses.
 
 listed_use_sound : (types : Types) (ts : List Terminal) (u : NamedUse) (us : List Terminal) → Gives (listed_use ts) u us → TypeUseIs types ts u us
 listed_use_sound types ts u us g =
-    let (ps, rs, ds, k, e) = lists_sound (λ ps rs vs. Ok (named_use None ps rs, vs)) ts u us g in
+    let (ps, rs, ds, k, e) = lists_sound (λ ps bs rs vs. Ok (named_use None ps rs, vs)) ts u us g in
     subst (λ x. TypeUseIs types ts x us) e.0 (subst (λ x. TypeUseIs types ts (named_use None ps rs) x) e.1 (by_lists k.params k.results))
 
 both_sound : (types : Types) (w : List ℕ) (hs vs : List Terminal) (i : ℕ) (t : FunctionType) (ps rs : List Variable) (ds : List Terminal) (u : NamedUse) (us : List Terminal) → types.are_known ≡ true → w ≡ codes "type" → IndexIs types.names hs i (Close ∷ vs) → slice_get types.types i ≡ Some t → Listed ps rs vs ds
@@ -54,12 +54,12 @@ agreed_sound types w hs vs i t [] (r ∷ rs) ds u us q e n s k g = both_sound ty
 agreed_sound types w hs vs i t (p ∷ ps) rs ds u us q e n s k g = both_sound types w hs vs i t (p ∷ ps) rs ds u us q e n s k (same_type (function_type (p ∷ ps) rs) t) refl g
 
 after_index : (types : Types) (w : List ℕ) (hs vs : List Terminal) (i : ℕ) (o : Option FunctionType) (u : NamedUse) (us : List Terminal) → types.are_known ≡ true → w ≡ codes "type" → IndexIs types.names hs i (Close ∷ vs) → slice_get types.types i ≡ o → Gives (lists_after i o hs vs) u us → TypeUseIs types (Open ∷ Word w ∷ hs) u us
-after_index types w hs vs i (Some t) u us q e n s g = let (ps, rs, ds, k, h) = lists_sound (λ ps rs ws. agreed i t ps rs hs ws) vs u us g in agreed_sound types w hs vs i t ps rs ds u us q e n s k h
+after_index types w hs vs i (Some t) u us q e n s g = let (ps, rs, ds, k, h) = lists_sound (λ ps bs rs ws. agreed i t ps rs hs ws) vs u us g in agreed_sound types w hs vs i t ps rs ds u us q e n s k h
 after_index types w hs vs i None u us q e n s g = absurd g
 
 unknown_sound : (types : Types) (w : List ℕ) (hs vs : List Terminal) (i : ℕ) (u : NamedUse) (us : List Terminal) → types.are_known ≡ false → w ≡ codes "type" → IndexIs types.names hs i (Close ∷ vs) → Gives (assumed_use i vs) u us → TypeUseIs types (Open ∷ Word w ∷ hs) u us
 unknown_sound types w hs vs i u us q e n g =
-    let (ps, rs, ds, k, h) = lists_sound (λ ps rs vs. Ok (named_use (Some i) ps rs, vs)) vs u us g in
+    let (ps, rs, ds, k, h) = lists_sound (λ ps bs rs vs. Ok (named_use (Some i) ps rs, vs)) vs u us g in
     subst (λ x. TypeUseIs types (Open ∷ Word w ∷ hs) x us) h.0 (subst (λ x. TypeUseIs types (Open ∷ Word w ∷ hs) (named_use (Some i) ps rs) x) h.1 (by_unknown q e n k.params k.results))
 
 either_sound : (types : Types) (w : List ℕ) (hs vs : List Terminal) (i : ℕ) (u : NamedUse) (us : List Terminal) (b : Bool) → types.are_known ≡ b → w ≡ codes "type" → IndexIs types.names hs i (Close ∷ vs) → Gives (if b then lists_after i (slice_get types.types i) hs vs else assumed_use i vs) u us → TypeUseIs types (Open ∷ Word w ∷ hs) u us
@@ -108,16 +108,16 @@ unknown_complete types w ts us i u ws q e n h = at_index types w ts us i e n ∙
 listed_complete : (types : Types) (ts : List Terminal) (ps rs : List Variable) (us : List Terminal) → Listed ps rs ts us → NoUse us → use_at types ts ≡ Ok (named_use None ps rs, us)
 unfolding use_at
 listed_complete types ts ps rs us k n =
-    ap (λ o. use_by types o ts) (ends_lists (codes "type") refl refl ps rs ts us k n.no_type) ∙ lists_complete (λ ps rs vs. Ok (named_use None ps rs, vs)) ts ps rs us k n.lists
+    ap (λ o. use_by types o ts) (ends_lists (codes "type") refl refl ps rs ts us k n.no_type) ∙ lists_complete (λ ps bs rs vs. Ok (named_use None ps rs, vs)) ts ps rs us k n.lists
 
 use_complete : (types : Types) (ts : List Terminal) (u : NamedUse) (us : List Terminal) → TypeUseIs types ts u us → NoUse us → use_at types ts ≡ Ok (u, us)
 use_complete types ts _ us (by_lists {us = bs} {params = ps} {results = rs} a b) n = listed_complete types ts ps rs us (record { bs = bs; params = a; results = b }) n
 use_complete types _ _ us (by_index {w = w} {ts = ts} {us = hs} {vs = bs} {i = i} {t = t} q e k s a b) n =
-    indexed_complete types w ts hs i t _ us q e k s (lists_complete (λ ps rs ws. agreed i t ps rs ts ws) hs [] [] us (record { bs = bs; params = a; results = b }) n.lists)
+    indexed_complete types w ts hs i t _ us q e k s (lists_complete (λ ps bs rs ws. agreed i t ps rs ts ws) hs [] [] us (record { bs = bs; params = a; results = b }) n.lists)
 use_complete types _ _ us (by_both {w = w} {ts = ts} {us = hs} {vs = bs} {i = i} {params = ps} {results = rs} q e k s a b) n =
-    indexed_complete types w ts hs i (function_type ps rs) _ us q e k s (lists_complete (λ ps' rs' ws. agreed i (function_type ps rs) ps' rs' ts ws) hs ps rs us (record { bs = bs; params = a; results = b }) n.lists ∙ agreed_both i ps rs ts us)
+    indexed_complete types w ts hs i (function_type ps rs) _ us q e k s (lists_complete (λ ps' bs' rs' ws. agreed i (function_type ps rs) ps' rs' ts ws) hs ps rs us (record { bs = bs; params = a; results = b }) n.lists ∙ agreed_both i ps rs ts us)
 use_complete types _ _ us (by_unknown {w = w} {ts = ts} {us = hs} {vs = bs} {i = i} {params = ps} {results = rs} q e k a b) n =
-    unknown_complete types w ts hs i _ us q e k (lists_complete (λ ps rs vs. Ok (named_use (Some i) ps rs, vs)) hs ps rs us (record { bs = bs; params = a; results = b }) n.lists)
+    unknown_complete types w ts hs i _ us q e k (lists_complete (λ ps bs rs vs. Ok (named_use (Some i) ps rs, vs)) hs ps rs us (record { bs = bs; params = a; results = b }) n.lists)
 
 lists_keep : (ps rs : List Variable) (ts us : List Terminal) → Listed ps rs ts us → Keeps ts us
 lists_keep ps rs ts us k =
@@ -156,13 +156,13 @@ unfolding extern_at
 extern_sound types space.Func ts t us g =
     let (u, vs, e1, g1) = and_then_inv (use_at types ts) (λ u us. func_type u ts us) t us g in func_type_sound types ts vs u t us (are_distinct (map name_of u.params)) (use_sound types ts u vs (gives_of _ u vs e1)) refl g1
 extern_sound types space.Table ts t us g =
-    let (x, vs, e1, g1) = and_then_inv (table_type_at ts) (λ t us. Ok (OfTable t, us)) t us g in
-    let k = table_type_sound ts x vs (gives_of _ x vs e1) in subst (λ y. ExternIs types space.Table ts y us) g1.0 (subst (λ y. ExternIs types space.Table ts (OfTable x) y) g1.1 (by_table_type k.limits k.element))
+    let (x, vs, e1, g1) = and_then_inv (table_type_at expected.Limits ts) (λ t us. Ok (OfTable t, us)) t us g in
+    let k = table_type_sound expected.Limits ts x vs (gives_of _ x vs e1) in subst (λ y. ExternIs types space.Table ts y us) g1.0 (subst (λ y. ExternIs types space.Table ts (OfTable x) y) g1.1 (by_table_type k.limits k.element))
 extern_sound types space.Mem ts t us g =
-    let (x, vs, e1, g1) = and_then_inv (limits_at ts) (λ limits us. Ok (OfMemory limits, us)) t us g in subst (λ y. ExternIs types space.Mem ts y us) g1.0 (subst (λ y. ExternIs types space.Mem ts (OfMemory x) y) g1.1 (by_memory_type (limits_sound ts x vs e1)))
+    let (x, vs, e1, g1) = and_then_inv (limits_at expected.Limits ts) (λ limits us. Ok (OfMemory limits, us)) t us g in subst (λ y. ExternIs types space.Mem ts y us) g1.0 (subst (λ y. ExternIs types space.Mem ts (OfMemory x) y) g1.1 (by_memory_type (limits_sound expected.Limits ts x vs e1)))
 extern_sound types space.Global ts t us g =
-    let (x, vs, e1, g1) = and_then_inv (global_type_at ts) (λ t us. Ok (OfGlobal t, us)) t us g in
-    subst (λ y. ExternIs types space.Global ts y us) g1.0 (subst (λ y. ExternIs types space.Global ts (OfGlobal x) y) g1.1 (by_global_type (global_type_sound ts x vs (gives_of _ x vs e1))))
+    let (x, vs, e1, g1) = and_then_inv (global_type_at expected.GlobalType ts) (λ t us. Ok (OfGlobal t, us)) t us g in
+    subst (λ y. ExternIs types space.Global ts y us) g1.0 (subst (λ y. ExternIs types space.Global ts (OfGlobal x) y) g1.1 (by_global_type (global_type_sound expected.GlobalType ts x vs (gives_of _ x vs e1))))
 
 no_use : (us : List Terminal) → NoUse (Close ∷ us)
 no_use us = record { lists = record { no_param = refl; no_result = refl }; no_type = refl }
@@ -172,10 +172,10 @@ unfolding extern_at
 extern_complete types _ ts _ us vs c (by_type_use {u = u} k d) =
     ap (λ q. and_then q (λ u us. func_type u ts us)) (use_complete types ts u us k (subst (λ x. NoUse x) (sym c) (no_use vs))) ∙ ap (λ (b : Bool). if b then Ok (FuncType (without_names u), us) else Err (duplicate_variable ts)) d
 extern_complete types _ ts _ us vs c (by_table_type {v = v} {limits = l} {t = t} a b) =
-    let k : IsTableType ts (record { limits = l; element = t }) us = record { v = v; limits = a; element = b } in ap (λ q. and_then q (λ t us. Ok (OfTable t, us))) (table_type_complete ts (record { limits = l; element = t }) us k)
+    let k : IsTableType ts (record { limits = l; element = t }) us = record { v = v; limits = a; element = b } in ap (λ q. and_then q (λ t us. Ok (OfTable t, us))) (table_type_complete expected.Limits ts (record { limits = l; element = t }) us k)
 extern_complete types _ ts _ us vs c (by_memory_type {limits = l} a) =
-    ap (λ q. and_then q (λ limits us. Ok (OfMemory limits, us))) (subst (λ x. LimitsAre ts l x → limits_at ts ≡ Ok (l, x)) (sym c) (λ h. limits_complete ts l (Close ∷ vs) h (λ n. refl)) a)
-extern_complete types _ ts _ us vs c (by_global_type {t = t} a) = ap (λ q. and_then q (λ t us. Ok (OfGlobal t, us))) (global_type_complete ts t us a)
+    ap (λ q. and_then q (λ limits us. Ok (OfMemory limits, us))) (subst (λ x. LimitsAre ts l x → limits_at expected.Limits ts ≡ Ok (l, x)) (sym c) (λ h. limits_complete expected.Limits ts l (Close ∷ vs) h (λ n. refl)) a)
+extern_complete types _ ts _ us vs c (by_global_type {t = t} a) = ap (λ q. and_then q (λ t us. Ok (OfGlobal t, us))) (global_type_complete expected.GlobalType ts t us a)
 
 keeps_of : (ts us : List Terminal) → Passes ts us → Keeps ts us
 keeps_of ts us p = let s = p.short in record { short = omega arith; same = p.same }
@@ -240,9 +240,9 @@ func_sound laws types context w ts ns hs fs r e m g =
 table_limits_sound : (types : Types) (context : Context) (w : List ℕ) (ts : List Terminal) (ns : List (List ℕ)) (hs : List Terminal) (fs : List Field) (r : List Terminal) → w ≡ codes "table" → Many InlineExport (label_of ts).1 ns hs → Gives (table_limits (label_of ts).0 ns hs) fs r → FieldIs types context (Open ∷ Word w ∷ ts) fs r
 table_limits_sound types context w ts ns hs fs r e m g =
     let l = (label_of ts).0 in
-    let (t, bs, e1, g1) = and_then_inv (table_type_at hs) (λ t us. closing (Table l ns t None ∷ []) (closed us)) fs r g in
+    let (t, bs, e1, g1) = and_then_inv (table_type_at expected.TableDefinition hs) (λ t us. closing (Table l ns t None ∷ []) (closed us)) fs r g in
     let (same, shut) = closing_inv (Table l ns t None ∷ []) fs (closed bs) r g1 in
-    let k = table_type_sound hs t bs (gives_of _ t bs e1) in subst (λ x. FieldIs types context (Open ∷ Word w ∷ ts) x r) same (by_table e m (subst (λ x. LimitsAre hs t.limits (Word k.v ∷ x)) (closed_is bs r shut) k.limits) k.element)
+    let k = table_type_sound expected.TableDefinition hs t bs (gives_of _ t bs e1) in subst (λ x. FieldIs types context (Open ∷ Word w ∷ ts) x r) same (by_table e m (subst (λ x. LimitsAre hs t.limits (Word k.v ∷ x)) (closed_is bs r shut) k.limits) k.element)
 
 brought_sound : (types : Types) (context : Context) (w u v : List ℕ) (ts : List Terminal) (ns : List (List ℕ)) (xs : List Terminal) (t : ReferenceType) (es : Elements) (r : List Terminal) → w ≡ codes "table" → Many InlineExport (label_of ts).1 ns (Word u ∷ Open ∷ Word v ∷ xs) → reference_type u ≡ Some t → v ≡ codes "elem" → Elems context xs es (Close ∷ Close ∷ r) → is_u32 (length es) ≡ true
     → FieldIs types context (Open ∷ Word w ∷ ts) (Table (label_of ts).0 ns (table_of t es) (Some es) ∷ []) r
@@ -277,9 +277,9 @@ table_sound laws types context w ts ns (Other ∷ hs) fs r e m g = table_limits_
 memory_type_sound : (types : Types) (context : Context) (w : List ℕ) (ts : List Terminal) (ns : List (List ℕ)) (hs : List Terminal) (fs : List Field) (r : List Terminal) → w ≡ codes "memory" → Many InlineExport (label_of ts).1 ns hs → Gives (memory_type (label_of ts).0 ns hs) fs r → FieldIs types context (Open ∷ Word w ∷ ts) fs r
 memory_type_sound types context w ts ns hs fs r e m g =
     let l = (label_of ts).0 in
-    let (limits, bs, e1, g1) = and_then_inv (limits_at hs) (λ limits us. closing (Memory l ns limits None ∷ []) (closed us)) fs r g in
-    let (same, shut) = closing_inv (Memory l ns limits None ∷ []) fs (closed bs) r g1 in
-    subst (λ x. FieldIs types context (Open ∷ Word w ∷ ts) x r) same (by_memory e m (subst (λ x. LimitsAre hs limits x) (closed_is bs r shut) (limits_sound hs limits bs e1)))
+    let (limits, bs, e1, g1) = and_then_inv (limits_at expected.MemoryDefinition hs) (λ limits us. closing (Memory l ns limits None ∷ []) (closed_or (after_memory_limits limits.max) us)) fs r g in
+    let (same, shut) = closing_inv (Memory l ns limits None ∷ []) fs (closed_or (after_memory_limits limits.max) bs) r g1 in
+    subst (λ x. FieldIs types context (Open ∷ Word w ∷ ts) x r) same (by_memory e m (subst (λ x. LimitsAre hs limits x) (closed_or_is (after_memory_limits limits.max) bs r shut) (limits_sound expected.MemoryDefinition hs limits bs e1)))
 
 memory_sound : (types : Types) (context : Context) (w : List ℕ) (ts : List Terminal) (ns : List (List ℕ)) (hs : List Terminal) (fs : List Field) (r : List Terminal) → w ≡ codes "memory" → Many InlineExport (label_of ts).1 ns hs → Gives (memory_at (label_of ts).0 ns hs) fs r → FieldIs types context (Open ∷ Word w ∷ ts) fs r
 memory_sound types context w ts ns hs fs r e m g = by (after (codes "data") hs) refl g
@@ -293,23 +293,23 @@ memory_sound types context w ts ns hs fs r e m g = by (after (codes "data") hs) 
 global_sound : Laws → (types : Types) (context : Context) (w : List ℕ) (ts : List Terminal) (ns : List (List ℕ)) (hs : List Terminal) (fs : List Field) (r : List Terminal) → w ≡ codes "global" → Many InlineExport (label_of ts).1 ns hs → Gives (global_at context (label_of ts).0 ns hs) fs r → FieldIs types context (Open ∷ Word w ∷ ts) fs r
 global_sound laws types context w ts ns hs fs r e m g =
     let l = (label_of ts).0 in
-    let (t, bs, e1, g1) = and_then_inv (global_type_at hs) (λ t us. and_then (machine.body context us) (λ is vs. Ok (Global l ns t is ∷ [], vs))) fs r g in
+    let (t, bs, e1, g1) = and_then_inv (global_type_at expected.GlobalDefinition hs) (λ t us. and_then (machine.body context us) (λ is vs. Ok (Global l ns t is ∷ [], vs))) fs r g in
     let (is, us, e2, g2) = and_then_inv (machine.body context bs) (λ is vs. Ok (Global l ns t is ∷ [], vs)) fs r g1 in
-    subst (λ x. FieldIs types context (Open ∷ Word w ∷ ts) fs x) g2.1 (subst (λ x. FieldIs types context (Open ∷ Word w ∷ ts) x us) g2.0 (by_global e m (global_type_sound hs t bs (gives_of _ t bs e1)) ((laws.same context bs is us).0 e2)))
+    subst (λ x. FieldIs types context (Open ∷ Word w ∷ ts) fs x) g2.1 (subst (λ x. FieldIs types context (Open ∷ Word w ∷ ts) x us) g2.0 (by_global e m (global_type_sound expected.GlobalDefinition hs t bs (gives_of _ t bs e1)) ((laws.same context bs is us).0 e2)))
 
 inline_sound : (types : Types) (context : Context) (s : IndexSpace) (w v : List ℕ) (ts : List Terminal) (ns : List (List ℕ)) (hs xs : List Terminal) (fs : List Field) (r : List Terminal) → space_of w ≡ Some s → v ≡ codes "import" → hs ≡ Open ∷ Word v ∷ xs → Many InlineExport (label_of ts).1 ns hs → Gives (inline_import types s (label_of ts).0 ns xs) fs r
     → FieldIs types context (Open ∷ Word w ∷ ts) fs r
 inline_sound types context s w v ts ns hs xs fs r e k b m g =
     let l = (label_of ts).0 in
-    let (names, us, e1, g1) = and_then_inv (import_names xs) (λ names us. and_then (closing names (closed us)) (λ names vs. and_then (extern_at types s vs) (λ t xs. closing (imported l ns names t ∷ []) (closed xs)))) fs r g in
-    let (others, vs, e2, g2) = and_then_inv (closing names (closed us)) (λ names vs. and_then (extern_at types s vs) (λ t xs. closing (imported l ns names t ∷ []) (closed xs))) fs r g1 in
-    let (t, ys, e3, g3) = and_then_inv (extern_at types s vs) (λ t xs. closing (imported l ns others t ∷ []) (closed xs)) fs r g2 in
-    let (same, shut) = closing_inv (imported l ns others t ∷ []) fs (closed ys) r g3 in
+    let (names, us, e1, g1) = and_then_inv (import_names xs) (λ names us. and_then (closing names (closed us)) (λ names vs. and_then (extern_at types s vs) (λ t xs. closing (imported l ns names t ∷ []) (closed_or (after_extern t vs) xs)))) fs r g in
+    let (others, vs, e2, g2) = and_then_inv (closing names (closed us)) (λ names vs. and_then (extern_at types s vs) (λ t xs. closing (imported l ns names t ∷ []) (closed_or (after_extern t vs) xs))) fs r g1 in
+    let (t, ys, e3, g3) = and_then_inv (extern_at types s vs) (λ t xs. closing (imported l ns others t ∷ []) (closed_or (after_extern t vs) xs)) fs r g2 in
+    let (same, shut) = closing_inv (imported l ns others t ∷ []) fs (closed_or (after_extern t vs) ys) r g3 in
     let (kept, after_names) = closing_inv names others (closed us) vs (gives_of _ others vs e2) in
     let n = subst (λ x. TwoNames x xs us) kept (import_names_sound xs names us (gives_of _ names us e1)) in
     let full : hs ≡ Open ∷ Word v ∷ Text others.0 ∷ Text others.1 ∷ Close ∷ vs = b ∙ ap (λ x. Open ∷ Word v ∷ x) (n.is ∙ ap (λ x. Text others.0 ∷ Text others.1 ∷ x) (closed_is us vs after_names)) in
     subst (λ x. FieldIs types context (Open ∷ Word w ∷ ts) x r) same
-    (by_inline_import e (subst (λ x. Many InlineExport (label_of ts).1 ns x) full m) k n.from n.item (subst (λ x. ExternIs types s vs t x) (closed_is ys r shut) (extern_sound types s vs t ys (gives_of _ t ys e3))))
+    (by_inline_import e (subst (λ x. Many InlineExport (label_of ts).1 ns x) full m) k n.from n.item (subst (λ x. ExternIs types s vs t x) (closed_or_is (after_extern t vs) ys r shut) (extern_sound types s vs t ys (gives_of _ t ys e3))))
 
 -- what is exported, after `(` and its word
 external_by_sound : (types : Types) (context : Context) (w n v : List ℕ) (ts : List Terminal) (fs : List Field) (r : List Terminal) (o : Option IndexSpace) → w ≡ codes "export" → is_utf8 n ≡ true → space_of v ≡ o → Gives (external_by context n o (Word v ∷ ts) ts) fs r → FieldIs types context (Open ∷ Word w ∷ Text n ∷ Open ∷ Word v ∷ ts) fs r
@@ -393,10 +393,10 @@ item_sound laws types context s w ts fs r e g =
 import_by_sound : (types : Types) (context : Context) (w m n v : List ℕ) (ts : List Terminal) (fs : List Field) (r : List Terminal) (o : Option IndexSpace) → w ≡ codes "import" → is_utf8 m ≡ true → is_utf8 n ≡ true → space_of v ≡ o → Gives (import_by types (m, n) o (Word v ∷ ts) ts) fs r → FieldIs types context (Open ∷ Word w ∷ Text m ∷ Text n ∷ Open ∷ Word v ∷ ts) fs r
 import_by_sound types context w m n v ts fs r (Some s) e a b k g =
     let l = (label_of ts).0 in
-    let (t, us, e1, g1) = and_then_inv (extern_at types s (label_of ts).1) (λ t us. closing (imported l [] (m, n) t ∷ []) (skip_two_closes us)) fs r g in
-    let (same, shut) = closing_inv (imported l [] (m, n) t ∷ []) fs (skip_two_closes us) r g1 in
+    let (t, us, e1, g1) = and_then_inv (extern_at types s (label_of ts).1) (λ t us. closing (imported l [] (m, n) t ∷ []) (skip_two_closes_or (after_extern t (label_of ts).1) us)) fs r g in
+    let (same, shut) = closing_inv (imported l [] (m, n) t ∷ []) fs (skip_two_closes_or (after_extern t (label_of ts).1) us) r g1 in
     subst (λ x. FieldIs types context (Open ∷ Word w ∷ Text m ∷ Text n ∷ Open ∷ Word v ∷ ts) x r) same
-    (by_import e a b k (subst (λ x. ExternIs types s (label_of ts).1 t x) (twice_closed_is us r shut) (extern_sound types s (label_of ts).1 t us (gives_of _ t us e1))))
+    (by_import e a b k (subst (λ x. ExternIs types s (label_of ts).1 t x) (twice_closed_or_is (after_extern t (label_of ts).1) us r shut) (extern_sound types s (label_of ts).1 t us (gives_of _ t us e1))))
 import_by_sound types context w m n v ts fs r None e a b k g = absurd g
 
 import_word_sound : (types : Types) (context : Context) (w m n : List ℕ) (ts : List Terminal) (fs : List Field) (r : List Terminal) → w ≡ codes "import" → is_utf8 m ≡ true → is_utf8 n ≡ true → Gives (import_word types (m, n) ts) fs r → FieldIs types context (Open ∷ Word w ∷ Text m ∷ Text n ∷ Open ∷ ts) fs r
@@ -449,8 +449,8 @@ type_sound ts d r g = by (after (codes "func") (label_of ts).1) refl g
     by None e h = absurd h
     by (Some hs) e h =
         let b = begins (codes "func") (label_of ts).1 hs (finds_of (after (codes "func") (label_of ts).1) hs e) in
-        let (ps, rs, ds, k, g2) = lists_sound (λ ps rs vs. closing (definition (label_of ts).0 (function_type ps rs)) (skip_two_closes vs)) hs d r h in
-        let (same, shut) = closing_inv (definition (label_of ts).0 (function_type ps rs)) d (skip_two_closes ds) r g2 in record {
+        let (ps, rs, ds, k, g2) = lists_sound (λ ps bs rs vs. closing (definition (label_of ts).0 (function_type ps rs)) (skip_two_closes_or (after_results bs) vs)) hs d r h in
+        let (same, shut) = closing_inv (definition (label_of ts).0 (function_type ps rs)) d (skip_two_closes_or (after_results k.bs) ds) r g2 in record {
           v = b.spelled;
           hs = hs;
           bs = k.bs;
@@ -459,7 +459,7 @@ type_sound ts d r g = by (after (codes "func") (label_of ts).1) refl g
           opens = b.is;
           word = b.same;
           first = k.params;
-          last = subst (λ x. Many (Group (codes "result") false) k.bs rs x) (twice_closed_is ds r shut) k.results;
+          last = subst (λ x. Many (Group (codes "result") false) k.bs rs x) (twice_closed_or_is (after_results k.bs) ds r shut) k.results;
           is = same;
         }
 
@@ -467,7 +467,7 @@ pub type_complete : (ts : List Terminal) (v : List ℕ) (hs bs r : List Terminal
 unfolding type_at
 type_complete ts v hs bs r ps rs o e a b =
     ap (λ x. type_by (label_of ts).0 (after (codes "func") x) x) o ∙ ap (λ x. type_by (label_of ts).0 x (Open ∷ Word v ∷ hs)) (after_is (codes "func") v hs e)
-    ∙ lists_complete (λ ps rs vs. closing (definition (label_of ts).0 (function_type ps rs)) (skip_two_closes vs)) hs ps rs (Close ∷ Close ∷ r) (record { bs = bs; params = a; results = b }) (record { no_param = refl; no_result = refl })
+    ∙ lists_complete (λ ps bs rs vs. closing (definition (label_of ts).0 (function_type ps rs)) (skip_two_closes_or (after_results bs) vs)) hs ps rs (Close ∷ Close ∷ r) (record { bs = bs; params = a; results = b }) (record { no_param = refl; no_result = refl })
 
 type_field_sound : (types : Types) (context : Context) (w : List ℕ) (ts : List Terminal) (fs : List Field) (r : List Terminal) → w ≡ codes "type" → Gives (type_field ts) fs r → FieldIs types context (Open ∷ Word w ∷ ts) fs r
 type_field_sound types context w ts fs r e g =
@@ -574,15 +574,15 @@ import_complete types context w m n v ts s t r e a b k x =
     (
     ap (λ q. and_then q (λ names us. import_open types names us)) (import_names_complete m n (Open ∷ Word v ∷ ts) a b)
     ∙ ap (λ o. import_by types (m, n) o (Word v ∷ ts) ts) k
-    ∙ ap (λ q. and_then q (λ t us. closing (imported (label_of ts).0 [] (m, n) t ∷ []) (skip_two_closes us))) (extern_complete types s (label_of ts).1 t (Close ∷ Close ∷ r) (Close ∷ r) refl x)
+    ∙ ap (λ q. and_then q (λ t us. closing (imported (label_of ts).0 [] (m, n) t ∷ []) (skip_two_closes_or (after_extern t (label_of ts).1) us))) (extern_complete types s (label_of ts).1 t (Close ∷ Close ∷ r) (Close ∷ r) refl x)
     )
 
 inline_complete : (types : Types) (context : Context) (s : IndexSpace) (l : Label) (ns : List (List ℕ)) (v m n : List ℕ) (us : List Terminal) (t : ExternType) (r : List Terminal) → v ≡ codes "import" → is_utf8 m ≡ true → is_utf8 n ≡ true → ExternIs types s us t (Close ∷ r)
     → item_by types context s l ns (after (codes "import") (Open ∷ Word v ∷ Text m ∷ Text n ∷ Close ∷ us)) (Open ∷ Word v ∷ Text m ∷ Text n ∷ Close ∷ us) ≡ Ok (Import m n l ns t ∷ [], r)
 inline_complete types context s l ns v m n us t r e a b x =
     ap (λ o. item_by types context s l ns o (Open ∷ Word v ∷ Text m ∷ Text n ∷ Close ∷ us)) (after_is (codes "import") v (Text m ∷ Text n ∷ Close ∷ us) e)
-    ∙ ap (λ q. and_then q (λ names us. and_then (closing names (closed us)) (λ names vs. and_then (extern_at types s vs) (λ t xs. closing (imported l ns names t ∷ []) (closed xs))))) (import_names_complete m n (Close ∷ us) a b)
-    ∙ ap (λ q. and_then q (λ t xs. closing (imported l ns (m, n) t ∷ []) (closed xs))) (extern_complete types s us t (Close ∷ r) r refl x)
+    ∙ ap (λ q. and_then q (λ names us. and_then (closing names (closed us)) (λ names vs. and_then (extern_at types s vs) (λ t xs. closing (imported l ns names t ∷ []) (closed_or (after_extern t vs) xs))))) (import_names_complete m n (Close ∷ us) a b)
+    ∙ ap (λ q. and_then q (λ t xs. closing (imported l ns (m, n) t ∷ []) (closed_or (after_extern t us) xs))) (extern_complete types s us t (Close ∷ r) r refl x)
 
 field_complete : Laws → (types : Types) (context : Context) (ts : List Terminal) (fs : List Field) (r : List Terminal) → FieldIs types context ts fs r → Brings (field_item types context ts) fs r
 field_complete laws types context _ _ r (by_type {w = w} {v = v} {ts = ts} {hs = hs} {bs = bs} {params = ps} {results = rs} e o k a b) =
@@ -609,7 +609,7 @@ field_complete laws types context _ _ r (by_table {w = w} {v = v} {ts = ts} {hs 
     let k : IsTableType hs of (Close ∷ r) = record { v = v; limits = b; element = c } in
     brings_item types context space.Table w ts ns hs (Table l ns of None ∷ []) r (ap space_of e) a (limits_no_export hs limits (Word v ∷ Close ∷ r) b)
     (
-    ap (λ o. item_by types context space.Table l ns o hs) (limits_no_import hs limits (Word v ∷ Close ∷ r) b) ∙ limits_first context l ns hs limits (Word v ∷ Close ∷ r) b ∙ ap (λ q. and_then q (λ t us. closing (Table l ns t None ∷ []) (closed us))) (table_type_complete hs of (Close ∷ r) k)
+    ap (λ o. item_by types context space.Table l ns o hs) (limits_no_import hs limits (Word v ∷ Close ∷ r) b) ∙ limits_first context l ns hs limits (Word v ∷ Close ∷ r) b ∙ ap (λ q. and_then q (λ t us. closing (Table l ns t None ∷ []) (closed us))) (table_type_complete expected.TableDefinition hs of (Close ∷ r) k)
     )
 field_complete laws types context _ _ r (by_table_items {w = w} {u = u} {v = v} {ts = ts} {hs = hs} {names = ns} {t = t} {es = es} e a k b m low) =
     brings_item types context space.Table w ts ns (Word u ∷ Open ∷ Word v ∷ hs) _ r (ap space_of e) a (no_export (Word u ∷ Open ∷ Word v ∷ hs) refl) (table_word_complete context (label_of ts).0 ns u v hs t es r k b (either_items laws context hs es r m) low)
@@ -620,7 +620,7 @@ field_complete laws types context _ _ r (by_memory {w = w} {ts = ts} {hs = hs} {
     brings_item types context space.Mem w ts ns hs (Memory l ns limits None ∷ []) r (ap space_of e) a (limits_no_export hs limits (Close ∷ r) b)
     (
     ap (λ o. item_by types context space.Mem l ns o hs) (limits_no_import hs limits (Close ∷ r) b) ∙ ap (λ o. memory_by l ns o hs) (limits_no_data hs limits (Close ∷ r) b)
-    ∙ ap (λ q. and_then q (λ limits us. closing (Memory l ns limits None ∷ []) (closed us))) (limits_complete hs limits (Close ∷ r) b (λ n. refl))
+    ∙ ap (λ q. and_then q (λ limits us. closing (Memory l ns limits None ∷ []) (closed_or (after_memory_limits limits.max) us))) (limits_complete expected.MemoryDefinition hs limits (Close ∷ r) b (λ n. refl))
     )
 field_complete laws types context _ _ r (by_memory_data {w = w} {v = v} {ts = ts} {hs = hs} {names = ns} {bytes = bytes} e a k m low) =
     let l = (label_of ts).0 in
@@ -632,7 +632,7 @@ field_complete laws types context _ _ r (by_global {w = w} {ts = ts} {hs = hs} {
     let l = (label_of ts).0 in
     brings_item types context space.Global w ts ns hs (Global l ns t is ∷ []) r (ap space_of e) a (global_type_no_export hs t bs b)
     (
-    ap (λ o. item_by types context space.Global l ns o hs) (global_type_no_import hs t bs b) ∙ ap (λ q. and_then q (λ t us. and_then (machine.body context us) (λ is vs. Ok (Global l ns t is ∷ [], vs)))) (global_type_complete hs t bs b)
+    ap (λ o. item_by types context space.Global l ns o hs) (global_type_no_import hs t bs b) ∙ ap (λ q. and_then q (λ t us. and_then (machine.body context us) (λ is vs. Ok (Global l ns t is ∷ [], vs)))) (global_type_complete expected.GlobalDefinition hs t bs b)
     ∙ ap (λ q. and_then q (λ is vs. Ok (Global l ns t is ∷ [], vs))) ((laws.same context bs is r).1 k)
     )
 field_complete laws types context _ _ r (by_export {w = w} {n = n} {v = v} {ts = ts} {s = s} {i = i} e u k f) = external_complete types context w n v ts s i r e u k f

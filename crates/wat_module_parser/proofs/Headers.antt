@@ -81,11 +81,11 @@ pub record Listed (ps rs : List Variable) (ts ds : List Terminal) : Type 0 where
   pub params : Many (Group (codes "param") true) ts ps bs
   pub results : Many (Group (codes "result") false) bs rs ds
 
-pub lists_sound : {V : Type 0} (next : List Variable → List Variable → List Terminal → Read V) (ts : List Terminal) (v : V) (r : List Terminal) → Gives (and_then (params ts) (λ ps us. and_then (results us) (λ rs vs. next ps rs vs))) v r
-    → (ps : List Variable) × (rs : List Variable) × (ds : List Terminal) × Listed ps rs ts ds × Gives (next ps rs ds) v r
+pub lists_sound : {V : Type 0} (next : List Variable → List Terminal → List Variable → List Terminal → Read V) (ts : List Terminal) (v : V) (r : List Terminal) → Gives (and_then (params ts) (λ ps us. and_then (results us) (λ rs vs. next ps us rs vs))) v r
+    → (ps : List Variable) × (rs : List Variable) × (ds : List Terminal) × (k : Listed ps rs ts ds) × Gives (next ps k.bs rs ds) v r
 lists_sound {V} next ts v r g =
-    let (ps, bs, e1, g1) = and_then_inv (params ts) (λ ps us. and_then (results us) (λ rs vs. next ps rs vs)) v r g in
-    let (rs, ds, e2, g2) = and_then_inv (results bs) (λ rs vs. next ps rs vs) v r g1 in (
+    let (ps, bs, e1, g1) = and_then_inv (params ts) (λ ps us. and_then (results us) (λ rs vs. next ps us rs vs)) v r g in
+    let (rs, ds, e2, g2) = and_then_inv (results bs) (λ rs vs. next ps bs rs vs) v r g1 in (
       ps,
       rs,
       ds,
@@ -102,13 +102,13 @@ pub record NoLists (ds : List Terminal) : Type 0 where
   pub no_param : Ends (codes "param") ds
   pub no_result : Ends (codes "result") ds
 
-pub lists_complete : {V : Type 0} (next : List Variable → List Variable → List Terminal → Read V) (ts : List Terminal) (ps rs : List Variable) (ds : List Terminal) → Listed ps rs ts ds → NoLists ds → and_then (params ts) (λ ps us. and_then (results us) (λ rs vs. next ps rs vs)) ≡ next ps rs ds
+pub lists_complete : {V : Type 0} (next : List Variable → List Terminal → List Variable → List Terminal → Read V) (ts : List Terminal) (ps rs : List Variable) (ds : List Terminal) (k : Listed ps rs ts ds) → NoLists ds → and_then (params ts) (λ ps us. and_then (results us) (λ rs vs. next ps us rs vs)) ≡ next ps k.bs rs ds
 unfolding group_item
 lists_complete {V} next ts ps rs ds k n =
     let result_groups = all_complete (group_item (codes "result") false) (Group (codes "result") false) (groups_read (codes "result") false) rs k.bs ds k.results (item_ends (group false) (codes "result") ds n.no_result) in
     let no_param = ends_groups (codes "param") (codes "result") false refl k.bs rs ds k.results n.no_param in
     let param_groups = all_complete (group_item (codes "param") true) (Group (codes "param") true) (groups_read (codes "param") true) ps ts k.bs k.params (item_ends (group true) (codes "param") k.bs no_param) in
-    ap (λ q. and_then q (λ ps us. and_then (results us) (λ rs vs. next ps rs vs))) param_groups ∙ ap (λ q. and_then q (λ rs vs. next ps rs vs)) result_groups
+    ap (λ q. and_then q (λ ps us. and_then (results us) (λ rs vs. next ps us rs vs))) param_groups ∙ ap (λ q. and_then q (λ rs vs. next ps k.bs rs vs)) result_groups
 
 -- lists of other words
 pub ends_lists : (v : List ℕ) → bytes_eq (codes "param") v ≡ false → bytes_eq (codes "result") v ≡ false → (ps rs : List Variable) (ts ds : List Terminal) → Listed ps rs ts ds → Ends v ds → Ends v ts

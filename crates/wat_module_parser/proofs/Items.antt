@@ -3,6 +3,7 @@ use Rattle.std.proofs.Common.{◌≡◌, ◌<◌, ℕ, suc, Bool, true, false, L
 use Rattle.std.specs.Prelude.{if◌then◌else◌, bytes_eq, codes}
 use Rattle.std.specs.Str.{is_utf8}
 use Rattle.std.proofs.lemmas.Slice.Eq.{bytes_eq-Decides}
+use Rattle.wat_module_ast.specs.declared.error.Expected.{Expected}
 use Rattle.wat_module_ast.specs.declared.error.Expected.TheVariants as expected
 use Rattle.wat_module_ast.specs.declared.error.FaultKind.TheVariants.{Unexpected, NotUtf8}
 use Rattle.wat_module_ast.specs.declared.instruction.ValueType.{ValueType}
@@ -10,7 +11,7 @@ use Rattle.wat_module_ast.specs.Grammar.{Fault, value_type}
 use Rattle.wat_module_instructions.specs.Law.{past}
 use Rattle.wat_module_tokens.specs.Terminals.{Terminal, Open, Close, Word, Id, Integer, Text, Float, Other}
 use Rattle.wat_module_ast.specs.Fields.{Many, by_none, by_more, ValueTypeIs, by_word, Group, by_named, by_listed, InlineExport, by_inline_export, Variable, variable, unnamed}
-use Rattle.wat_module_parser.specs.Reading.{Read, and_then, all, closed, closing, after, after_word, begun, utf8_text, export, export_item, typed, value_item, listed, named_type, named_group, group, group_item}
+use Rattle.wat_module_parser.specs.Reading.{Read, and_then, all, closed, closing, after, after_word, begun, utf8_text, export, export_item, typed, value_item, listed, named_type, named_group, group, group_item, closed_or, after_values}
 use Rattle.wat_module_parser.proofs.Manies.{Gives, gives_of, and_then_inv, Brings, Reads, all_sound, all_complete, many_takes, many_past}
 
 -- the word that is compared
@@ -61,16 +62,19 @@ pub closing_inv : {V : Type 0} (v w : V) (q : Result (List Terminal) Fault) (r :
 closing_inv v w (Ok ts) r h = h
 closing_inv v w (Err f) r h = absurd h
 
+pub closed_or_is : (e : Expected) (ts r : List Terminal) → GivesAll (closed_or e ts) r → ts ≡ Close ∷ r
+closed_or_is e (Close ∷ ts) r h = ap (λ x. Close ∷ x) h
+closed_or_is e [] r h = absurd h
+closed_or_is e (Open ∷ ts) r h = absurd h
+closed_or_is e (Word w ∷ ts) r h = absurd h
+closed_or_is e (Id x ∷ ts) r h = absurd h
+closed_or_is e (Integer s n ∷ ts) r h = absurd h
+closed_or_is e (Text v ∷ ts) r h = absurd h
+closed_or_is e (Float narrow wide ∷ ts) r h = absurd h
+closed_or_is e (Other ∷ ts) r h = absurd h
+
 pub closed_is : (ts r : List Terminal) → GivesAll (closed ts) r → ts ≡ Close ∷ r
-closed_is (Close ∷ ts) r h = ap (λ x. Close ∷ x) h
-closed_is [] r h = absurd h
-closed_is (Open ∷ ts) r h = absurd h
-closed_is (Word w ∷ ts) r h = absurd h
-closed_is (Id x ∷ ts) r h = absurd h
-closed_is (Integer s n ∷ ts) r h = absurd h
-closed_is (Text v ∷ ts) r h = absurd h
-closed_is (Float narrow wide ∷ ts) r h = absurd h
-closed_is (Other ∷ ts) r h = absurd h
+closed_is ts r h = closed_or_is expected.Close ts r h
 
 -- `(` and a word
 
@@ -163,16 +167,16 @@ export_past d _ _ us (by_inline_export e g) = refl
 
 -- Groups of variables.
 
-listed_sound : (ts : List Terminal) (vs : List Variable) (us : List Terminal) → Gives (listed ts) vs us → (types : List ValueType) × (map unnamed types ≡ vs) × Many ValueTypeIs ts types (Close ∷ us)
+listed_sound : (may : Bool) (ts : List Terminal) (vs : List Variable) (us : List Terminal) → Gives (listed may ts) vs us → (types : List ValueType) × (map unnamed types ≡ vs) × Many ValueTypeIs ts types (Close ∷ us)
 unfolding listed
-listed_sound ts vs us h =
-    let (types, bs, read, end) = and_then_inv (all value_item ts) (λ types us. closing (map unnamed types) (closed us)) vs us h in
-    let (same, shut) = closing_inv (map unnamed types) vs (closed bs) us end in
-    (types, same, subst (λ x. Many ValueTypeIs ts types x) (closed_is bs us shut) (all_sound value_item ValueTypeIs values_read types ts bs read).0)
+listed_sound may ts vs us h =
+    let (types, bs, read, end) = and_then_inv (all value_item ts) (λ types us. closing (map unnamed types) (closed_or (after_values may ts) us)) vs us h in
+    let (same, shut) = closing_inv (map unnamed types) vs (closed_or (after_values may ts) bs) us end in
+    (types, same, subst (λ x. Many ValueTypeIs ts types x) (closed_or_is (after_values may ts) bs us shut) (all_sound value_item ValueTypeIs values_read types ts bs read).0)
 
-listed_complete : (ts : List Terminal) (types : List ValueType) (us : List Terminal) → Many ValueTypeIs ts types (Close ∷ us) → listed ts ≡ Ok (map unnamed types, us)
+listed_complete : (may : Bool) (ts : List Terminal) (types : List ValueType) (us : List Terminal) → Many ValueTypeIs ts types (Close ∷ us) → listed may ts ≡ Ok (map unnamed types, us)
 unfolding listed value_item
-listed_complete ts types us m = ap (λ q. and_then q (λ types us. closing (map unnamed types) (closed us))) (all_complete value_item ValueTypeIs values_read types ts (Close ∷ us) m refl)
+listed_complete may ts types us m = ap (λ q. and_then q (λ types us. closing (map unnamed types) (closed_or (after_values may ts) us))) (all_complete value_item ValueTypeIs values_read types ts (Close ∷ us) m refl)
 
 named_type_sound : (x w : List ℕ) (o : Option ValueType) (all ts : List Terminal) (vs : List Variable) (us : List Terminal) → value_type w ≡ o → Gives (named_type x o all ts) vs us → (t : ValueType) × (value_type w ≡ Some t) × (variable (Some x) t ∷ [] ≡ vs) × (ts ≡ Close ∷ us)
 named_type_sound x w (Some t) all ts vs us e h = let (same, shut) = closing_inv (variable (Some x) t ∷ []) vs (closed ts) us h in (t, e, same, closed_is ts us shut)
@@ -194,8 +198,8 @@ named_one_sound word may x (Text y ∷ ts) vs us m h v e = absurd h
 named_one_sound word may x (Float narrow wide ∷ ts) vs us m h v e = absurd h
 named_one_sound word may x (Other ∷ ts) vs us m h v e = absurd h
 
-group_listed : (word : List ℕ) (may : Bool) (ts : List Terminal) (vs : List Variable) (us : List Terminal) → Gives (listed ts) vs us → Spells word may ts vs us
-group_listed word may ts vs us h v e = let (types, same, m) = listed_sound ts vs us h in subst (λ x. Group word may (Open ∷ Word v ∷ ts) x us) same (by_listed e m)
+group_listed : (word : List ℕ) (may : Bool) (ts : List Terminal) (vs : List Variable) (us : List Terminal) → Gives (listed may ts) vs us → Spells word may ts vs us
+group_listed word may ts vs us h v e = let (types, same, m) = listed_sound may ts vs us h in subst (λ x. Group word may (Open ∷ Word v ∷ ts) x us) same (by_listed e m)
 
 group_id : (word : List ℕ) (may : Bool) (x : List ℕ) (ts : List Terminal) (vs : List Variable) (us : List Terminal) (b : Bool) → may ≡ b → Gives (if b then named_group x ts else Err (Unexpected expected.ValueTypeOrClose, Id x ∷ ts)) vs us → Spells word may (Id x ∷ ts) vs us
 group_id word may x ts vs us true m h = named_one_sound word may x ts vs us m h
@@ -221,7 +225,7 @@ group_item_sound word may ts vs us h =
     subst (λ x. Group word may x vs us) (sym b.is) (group_sound word may hs vs us given b.spelled b.same)
 
 -- value types do not begin with an identifier
-no_name : (may : Bool) (ts : List Terminal) (types : List ValueType) (us : List Terminal) → Many ValueTypeIs ts types (Close ∷ us) → group may ts ≡ listed ts
+no_name : (may : Bool) (ts : List Terminal) (types : List ValueType) (us : List Terminal) → Many ValueTypeIs ts types (Close ∷ us) → group may ts ≡ listed may ts
 unfolding group
 no_name may _ _ us by_none = refl
 no_name may _ _ us (by_more (by_word e) rest) = refl
@@ -231,7 +235,7 @@ unfolding group_item group
 group_complete word may _ _ us (by_named {v = v} {x = x} {w = w} {t = t} m e type) =
     begun_is (group may) word v (Id x ∷ Word w ∷ Close ∷ us) (variable (Some x) t ∷ []) us e
     (gives_of _ (variable (Some x) t ∷ []) us (ap (λ (b : Bool). if b then named_group x (Word w ∷ Close ∷ us) else Err (Unexpected expected.ValueTypeOrClose, Id x ∷ Word w ∷ Close ∷ us)) m ∙ ap (λ o. named_type x o (Word w ∷ Close ∷ us) (Close ∷ us)) type))
-group_complete word may _ _ us (by_listed {ts = ts} {v = v} {types = types} e m) = begun_is (group may) word v ts (map unnamed types) us e (gives_of _ (map unnamed types) us (no_name may ts types us m ∙ listed_complete ts types us m))
+group_complete word may _ _ us (by_listed {ts = ts} {v = v} {types = types} e m) = begun_is (group may) word v ts (map unnamed types) us e (gives_of _ (map unnamed types) us (no_name may ts types us m ∙ listed_complete may ts types us m))
 
 pub group_takes : (word : List ℕ) (may : Bool) (ts : List Terminal) (vs : List Variable) (us : List Terminal) → Group word may ts vs us → length us < length ts
 group_takes word may _ _ us (by_named m e type) = omega arith

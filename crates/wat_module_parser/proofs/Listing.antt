@@ -1,12 +1,12 @@
 -- A loop over value types that appends variables.
-use Rattle.std.proofs.Common.{◌≡◌, ◌∙◌, List, [], ◌∷◌, ◌++◌, map, Some, None, Ok, length, ◌<◌, refl, sym, ap, append_assoc, append-nil}
+use Rattle.std.proofs.Common.{◌≡◌, ◌∙◌, Bool, List, [], ◌∷◌, ◌++◌, map, Some, None, Ok, length, ◌<◌, refl, sym, ap, append_assoc, append-nil}
 use Rattle.std.proofs.lemmas.List.{map-append}
 use Rattle.wat_module_ast.specs.declared.error.ParseFailure.{ParseFailure}
 use Rattle.wat_module_ast.specs.declared.instruction.ValueType.{ValueType}
 use Rattle.wat_module_ast.specs.Fields.{Variable, ValueTypeIs, unnamed}
 use Rattle.wat_module_instructions.specs.Parts.{Faults}
 use Rattle.wat_module_parser.specs.Groups.{AreListed, IsListed}
-use Rattle.wat_module_parser.specs.Reading.{Read, all, and_then, closed, closing, listed, value_item}
+use Rattle.wat_module_parser.specs.Reading.{Read, all, and_then, closing, listed, value_item, closed_or, after_values}
 use Rattle.wat_module_parser.specs.Views.{IsItem, ItemFaults}
 use Rattle.wat_module_tokens.specs.Terminals.{Terminal}
 use Rattle.wat_module_parser.proofs.Items.{values_read}
@@ -45,10 +45,10 @@ pub listing_fault : (before now : List Variable) (ts left : List Terminal) (e : 
 listing_fault before now ts left e l h = faulted value_item [] l.types ts left e refl l.leads h
 
 -- Value types and the `)` of their group.
-pub listed_is : (before after : List Variable) (ts us left : List Terminal) → AreListed ts before after us → closed us ≡ Ok left → IsItem (Some (listed ts)) before after left
+pub listed_is : (may : Bool) (before after : List Variable) (ts us left : List Terminal) → AreListed ts before after us → closed_or (after_values may ts) us ≡ Ok left → IsItem (Some (listed may ts)) before after left
 unfolding listed
-listed_is before after ts us left l e = record {
+listed_is may before after ts us left l e = record {
   values = map unnamed l.types;
-  is = ap (λ q. Some (and_then q (λ types vs. closing (map unnamed types) (closed vs)))) l.is ∙ ap (λ q. Some (closing (map unnamed l.types) q)) e;
+  is = ap (λ q. Some (and_then q (λ types vs. closing (map unnamed types) (closed_or (after_values may ts) vs)))) l.is ∙ ap (λ q. Some (closing (map unnamed l.types) q)) e;
   follow = l.follow;
 }

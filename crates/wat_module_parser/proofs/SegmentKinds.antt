@@ -15,11 +15,11 @@ use Rattle.wat_module_ast.specs.Table.{mnemonics, low, high, prefixed, low_vecto
 use Rattle.wat_module_tokens.specs.Terminals.{Terminal, Open, Close, Word, Id, Integer, Text, Float, Other, Label}
 use Rattle.wat_module_ast.specs.Fields.{Many, by_none, by_more, IndexIs, StringIs, by_string, UseIs, by_use, by_no_use, ExpressionIs, by_word_expression, by_instruction, Target, target, Field, Memory, Data, FieldIs, by_passive_data, by_active_data, is_u32, pages_of}
 use Rattle.wat_module_ast.specs.Types.{Types}
-use Rattle.wat_module_parser.specs.Reading.{and_then, after, all, closed, closing, limits, skip_two_closes, string_item, memory_of, memory_data, used_by, used_at, one_at, expression_by, expression_at, data_strings, active_data, data_after, data_at}
+use Rattle.wat_module_parser.specs.Reading.{and_then, after, all, closed, closing, limits, string_item, memory_of, memory_data, used_by, used_at, one_at, expression_by, expression_at, data_strings, active_data, data_after, data_at, closed_or, skip_two_closes_or, after_strings}
 use Rattle.wat_module_parser.proofs.Headers.{Ends, IsNoInstruction, not_found, other_word}
-use Rattle.wat_module_parser.proofs.Items.{word_is, closing_inv, closed_is, Finds, begins, after_is}
+use Rattle.wat_module_parser.proofs.Items.{word_is, closing_inv, closed_is, Finds, begins, after_is, closed_or_is}
 use Rattle.wat_module_parser.proofs.Manies.{Gives, gives_of, of_gives, and_then_inv, Brings, Reads, all_sound, all_complete, many_takes, many_past}
-use Rattle.wat_module_parser.proofs.TypeRules.{index_sound, index_complete, index_pass, twice_closed_is}
+use Rattle.wat_module_parser.proofs.TypeRules.{index_sound, index_complete, index_pass, twice_closed_or_is}
 
 -- what holds of instructions
 pub record Laws : Type 0 where
@@ -182,12 +182,12 @@ used_opens word names _ _ us by_no_use k = k
 
 data_strings_sound : (l : Label) (t : Option Target) (ts : List Terminal) (fs : List Field) (r : List Terminal) → Gives (data_strings l t ts) fs r → (bytes : List ℕ) × Many StringIs ts bytes (Close ∷ r) × (Data l t bytes ∷ [] ≡ fs)
 data_strings_sound l t ts fs r g =
-    let (bytes, bs, e1, g1) = and_then_inv (all string_item ts) (λ bytes us. closing (Data l t bytes ∷ []) (closed us)) fs r g in
-    let (same, shut) = closing_inv (Data l t bytes ∷ []) fs (closed bs) r g1 in (bytes, subst (λ x. Many StringIs ts bytes x) (closed_is bs r shut) (all_sound string_item StringIs strings_read bytes ts bs e1).0, same)
+    let (bytes, bs, e1, g1) = and_then_inv (all string_item ts) (λ bytes us. closing (Data l t bytes ∷ []) (closed_or (after_strings t ts) us)) fs r g in
+    let (same, shut) = closing_inv (Data l t bytes ∷ []) fs (closed_or (after_strings t ts) bs) r g1 in (bytes, subst (λ x. Many StringIs ts bytes x) (closed_or_is (after_strings t ts) bs r shut) (all_sound string_item StringIs strings_read bytes ts bs e1).0, same)
 
 data_strings_complete : (l : Label) (t : Option Target) (ts : List Terminal) (bytes : List ℕ) (r : List Terminal) → Many StringIs ts bytes (Close ∷ r) → data_strings l t ts ≡ Ok (Data l t bytes ∷ [], r)
 unfolding string_item
-data_strings_complete l t ts bytes r m = ap (λ q. and_then q (λ bytes us. closing (Data l t bytes ∷ []) (closed us))) (all_complete string_item StringIs strings_read bytes ts (Close ∷ r) m refl)
+data_strings_complete l t ts bytes r m = ap (λ q. and_then q (λ bytes us. closing (Data l t bytes ∷ []) (closed_or (after_strings t ts) us))) (all_complete string_item StringIs strings_read bytes ts (Close ∷ r) m refl)
 
 passive_sound : (types : Types) (context : Context) (w : List ℕ) (ts hs : List Terminal) (fs : List Field) (r : List Terminal) → w ≡ codes "data" → hs ≡ (label_of ts).1 → Gives (data_strings (label_of ts).0 None hs) fs r → FieldIs types context (Open ∷ Word w ∷ ts) fs r
 passive_sound types context w ts hs fs r e k g =
@@ -254,13 +254,13 @@ pub record IsMemoryData (l : Label) (ns : List (List ℕ)) (xs : List Terminal) 
 
 pub memory_data_sound : (l : Label) (ns : List (List ℕ)) (xs : List Terminal) (fs : List Field) (r : List Terminal) → Gives (memory_data l ns xs) fs r → IsMemoryData l ns xs fs r
 memory_data_sound l ns xs fs r g =
-    let (first, us, e1, g1) = and_then_inv (all string_item xs) (λ bytes us. and_then (closing bytes (skip_two_closes us)) (λ bytes vs. memory_of l ns xs bytes vs)) fs r g in
-    let (bytes, vs, e2, g2) = and_then_inv (closing first (skip_two_closes us)) (λ bytes vs. memory_of l ns xs bytes vs) fs r g1 in
-    let (same, shut) = closing_inv first bytes (skip_two_closes us) vs (gives_of _ bytes vs e2) in
+    let (first, us, e1, g1) = and_then_inv (all string_item xs) (λ bytes us. and_then (closing bytes (skip_two_closes_or expected.TextOrClose us)) (λ bytes vs. memory_of l ns xs bytes vs)) fs r g in
+    let (bytes, vs, e2, g2) = and_then_inv (closing first (skip_two_closes_or expected.TextOrClose us)) (λ bytes vs. memory_of l ns xs bytes vs) fs r g1 in
+    let (same, shut) = closing_inv first bytes (skip_two_closes_or expected.TextOrClose us) vs (gives_of _ bytes vs e2) in
     let (low, is, end) = memory_of_sound l ns xs bytes vs fs r (is_u32 (pages_of bytes)) refl g2 in
     let m = (all_sound string_item StringIs strings_read first xs us e1).0 in record {
       bytes = bytes;
-      strings = subst (λ x. Many StringIs xs x (Close ∷ Close ∷ r)) same (subst (λ x. Many StringIs xs first (Close ∷ Close ∷ x)) end (subst (λ x. Many StringIs xs first x) (twice_closed_is us vs shut) m));
+      strings = subst (λ x. Many StringIs xs x (Close ∷ Close ∷ r)) same (subst (λ x. Many StringIs xs first (Close ∷ Close ∷ x)) end (subst (λ x. Many StringIs xs first x) (twice_closed_or_is expected.TextOrClose us vs shut) m));
       low = low;
       is = is;
     }
@@ -268,5 +268,5 @@ memory_data_sound l ns xs fs r g =
 pub memory_data_complete : (l : Label) (ns : List (List ℕ)) (ts : List Terminal) (bytes : List ℕ) (r : List Terminal) → Many StringIs ts bytes (Close ∷ Close ∷ r) → is_u32 (pages_of bytes) ≡ true → memory_data l ns ts ≡ Ok (Memory l ns (limits (pages_of bytes) (Some (pages_of bytes))) (Some bytes) ∷ [], r)
 unfolding string_item
 memory_data_complete l ns ts bytes r m low =
-    ap (λ q. and_then q (λ bytes us. and_then (closing bytes (skip_two_closes us)) (λ bytes vs. memory_of l ns ts bytes vs))) (all_complete string_item StringIs strings_read bytes ts (Close ∷ Close ∷ r) m refl)
+    ap (λ q. and_then q (λ bytes us. and_then (closing bytes (skip_two_closes_or expected.TextOrClose us)) (λ bytes vs. memory_of l ns ts bytes vs))) (all_complete string_item StringIs strings_read bytes ts (Close ∷ Close ∷ r) m refl)
     ∙ ap (λ (b : Bool). if b then Ok (Memory l ns (limits (pages_of bytes) (Some (pages_of bytes))) (Some bytes) ∷ [], r) else Err (OutOfRange (range.Unsigned (2 ^ 31)), ts)) low

@@ -1,6 +1,7 @@
 -- Parser and grammar agree on limits, types and indices; and the number of tokens that these have.
 use Rattle.std.proofs.Common.{◌≡◌, ◌<◌, ℕ, Bool, true, false, List, [], ◌∷◌, length, Option, Some, None, Ok, Err, refl, sym, ap, subst, ◌∙◌, arith}
 use Rattle.std.specs.Prelude.{◌^◌, if◌then◌else◌, bytes_eq, codes}
+use Rattle.wat_module_ast.specs.declared.error.Expected.{Expected}
 use Rattle.wat_module_ast.specs.declared.error.Expected.TheVariants as expected
 use Rattle.wat_module_ast.specs.declared.error.Range.TheVariants as range
 use Rattle.wat_module_ast.specs.declared.error.Space.{Space}
@@ -16,7 +17,7 @@ use Rattle.wat_module_ast.specs.declared.fields.Limits.{Limits}
 use Rattle.wat_module_ast.specs.declared.instruction.ReferenceType.{ReferenceType}
 use Rattle.wat_module_ast.specs.declared.fields.TableType.{TableType}
 use Rattle.wat_module_ast.specs.Fields.{IndexIs, by_number, by_identifier, LimitsAre, by_min, by_min_max, GlobalTypeIs, by_constant, by_mutable, is_u32}
-use Rattle.wat_module_parser.specs.Reading.{and_then, closed, limits, max_at, limits_at, reference_by, reference_at, table_type, table_type_at, global_type, constant_by, mutable_by, mutable_type, mutable_at, global_type_at, skip_two_closes, after, export_item}
+use Rattle.wat_module_parser.specs.Reading.{and_then, closed, limits, max_at, limits_at, reference_by, reference_at, table_type, table_type_at, global_type, constant_by, mutable_by, mutable_type, mutable_at, global_type_at, skip_two_closes, after, export_item, after_table_limits, skip_two_closes_or}
 use Rattle.wat_module_parser.proofs.Items.{GivesAll, closing_inv, closed_is, word_is, is_word}
 use Rattle.wat_module_parser.proofs.Manies.{Gives, gives_of, and_then_inv}
 
@@ -53,29 +54,29 @@ max_sound n (Text v ∷ ts) l us e h = subst (λ x. LimitsAre (Integer sign.Abse
 max_sound n (Float narrow wide ∷ ts) l us e h = subst (λ x. LimitsAre (Integer sign.Absent n ∷ Float narrow wide ∷ ts) x us) h.0 (subst (λ x. LimitsAre (Integer sign.Absent n ∷ Float narrow wide ∷ ts) (limits n None) x) h.1 (by_min e))
 max_sound n (Other ∷ ts) l us e h = subst (λ x. LimitsAre (Integer sign.Absent n ∷ Other ∷ ts) x us) h.0 (subst (λ x. LimitsAre (Integer sign.Absent n ∷ Other ∷ ts) (limits n None) x) h.1 (by_min e))
 
-pub limits_sound : (ts : List Terminal) (l : Limits) (us : List Terminal) → limits_at ts ≡ Ok (l, us) → LimitsAre ts l us
+pub limits_sound : (x : Expected) (ts : List Terminal) (l : Limits) (us : List Terminal) → limits_at x ts ≡ Ok (l, us) → LimitsAre ts l us
 unfolding limits_at
-limits_sound (Integer s n ∷ ts) l us e =
+limits_sound y (Integer s n ∷ ts) l us e =
     let (k, vs, read, end) = and_then_inv (small s n (Integer s n ∷ ts) ts) (λ n us. max_at n us) l us (gives_of _ l us e) in
     let (absent, low, same, rest) = small_inv s n k (Integer s n ∷ ts) ts vs (gives_of _ k vs read) in
     subst (λ x. LimitsAre (Integer x n ∷ ts) l us) (sym absent) (max_sound n ts l us low (subst (λ x. Gives (max_at n x) l us) (sym rest) (subst (λ x. Gives (max_at x vs) l us) (sym same) end)))
-limits_sound [] l us e = cc
-limits_sound (Open ∷ ts) l us e = cc
-limits_sound (Close ∷ ts) l us e = cc
-limits_sound (Word w ∷ ts) l us e = cc
-limits_sound (Id x ∷ ts) l us e = cc
-limits_sound (Text v ∷ ts) l us e = cc
-limits_sound (Float narrow wide ∷ ts) l us e = cc
-limits_sound (Other ∷ ts) l us e = cc
+limits_sound y [] l us e = cc
+limits_sound y (Open ∷ ts) l us e = cc
+limits_sound y (Close ∷ ts) l us e = cc
+limits_sound y (Word w ∷ ts) l us e = cc
+limits_sound y (Id x ∷ ts) l us e = cc
+limits_sound y (Text v ∷ ts) l us e = cc
+limits_sound y (Float narrow wide ∷ ts) l us e = cc
+limits_sound y (Other ∷ ts) l us e = cc
 
 -- no number comes next
 abbrev pub NoNumber : List Terminal → Type 0
 NoNumber us = (n : ℕ) → max_at n us ≡ Ok (limits n None, us)
 
-pub limits_complete : (ts : List Terminal) (l : Limits) (us : List Terminal) → LimitsAre ts l us → NoNumber us → limits_at ts ≡ Ok (l, us)
+pub limits_complete : (x : Expected) (ts : List Terminal) (l : Limits) (us : List Terminal) → LimitsAre ts l us → NoNumber us → limits_at x ts ≡ Ok (l, us)
 unfolding limits_at
-limits_complete _ _ us (by_min {n = n} e) k = ap (λ q. and_then q (λ n us. max_at n us)) (small_is n (Integer sign.Absent n ∷ us) us e) ∙ k n
-limits_complete _ _ us (by_min_max {n = n} {m = m} e f) k =
+limits_complete x _ _ us (by_min {n = n} e) k = ap (λ q. and_then q (λ n us. max_at n us)) (small_is n (Integer sign.Absent n ∷ us) us e) ∙ k n
+limits_complete x _ _ us (by_min_max {n = n} {m = m} e f) k =
     ap (λ q. and_then q (λ n us. max_at n us)) (small_is n (Integer sign.Absent n ∷ Integer sign.Absent m ∷ us) (Integer sign.Absent m ∷ us) e)
     ∙ ap (λ q. and_then q (λ m us. Ok (limits n (Some m), us))) (small_is m (Integer sign.Absent m ∷ us) us f)
 
@@ -103,25 +104,25 @@ limits_no_export _ _ us (by_min_max e f) = refl
 
 -- Reference types.
 
-pub reference_sound : (ts : List Terminal) (t : ReferenceType) (us : List Terminal) → Gives (reference_at ts) t us → (v : List ℕ) × (ts ≡ Word v ∷ us) × (reference_type v ≡ Some t)
+pub reference_sound : (x : Expected) (ts : List Terminal) (t : ReferenceType) (us : List Terminal) → Gives (reference_at x ts) t us → (v : List ℕ) × (ts ≡ Word v ∷ us) × (reference_type v ≡ Some t)
 unfolding reference_at
-reference_sound (Word w ∷ ts) t us h = by (reference_type w) refl h
+reference_sound y (Word w ∷ ts) t us h = by (reference_type w) refl h
   where
-    by : (o : Option ReferenceType) → reference_type w ≡ o → Gives (reference_by o (Word w ∷ ts) ts) t us → (v : List ℕ) × (Word w ∷ ts ≡ Word v ∷ us) × (reference_type v ≡ Some t)
+    by : (o : Option ReferenceType) → reference_type w ≡ o → Gives (reference_by y o (Word w ∷ ts) ts) t us → (v : List ℕ) × (Word w ∷ ts ≡ Word v ∷ us) × (reference_type v ≡ Some t)
     by (Some u) e g = (w, ap (λ x. Word w ∷ x) g.1, e ∙ ap (λ x. Some x) g.0)
     by None e g = absurd g
-reference_sound [] t us h = absurd h
-reference_sound (Open ∷ ts) t us h = absurd h
-reference_sound (Close ∷ ts) t us h = absurd h
-reference_sound (Id x ∷ ts) t us h = absurd h
-reference_sound (Integer s n ∷ ts) t us h = absurd h
-reference_sound (Text v ∷ ts) t us h = absurd h
-reference_sound (Float narrow wide ∷ ts) t us h = absurd h
-reference_sound (Other ∷ ts) t us h = absurd h
+reference_sound y [] t us h = absurd h
+reference_sound y (Open ∷ ts) t us h = absurd h
+reference_sound y (Close ∷ ts) t us h = absurd h
+reference_sound y (Id x ∷ ts) t us h = absurd h
+reference_sound y (Integer s n ∷ ts) t us h = absurd h
+reference_sound y (Text v ∷ ts) t us h = absurd h
+reference_sound y (Float narrow wide ∷ ts) t us h = absurd h
+reference_sound y (Other ∷ ts) t us h = absurd h
 
-reference_complete : (v : List ℕ) (t : ReferenceType) (us : List Terminal) → reference_type v ≡ Some t → reference_at (Word v ∷ us) ≡ Ok (t, us)
+reference_complete : (x : Expected) (v : List ℕ) (t : ReferenceType) (us : List Terminal) → reference_type v ≡ Some t → reference_at x (Word v ∷ us) ≡ Ok (t, us)
 unfolding reference_at
-reference_complete v t us e = ap (λ o. reference_by o (Word v ∷ us) us) e
+reference_complete x v t us e = ap (λ o. reference_by x o (Word v ∷ us) us) e
 
 -- Types of tables.
 
@@ -130,28 +131,28 @@ pub record IsTableType (ts : List Terminal) (t : TableType) (us : List Terminal)
   pub limits : LimitsAre ts t.limits (Word v ∷ us)
   pub element : reference_type v ≡ Some t.element
 
-pub table_type_sound : (ts : List Terminal) (t : TableType) (us : List Terminal) → Gives (table_type_at ts) t us → IsTableType ts t us
+pub table_type_sound : (y : Expected) (ts : List Terminal) (t : TableType) (us : List Terminal) → Gives (table_type_at y ts) t us → IsTableType ts t us
 unfolding table_type_at
-table_type_sound ts t us g =
-    let (l, hs, e1, g1) = and_then_inv (limits_at ts) (λ limits us. and_then (reference_at us) (λ t vs. Ok (table_type limits t, vs))) t us g in
-    let (r, xs, e2, g2) = and_then_inv (reference_at hs) (λ t vs. Ok (table_type l t, vs)) t us g1 in
-    let (v, is, type) = reference_sound hs r xs (gives_of _ r xs e2) in
-    subst (λ x. IsTableType ts x us) g2.0 (subst (λ x. IsTableType ts (table_type l r) x) g2.1 (record { v = v; limits = subst (λ x. LimitsAre ts l x) is (limits_sound ts l hs e1); element = type }))
+table_type_sound y ts t us g =
+    let (l, hs, e1, g1) = and_then_inv (limits_at y ts) (λ limits us. and_then (reference_at (after_table_limits limits.max) us) (λ t vs. Ok (table_type limits t, vs))) t us g in
+    let (r, xs, e2, g2) = and_then_inv (reference_at (after_table_limits l.max) hs) (λ t vs. Ok (table_type l t, vs)) t us g1 in
+    let (v, is, type) = reference_sound (after_table_limits l.max) hs r xs (gives_of _ r xs e2) in
+    subst (λ x. IsTableType ts x us) g2.0 (subst (λ x. IsTableType ts (table_type l r) x) g2.1 (record { v = v; limits = subst (λ x. LimitsAre ts l x) is (limits_sound y ts l hs e1); element = type }))
 
-pub table_type_complete : (ts : List Terminal) (t : TableType) (us : List Terminal) → IsTableType ts t us → table_type_at ts ≡ Ok (t, us)
+pub table_type_complete : (x : Expected) (ts : List Terminal) (t : TableType) (us : List Terminal) → IsTableType ts t us → table_type_at x ts ≡ Ok (t, us)
 unfolding table_type_at
-table_type_complete ts t us k =
-    ap (λ q. and_then q (λ limits us. and_then (reference_at us) (λ t vs. Ok (table_type limits t, vs)))) (limits_complete ts t.limits (Word k.v ∷ us) k.limits (λ n. refl))
-    ∙ ap (λ q. and_then q (λ e vs. Ok (table_type t.limits e, vs))) (reference_complete k.v t.element us k.element)
+table_type_complete x ts t us k =
+    ap (λ q. and_then q (λ limits us. and_then (reference_at (after_table_limits limits.max) us) (λ t vs. Ok (table_type limits t, vs)))) (limits_complete x ts t.limits (Word k.v ∷ us) k.limits (λ n. refl))
+    ∙ ap (λ q. and_then q (λ e vs. Ok (table_type t.limits e, vs))) (reference_complete (after_table_limits t.limits.max) k.v t.element us k.element)
 
 pub table_type_pass : (ts : List Terminal) (t : TableType) (us : List Terminal) → IsTableType ts t us → Passes ts us
 table_type_pass ts t us k = let p = limits_pass ts t.limits (Word k.v ∷ us) k.limits in let s = p.short in record { short = omega arith; same = λ d. p.same d }
 
 -- Types of globals.
 
-constant_sound : (w : List ℕ) (ts : List Terminal) (g : GlobalType) (us : List Terminal) (o : Option ValueType) → value_type w ≡ o → Gives (constant_by o (Word w ∷ ts) ts) g us → GlobalTypeIs (Word w ∷ ts) g us
-constant_sound w ts g us (Some t) e h = subst (λ x. GlobalTypeIs (Word w ∷ ts) x us) h.0 (subst (λ x. GlobalTypeIs (Word w ∷ ts) (global_type false t) x) h.1 (by_constant e))
-constant_sound w ts g us None e h = absurd h
+constant_sound : (y : Expected) (w : List ℕ) (ts : List Terminal) (g : GlobalType) (us : List Terminal) (o : Option ValueType) → value_type w ≡ o → Gives (constant_by y o (Word w ∷ ts) ts) g us → GlobalTypeIs (Word w ∷ ts) g us
+constant_sound y w ts g us (Some t) e h = subst (λ x. GlobalTypeIs (Word w ∷ ts) x us) h.0 (subst (λ x. GlobalTypeIs (Word w ∷ ts) (global_type false t) x) h.1 (by_constant e))
+constant_sound y w ts g us None e h = absurd h
 
 mutable_by_sound : (v w : List ℕ) (ts : List Terminal) (g : GlobalType) (us : List Terminal) (o : Option ValueType) → v ≡ codes "mut" → value_type w ≡ o → Gives (mutable_by o (Word w ∷ ts) ts) g us → GlobalTypeIs (Open ∷ Word v ∷ Word w ∷ ts) g us
 mutable_by_sound v w ts g us (Some t) m e h =
@@ -185,22 +186,22 @@ mutable_sound (Text v ∷ ts) g us h = absurd h
 mutable_sound (Float narrow wide ∷ ts) g us h = absurd h
 mutable_sound (Other ∷ ts) g us h = absurd h
 
-pub global_type_sound : (ts : List Terminal) (g : GlobalType) (us : List Terminal) → Gives (global_type_at ts) g us → GlobalTypeIs ts g us
+pub global_type_sound : (y : Expected) (ts : List Terminal) (g : GlobalType) (us : List Terminal) → Gives (global_type_at y ts) g us → GlobalTypeIs ts g us
 unfolding global_type_at
-global_type_sound (Word w ∷ ts) g us h = constant_sound w ts g us (value_type w) refl h
-global_type_sound (Open ∷ ts) g us h = mutable_sound ts g us h
-global_type_sound [] g us h = absurd h
-global_type_sound (Close ∷ ts) g us h = absurd h
-global_type_sound (Id x ∷ ts) g us h = absurd h
-global_type_sound (Integer s n ∷ ts) g us h = absurd h
-global_type_sound (Text v ∷ ts) g us h = absurd h
-global_type_sound (Float narrow wide ∷ ts) g us h = absurd h
-global_type_sound (Other ∷ ts) g us h = absurd h
+global_type_sound y (Word w ∷ ts) g us h = constant_sound y w ts g us (value_type w) refl h
+global_type_sound y (Open ∷ ts) g us h = mutable_sound ts g us h
+global_type_sound y [] g us h = absurd h
+global_type_sound y (Close ∷ ts) g us h = absurd h
+global_type_sound y (Id x ∷ ts) g us h = absurd h
+global_type_sound y (Integer s n ∷ ts) g us h = absurd h
+global_type_sound y (Text v ∷ ts) g us h = absurd h
+global_type_sound y (Float narrow wide ∷ ts) g us h = absurd h
+global_type_sound y (Other ∷ ts) g us h = absurd h
 
-pub global_type_complete : (ts : List Terminal) (g : GlobalType) (us : List Terminal) → GlobalTypeIs ts g us → global_type_at ts ≡ Ok (g, us)
+pub global_type_complete : (y : Expected) (ts : List Terminal) (g : GlobalType) (us : List Terminal) → GlobalTypeIs ts g us → global_type_at y ts ≡ Ok (g, us)
 unfolding global_type_at
-global_type_complete _ _ us (by_constant {w = w} e) = ap (λ o. constant_by o (Word w ∷ us) us) e
-global_type_complete _ _ us (by_mutable {v = v} {w = w} m e) =
+global_type_complete y _ _ us (by_constant {w = w} e) = ap (λ o. constant_by y o (Word w ∷ us) us) e
+global_type_complete y _ _ us (by_mutable {v = v} {w = w} m e) =
     ap (λ (b : Bool). if b then mutable_type (Word w ∷ Close ∷ us) else Err (Unexpected expected.Mut, Word v ∷ Word w ∷ Close ∷ us)) (is_word v (codes "mut") m) ∙ ap (λ o. mutable_by o (Word w ∷ Close ∷ us) (Close ∷ us)) e
 
 pub global_type_pass : (ts : List Terminal) (g : GlobalType) (us : List Terminal) → GlobalTypeIs ts g us → Passes ts us
@@ -246,13 +247,16 @@ index_pass ls _ i us (by_identifier e) = record { short = omega arith; same = λ
 
 -- `)` and `)`.
 
+pub twice_closed_or_is : (e : Expected) (ts r : List Terminal) → GivesAll (skip_two_closes_or e ts) r → ts ≡ Close ∷ Close ∷ r
+twice_closed_or_is e (Close ∷ ts) r h = ap (λ x. Close ∷ x) (closed_is ts r h)
+twice_closed_or_is e [] r h = absurd h
+twice_closed_or_is e (Open ∷ ts) r h = absurd h
+twice_closed_or_is e (Word w ∷ ts) r h = absurd h
+twice_closed_or_is e (Id x ∷ ts) r h = absurd h
+twice_closed_or_is e (Integer s n ∷ ts) r h = absurd h
+twice_closed_or_is e (Text v ∷ ts) r h = absurd h
+twice_closed_or_is e (Float narrow wide ∷ ts) r h = absurd h
+twice_closed_or_is e (Other ∷ ts) r h = absurd h
+
 pub twice_closed_is : (ts r : List Terminal) → GivesAll (skip_two_closes ts) r → ts ≡ Close ∷ Close ∷ r
-twice_closed_is (Close ∷ ts) r h = ap (λ x. Close ∷ x) (closed_is ts r h)
-twice_closed_is [] r h = absurd h
-twice_closed_is (Open ∷ ts) r h = absurd h
-twice_closed_is (Word w ∷ ts) r h = absurd h
-twice_closed_is (Id x ∷ ts) r h = absurd h
-twice_closed_is (Integer s n ∷ ts) r h = absurd h
-twice_closed_is (Text v ∷ ts) r h = absurd h
-twice_closed_is (Float narrow wide ∷ ts) r h = absurd h
-twice_closed_is (Other ∷ ts) r h = absurd h
+twice_closed_is ts r h = twice_closed_or_is expected.Close ts r h

@@ -1,7 +1,7 @@
 -- How the code parses the fields of a module. A theorem (`ReadingIsGrammar` in `Law`) states that the parsed fields are
 -- those of the grammar, so nothing here has to be trusted for them. The standard does not define which error a text
 -- has; that is defined here. Section numbers are those of WebAssembly 2.0.
-use Rattle.std.specs.Prelude.{ℕ, zero, suc, Bool, true, false, ◌^◌, List, [], ◌∷◌, ◌++◌, length, map, codes, bytes_eq, nat_lt, slice_get, Option, Some, None, Result, Ok, Err, if◌then◌else◌}
+use Rattle.std.specs.Prelude.{ℕ, zero, suc, Bool, true, false, ◌^◌, List, [], ◌∷◌, ◌++◌, length, map, codes, bytes_eq, nat_lt, slice_get, is_some, ◌||◌, Option, Some, None, Result, Ok, Err, if◌then◌else◌}
 use Rattle.std.specs.List.{flat_map}
 use Rattle.std.specs.Str.{is_utf8}
 use Rattle.wat_module_ast.specs.declared.instruction.Instruction.{Instruction}
@@ -15,7 +15,7 @@ use Rattle.wat_module_ast.specs.declared.instruction.ReferenceType.{ReferenceTyp
 use Rattle.wat_module_ast.specs.declared.instruction.ReferenceType.TheVariants as reference
 use Rattle.wat_module_ast.specs.declared.instruction.ValueType.{ValueType}
 pub use Rattle.wat_module_ast.specs.Grammar.{after, after_word}
-use Rattle.wat_module_ast.specs.Grammar.{Context, Fault, index, label_of, reference_type, small, value_type}
+use Rattle.wat_module_ast.specs.Grammar.{Context, Fault, index, is_index, label_of, reference_type, small, value_type}
 use Rattle.wat_module_instructions.specs.Machine.{body, folded}
 use Rattle.wat_module_ast.specs.Types.{FunctionType, Types, same_type}
 use Rattle.wat_module_tokens.specs.Terminals.{Terminal, Open, Close, Word, Id, Integer, Text, Label}
@@ -59,10 +59,27 @@ many item (suc n) vs ts = many_by (many item n) vs ts (item ts)
 unfoldable pub all : {V : Type 0} → (List Terminal → Item V) → List Terminal → Read (List V)
 all item ts = many item (suc (length ts)) [] ts
 
--- The tokens after a `)`, which must be next.
+-- The tokens after a `)`, which must be next; otherwise an error, with what the grammar accepts there.
+abbrev pub closed_or : Expected → List Terminal → Result (List Terminal) Fault
+closed_or e (Close ∷ ts) = Ok ts
+closed_or e ts = Err (Unexpected e, ts)
+
+-- The tokens after a `)`, which must be next, and which alone the grammar accepts there.
 abbrev pub closed : List Terminal → Result (List Terminal) Fault
-closed (Close ∷ ts) = Ok ts
-closed ts = Err (Unexpected expected.Close, ts)
+closed ts = closed_or expected.Close ts
+
+-- The tokens after a second `)`, which must be next, by the result of the first.
+abbrev pub closed_again : Result (List Terminal) Fault → Result (List Terminal) Fault
+closed_again (Ok ts) = closed ts
+closed_again (Err f) = Err f
+
+-- The tokens after two `)`, which must be next; before the first, the grammar also accepts what `e` says.
+abbrev pub skip_two_closes_or : Expected → List Terminal → Result (List Terminal) Fault
+skip_two_closes_or e ts = closed_again (closed_or e ts)
+
+-- The tokens after two `)`, which must be next, and which alone the grammar accepts there.
+abbrev pub skip_two_closes : List Terminal → Result (List Terminal) Fault
+skip_two_closes ts = skip_two_closes_or expected.Close ts
 
 -- The value `v`, by the result of the `)` after it.
 abbrev pub closing : {V : Type 0} → V → Result (List Terminal) Fault → Read V
@@ -89,7 +106,7 @@ export_item ts = begun export (after (codes "export") ts)
 
 -- The value type of a keyword, or an error at the tokens `all`, which begin with the keyword.
 abbrev pub typed : Option ValueType → List Terminal → List Terminal → Read (List ValueType)
-typed None all ts = Err (UnknownWord expected.ValueType, all)
+typed None all ts = Err (UnknownWord expected.ValueTypeOrClose, all)
 typed (Some t) all ts = Ok (t ∷ [], ts)
 
 -- 6.4.4, `valtype`, if a keyword is next.
@@ -97,9 +114,16 @@ unfoldable pub value_item : List Terminal → Item ValueType
 value_item (Word w ∷ ts) = Some (typed (value_type w) (Word w ∷ ts) ts)
 value_item ts = None
 
+-- 6.4.5, 6.6.5: what the grammar accepts after the value types of a group, which begin at these tokens: another one, or
+-- `)`. Before the first one, also an identifier, if the flag is true.
+abbrev pub after_values : Bool → List Terminal → Expected
+after_values true (Word w ∷ ts) = expected.ValueTypeOrClose
+after_values true ts = expected.VariableOrClose
+after_values false ts = expected.ValueTypeOrClose
+
 -- 6.4.5: value types and the `)` of their group, as variables without an identifier.
-unfoldable pub listed : List Terminal → Read (List Variable)
-listed ts = and_then (all value_item ts) (λ types us. closing (map unnamed types) (closed us))
+unfoldable pub listed : Bool → List Terminal → Read (List Variable)
+listed may_have_name ts = and_then (all value_item ts) (λ types us. closing (map unnamed types) (closed_or (after_values may_have_name ts) us))
 
 -- A variable with the identifier `x` and the type of a keyword, and the `)` of its group.
 abbrev pub named_type : List ℕ → Option ValueType → List Terminal → List Terminal → Read (List Variable)
@@ -114,7 +138,7 @@ named_group x ts = Err (Unexpected expected.ValueType, ts)
 -- 6.4.5, 6.6.5: a group of parameters, results or locals after its keyword.
 unfoldable pub group : Bool → List Terminal → Read (List Variable)
 group may_have_name (Id x ∷ ts) = if may_have_name then named_group x ts else Err (Unexpected expected.ValueTypeOrClose, Id x ∷ ts)
-group may_have_name ts = listed ts
+group may_have_name ts = listed may_have_name ts
 
 -- 6.4.5, 6.6.5: a group with the keyword `word`, if one is next.
 unfoldable pub group_item : List ℕ → Bool → List Terminal → Item Variable
@@ -131,6 +155,11 @@ results ts = all (group_item (codes "result") false) ts
 -- 6.6.5: `local*`.
 abbrev pub locals : List Terminal → Read (List Variable)
 locals ts = all (group_item (codes "local") true) ts
+
+-- 6.4.5: what the grammar accepts after the results of a function type, which begin at these tokens: further results, or
+-- `)`. Before the first results, also parameters.
+abbrev pub after_results : List Terminal → Expected
+after_results ts = if is_some (after (codes "result") ts) then expected.ResultOrClose else expected.ParamOrResultOrClose
 
 -- 6.6.3, type use without an index: `param* result*`.
 abbrev pub listed_use : List Terminal → Read NamedUse
@@ -197,31 +226,37 @@ abbrev pub max_at : ℕ → List Terminal → Read Limits
 max_at n (Integer s m ∷ ts) = and_then (small s m (Integer s m ∷ ts) ts) (λ m us. Ok (limits n (Some m), us))
 max_at n ts = Ok (limits n None, ts)
 
--- 6.4.6, `limits`.
-unfoldable pub limits_at : List Terminal → Read Limits
-limits_at (Integer s n ∷ ts) = and_then (small s n (Integer s n ∷ ts) ts) (λ n us. max_at n us)
-limits_at ts = Err (Unexpected expected.Limits, ts)
+-- 6.4.6, `limits`; or an error, with what the grammar accepts there.
+unfoldable pub limits_at : Expected → List Terminal → Read Limits
+limits_at e (Integer s n ∷ ts) = and_then (small s n (Integer s n ∷ ts) ts) (λ n us. max_at n us)
+limits_at e ts = Err (Unexpected e, ts)
 
-abbrev pub reference_by : Option ReferenceType → List Terminal → List Terminal → Read ReferenceType
-reference_by None all ts = Err (UnknownWord expected.ReferenceType, all)
-reference_by (Some t) all ts = Ok (t, ts)
+-- 6.4.7: what the grammar accepts after the limits of a memory with this maximum: a maximum, if there is none, or `)`.
+abbrev pub after_memory_limits : Option ℕ → Expected
+after_memory_limits None = expected.MaximumOrClose
+after_memory_limits (Some n) = expected.Close
 
--- 6.4.3, `reftype`.
-unfoldable pub reference_at : List Terminal → Read ReferenceType
-reference_at (Word w ∷ ts) = reference_by (reference_type w) (Word w ∷ ts) ts
-reference_at ts = Err (Unexpected expected.ReferenceType, ts)
+-- 6.4.8: what the grammar accepts after the limits of a table with this maximum: a maximum, if there is none, or a
+-- reference type.
+abbrev pub after_table_limits : Option ℕ → Expected
+after_table_limits None = expected.MaximumOrReferenceType
+after_table_limits (Some n) = expected.ReferenceType
+
+abbrev pub reference_by : Expected → Option ReferenceType → List Terminal → List Terminal → Read ReferenceType
+reference_by e None all ts = Err (UnknownWord e, all)
+reference_by e (Some t) all ts = Ok (t, ts)
+
+-- 6.4.3, `reftype`; or an error, with what the grammar accepts there.
+unfoldable pub reference_at : Expected → List Terminal → Read ReferenceType
+reference_at e (Word w ∷ ts) = reference_by e (reference_type w) (Word w ∷ ts) ts
+reference_at e ts = Err (Unexpected e, ts)
 
 abbrev pub table_type : Limits → ReferenceType → TableType
 table_type limits t = record { limits = limits; element = t }
 
--- 6.4.8, `tabletype`.
-unfoldable pub table_type_at : List Terminal → Read TableType
-table_type_at ts = and_then (limits_at ts) (λ limits us. and_then (reference_at us) (λ t vs. Ok (table_type limits t, vs)))
-
--- The tokens after two `)`, which must be next.
-abbrev pub skip_two_closes : List Terminal → Result (List Terminal) Fault
-skip_two_closes (Close ∷ ts) = closed ts
-skip_two_closes ts = Err (Unexpected expected.Close, ts)
+-- 6.4.8, `tabletype`; or an error, with what the grammar accepts there if its limits are missing.
+unfoldable pub table_type_at : Expected → List Terminal → Read TableType
+table_type_at e ts = and_then (limits_at e ts) (λ limits us. and_then (reference_at (after_table_limits limits.max) us) (λ t vs. Ok (table_type limits t, vs)))
 
 -- 6.5.10: one folded instruction, which must be next.
 abbrev pub one_at : Context → List Terminal → Read (List Instruction)
@@ -259,12 +294,18 @@ function_item context ts = None
 
 -- 6.6.6: a table by its type, and its `)`.
 abbrev pub table_limits : Label → List (List ℕ) → List Terminal → Read (List Field)
-table_limits l ns ts = and_then (table_type_at ts) (λ t us. closing (Table l ns t None ∷ []) (closed us))
+table_limits l ns ts = and_then (table_type_at expected.TableDefinition ts) (λ t us. closing (Table l ns t None ∷ []) (closed us))
 
 -- 6.6.6: the inline elements of a table, all by their instructions or all by the indices of their functions.
 unfoldable pub either_at : Context → List Terminal → Read Elements
 either_at context (Open ∷ ts) = all (element_item context) (Open ∷ ts)
 either_at context ts = all (function_item context) ts
+
+-- 6.6.6: what the grammar accepts after the inline elements of a table, which begin at these tokens: another one of the
+-- kind of the first, or `)`.
+abbrev pub after_either : List Terminal → Expected
+after_either (Open ∷ ts) = expected.ExpressionOrClose
+after_either ts = if is_index ts then expected.FunctionOrClose else expected.ElementOrClose
 
 -- 6.6.6: a table with inline elements, whose number must be a `u32`; otherwise an error at the tokens `start`.
 abbrev pub table_with : Label → List (List ℕ) → ReferenceType → List Terminal → Elements → List Terminal → Read (List Field)
@@ -272,7 +313,7 @@ table_with l ns t start es ts = if is_u32 (length es) then Ok (Table l ns (table
 
 -- 6.6.6: a table with inline elements, after `(elem`.
 abbrev pub table_elements : Context → Label → List (List ℕ) → ReferenceType → List Terminal → Read (List Field)
-table_elements context l ns t ts = and_then (either_at context ts) (λ es us. and_then (closing es (skip_two_closes us)) (λ es vs. table_with l ns t ts es vs))
+table_elements context l ns t ts = and_then (either_at context ts) (λ es us. and_then (closing es (skip_two_closes_or (after_either ts) us)) (λ es vs. table_with l ns t ts es vs))
 
 -- 6.6.6: a table with inline elements, after its reference type; `(elem` must follow.
 abbrev pub table_open : Context → Label → List (List ℕ) → ReferenceType → Option (List Terminal) → List Terminal → Read (List Field)
@@ -280,7 +321,7 @@ table_open context l ns t None start = Err (Unexpected expected.Elem, start)
 table_open context l ns t (Some ts) start = table_elements context l ns t ts
 
 abbrev pub table_by : Context → Label → List (List ℕ) → Option ReferenceType → List Terminal → List Terminal → Read (List Field)
-table_by context l ns None start ts = Err (UnknownWord expected.ReferenceType, start)
+table_by context l ns None start ts = Err (UnknownWord expected.TableDefinition, start)
 table_by context l ns (Some t) start ts = table_open context l ns t (after (codes "elem") ts) ts
 
 -- 6.6.6: a table after its identifier and its inline exports.
@@ -295,7 +336,7 @@ string_item ts = None
 
 -- 6.6.7: a memory by its limits, and its `)`.
 abbrev pub memory_type : Label → List (List ℕ) → List Terminal → Read (List Field)
-memory_type l ns ts = and_then (limits_at ts) (λ limits us. closing (Memory l ns limits None ∷ []) (closed us))
+memory_type l ns ts = and_then (limits_at expected.MemoryDefinition ts) (λ limits us. closing (Memory l ns limits None ∷ []) (closed_or (after_memory_limits limits.max) us))
 
 -- 6.6.7: a memory with inline data, whose number of pages must be a `u32`; otherwise an error at the tokens `all`.
 abbrev pub memory_of : Label → List (List ℕ) → List Terminal → List ℕ → List Terminal → Read (List Field)
@@ -303,7 +344,7 @@ memory_of l ns all bytes ts = if is_u32 (pages_of bytes) then Ok (Memory l ns (l
 
 -- 6.6.7: a memory with inline data, after `(data`.
 abbrev pub memory_data : Label → List (List ℕ) → List Terminal → Read (List Field)
-memory_data l ns ts = and_then (all string_item ts) (λ bytes us. and_then (closing bytes (skip_two_closes us)) (λ bytes vs. memory_of l ns ts bytes vs))
+memory_data l ns ts = and_then (all string_item ts) (λ bytes us. and_then (closing bytes (skip_two_closes_or expected.TextOrClose us)) (λ bytes vs. memory_of l ns ts bytes vs))
 
 abbrev pub memory_by : Label → List (List ℕ) → Option (List Terminal) → List Terminal → Read (List Field)
 memory_by l ns None all = memory_type l ns all
@@ -316,9 +357,9 @@ memory_at l ns ts = memory_by l ns (after (codes "data") ts) ts
 abbrev pub global_type : Bool → ValueType → GlobalType
 global_type b t = record { is_mutable = b; value = t }
 
-abbrev pub constant_by : Option ValueType → List Terminal → List Terminal → Read GlobalType
-constant_by None all ts = Err (UnknownWord expected.ValueType, all)
-constant_by (Some t) all ts = Ok (global_type false t, ts)
+abbrev pub constant_by : Expected → Option ValueType → List Terminal → List Terminal → Read GlobalType
+constant_by e None all ts = Err (UnknownWord e, all)
+constant_by e (Some t) all ts = Ok (global_type false t, ts)
 
 abbrev pub mutable_by : Option ValueType → List Terminal → List Terminal → Read GlobalType
 mutable_by None all ts = Err (UnknownWord expected.ValueType, all)
@@ -334,15 +375,15 @@ abbrev pub mutable_at : List Terminal → Read GlobalType
 mutable_at (Word v ∷ ts) = if bytes_eq v (codes "mut") then mutable_type ts else Err (Unexpected expected.Mut, Word v ∷ ts)
 mutable_at ts = Err (Unexpected expected.Mut, ts)
 
--- 6.4.9, `globaltype`.
-unfoldable pub global_type_at : List Terminal → Read GlobalType
-global_type_at (Word w ∷ ts) = constant_by (value_type w) (Word w ∷ ts) ts
-global_type_at (Open ∷ ts) = mutable_at ts
-global_type_at ts = Err (Unexpected expected.GlobalType, ts)
+-- 6.4.9, `globaltype`; or an error, with what the grammar accepts there.
+unfoldable pub global_type_at : Expected → List Terminal → Read GlobalType
+global_type_at e (Word w ∷ ts) = constant_by e (value_type w) (Word w ∷ ts) ts
+global_type_at e (Open ∷ ts) = mutable_at ts
+global_type_at e ts = Err (Unexpected e, ts)
 
 -- 6.6.8: a global after its identifier and its inline exports.
 abbrev pub global_at : Context → Label → List (List ℕ) → List Terminal → Read (List Field)
-global_at context l ns ts = and_then (global_type_at ts) (λ t us. and_then (body context us) (λ is vs. Ok (Global l ns t is ∷ [], vs)))
+global_at context l ns ts = and_then (global_type_at expected.GlobalDefinition ts) (λ t us. and_then (body context us) (λ is vs. Ok (Global l ns t is ∷ [], vs)))
 
 -- 6.6.5 to 6.6.8: a definition after its identifier and its inline exports.
 abbrev pub defined : Types → Context → IndexSpace → Label → List (List ℕ) → List Terminal → Read (List Field)
@@ -364,9 +405,38 @@ func_type u all ts = if are_distinct (map name_of u.params) then Ok (FuncType (w
 -- 6.6.4: an import description after its keyword and its identifier.
 unfoldable pub extern_at : Types → IndexSpace → List Terminal → Read ExternType
 extern_at types space.Func ts = and_then (use_at types ts) (λ u us. func_type u ts us)
-extern_at types space.Table ts = and_then (table_type_at ts) (λ t us. Ok (OfTable t, us))
-extern_at types space.Mem ts = and_then (limits_at ts) (λ limits us. Ok (OfMemory limits, us))
-extern_at types space.Global ts = and_then (global_type_at ts) (λ t us. Ok (OfGlobal t, us))
+extern_at types space.Table ts = and_then (table_type_at expected.Limits ts) (λ t us. Ok (OfTable t, us))
+extern_at types space.Mem ts = and_then (limits_at expected.Limits ts) (λ limits us. Ok (OfMemory limits, us))
+extern_at types space.Global ts = and_then (global_type_at expected.GlobalType ts) (λ t us. Ok (OfGlobal t, us))
+
+-- 6.4.5: what the grammar accepts after a function type, by the result of its parameters.
+abbrev pub after_params : Read (List Variable) → Expected
+after_params (Ok (ps, ts)) = after_results ts
+after_params (Err f) = expected.ParamOrResultOrClose
+
+-- Returns `true` if parameters or results are next.
+abbrev pub is_list : List Terminal → Bool
+is_list ts = is_some (after (codes "param") ts) || is_some (after (codes "result") ts)
+
+-- The tokens after an index and the `)` of its group.
+abbrev pub after_index : List Terminal → List Terminal
+after_index (t ∷ Close ∷ ts) = ts
+after_index ts = ts
+
+abbrev pub after_use_by : Option (List Terminal) → List Terminal → Expected
+after_use_by (Some us) ts = after_params (params (after_index us))
+after_use_by None ts = if is_list ts then after_params (params ts) else expected.TypeUseOrClose
+
+-- 6.6.3: what the grammar accepts after a type use, which begins at these tokens: what a longer type use has next, or `)`.
+abbrev pub after_use : List Terminal → Expected
+after_use ts = after_use_by (after (codes "type") ts) ts
+
+-- 6.6.4: what the grammar accepts after an import description, which begins at these tokens after its identifier.
+abbrev pub after_extern : ExternType → List Terminal → Expected
+after_extern (FuncType u) ts = after_use ts
+after_extern (OfTable t) ts = expected.Close
+after_extern (OfMemory l) ts = after_memory_limits l.max
+after_extern (OfGlobal t) ts = expected.Close
 
 -- 6.6.4: the import with this identifier, these inline exports, these two names and this description.
 abbrev pub imported : Label → List (List ℕ) → List ℕ × List ℕ → ExternType → Field
@@ -374,7 +444,7 @@ imported l ns names t = Import names.0 names.1 l ns t
 
 -- 6.6.5 to 6.6.8: an inline import after its identifier, its inline exports and `(import`.
 abbrev pub inline_import : Types → IndexSpace → Label → List (List ℕ) → List Terminal → Read (List Field)
-inline_import types s l ns ts = and_then (import_names ts) (λ names us. and_then (closing names (closed us)) (λ names vs. and_then (extern_at types s vs) (λ t xs. closing (imported l ns names t ∷ []) (closed xs))))
+inline_import types s l ns ts = and_then (import_names ts) (λ names us. and_then (closing names (closed us)) (λ names vs. and_then (extern_at types s vs) (λ t xs. closing (imported l ns names t ∷ []) (closed_or (after_extern t vs) xs))))
 
 -- 6.6.5 to 6.6.8: an inline import if `(import` is next, otherwise a definition.
 abbrev pub item_by : Types → Context → IndexSpace → Label → List (List ℕ) → Option (List Terminal) → List Terminal → Read (List Field)
@@ -426,9 +496,16 @@ used_by s names (Some ts) all = and_then (index s names ts) (λ i us. closing i 
 unfoldable pub used_at : List ℕ → Space → List Label → List Terminal → Read ℕ
 used_at word s names ts = used_by s names (after word ts) ts
 
+-- 6.6.12: what the grammar accepts after the strings of a data segment, which begin at these tokens: another one, or `)`.
+-- Before the first one of a passive segment, also what makes the segment active.
+abbrev pub after_strings : Option Target → List Terminal → Expected
+after_strings None (Text v ∷ ts) = expected.TextOrClose
+after_strings None ts = expected.DataSegment
+after_strings (Some t) ts = expected.TextOrClose
+
 -- 6.6.12: the strings of a data segment, and its `)`.
 abbrev pub data_strings : Label → Option Target → List Terminal → Read (List Field)
-data_strings l t ts = and_then (all string_item ts) (λ bytes us. closing (Data l t bytes ∷ []) (closed us))
+data_strings l t ts = and_then (all string_item ts) (λ bytes us. closing (Data l t bytes ∷ []) (closed_or (after_strings t ts) us))
 
 -- 6.6.12: an active data segment after its identifier.
 abbrev pub active_data : Context → Label → List Terminal → Read (List Field)
@@ -444,31 +521,41 @@ abbrev pub data_at : Context → Label × List Terminal → Read (List Field)
 data_at context p = data_after context p.0 p.1
 
 -- 6.6.11, `elemlist`, after its first keyword `w`; the tokens `start` begin with the keyword.
-abbrev pub elements_by : Context → List ℕ → Option ReferenceType → List Terminal → List Terminal → Read (ReferenceType × Elements)
-elements_by context w (Some t) start ts = and_then (all (element_item context) ts) (λ es us. Ok ((t, es), us))
-elements_by context w None start ts = if bytes_eq w (codes "func") then and_then (all (function_item context) ts) (λ es us. Ok ((reference.Func, es), us)) else Err (Unexpected expected.ElementList, start)
+abbrev pub elements_by : Expected → Context → List ℕ → Option ReferenceType → List Terminal → List Terminal → Read (ReferenceType × Elements)
+elements_by e context w (Some t) start ts = and_then (all (element_item context) ts) (λ es us. Ok ((t, es), us))
+elements_by e context w None start ts = if bytes_eq w (codes "func") then and_then (all (function_item context) ts) (λ es us. Ok ((reference.Func, es), us)) else Err (Unexpected e, start)
 
--- 6.6.11, `elemlist`.
-unfoldable pub elements_at : Context → List Terminal → Read (ReferenceType × Elements)
-elements_at context (Word w ∷ ts) = elements_by context w (reference_type w) (Word w ∷ ts) ts
-elements_at context ts = Err (Unexpected expected.ElementList, ts)
+-- 6.6.11, `elemlist`; or an error, with what the grammar accepts there.
+unfoldable pub elements_at : Expected → Context → List Terminal → Read (ReferenceType × Elements)
+elements_at e context (Word w ∷ ts) = elements_by e context w (reference_type w) (Word w ∷ ts) ts
+elements_at e context ts = Err (Unexpected e, ts)
+
+-- 6.6.11: what the grammar accepts after an `elemlist`, which begins at these tokens: another element of the kind that its
+-- keyword says, or `)`.
+abbrev pub after_elements : List Terminal → Expected
+after_elements ts = if is_some (after_word (codes "func") ts) then expected.FunctionOrClose else expected.ExpressionOrClose
 
 -- 6.6.11: the `elemlist` of an element segment, and its `)`.
-abbrev pub elem_list : Context → Label → ElemMode → List Terminal → Read (List Field)
-elem_list context l m ts = and_then (elements_at context ts) (λ e us. closing (Elem l m e.0 e.1 ∷ []) (closed us))
+abbrev pub elem_list : Expected → Context → Label → ElemMode → List Terminal → Read (List Field)
+elem_list e context l m ts = and_then (elements_at e context ts) (λ es us. closing (Elem l m es.0 es.1 ∷ []) (closed_or (after_elements ts) us))
+
+-- 6.6.11: what the grammar accepts after function indices without `func`, which begin at these tokens: another one, or `)`.
+-- Before the first one, also an `elemlist`.
+abbrev pub after_functions : List Terminal → Expected
+after_functions ts = if is_index ts then expected.FunctionOrClose else expected.ElementListOrFunction
 
 -- 6.6.11: the indices of functions of an element segment, and its `)`.
 abbrev pub functions_list : Context → Label → ElemMode → List Terminal → Read (List Field)
-functions_list context l m ts = and_then (all (function_item context) ts) (λ es us. closing (Elem l m reference.Func es ∷ []) (closed us))
+functions_list context l m ts = and_then (all (function_item context) ts) (λ es us. closing (Elem l m reference.Func es ∷ []) (closed_or (after_functions ts) us))
 
 -- 6.6.11: the elements of a segment without `tableuse`, after its offset.
 unfoldable pub implicit_table : Context → Label → ElemMode → List Terminal → Read (List Field)
-implicit_table context l m (Word w ∷ ts) = elem_list context l m (Word w ∷ ts)
+implicit_table context l m (Word w ∷ ts) = elem_list expected.ElementListOrFunction context l m (Word w ∷ ts)
 implicit_table context l m ts = functions_list context l m ts
 
 -- 6.6.11: an active element segment with `tableuse`, after its identifier.
 abbrev pub given_table : Context → Label → List Terminal → Read (List Field)
-given_table context l ts = and_then (used_at (codes "table") kind.Table context.tables ts) (λ i us. and_then (expression_at (codes "offset") context us) (λ is vs. elem_list context l (Active (target i is)) vs))
+given_table context l ts = and_then (used_at (codes "table") kind.Table context.tables ts) (λ i us. and_then (expression_at (codes "offset") context us) (λ is vs. elem_list expected.ElementList context l (Active (target i is)) vs))
 
 -- 6.6.11: an active element segment, after its identifier.
 abbrev pub active_elem : Context → Label → Option (List Terminal) → List Terminal → Read (List Field)
@@ -477,13 +564,13 @@ active_elem context l (Some us) ts = given_table context l ts
 
 -- 6.6.11: a passive or declarative element segment, after its identifier.
 abbrev pub elem_word : Context → Label → List ℕ → List Terminal → List Terminal → Read (List Field)
-elem_word context l w start ts = if bytes_eq w (codes "declare") then elem_list context l Declarative ts else elem_list context l Passive start
+elem_word context l w start ts = if bytes_eq w (codes "declare") then elem_list expected.ElementList context l Declarative ts else elem_list expected.ElementSegment context l Passive start
 
 -- 6.6.11: an element segment after its identifier.
 unfoldable pub elem_after : Context → Label → List Terminal → Read (List Field)
 elem_after context l (Open ∷ ts) = active_elem context l (after (codes "table") (Open ∷ ts)) (Open ∷ ts)
 elem_after context l (Word w ∷ ts) = elem_word context l w (Word w ∷ ts) ts
-elem_after context l ts = Err (Unexpected expected.ElementList, ts)
+elem_after context l ts = Err (Unexpected expected.ElementSegment, ts)
 
 -- 6.6.11: an element segment after its keyword, by its identifier and the tokens after it.
 abbrev pub elem_at : Context → Label × List Terminal → Read (List Field)
@@ -491,7 +578,7 @@ elem_at context p = elem_after context p.0 p.1
 
 -- 6.6.4: an import after its names and the keyword of its description, by the identifier and the tokens after it.
 abbrev pub extern_after : Types → List ℕ × List ℕ → IndexSpace → Label × List Terminal → Read (List Field)
-extern_after types names s p = and_then (extern_at types s p.1) (λ t us. closing (imported p.0 [] names t ∷ []) (skip_two_closes us))
+extern_after types names s p = and_then (extern_at types s p.1) (λ t us. closing (imported p.0 [] names t ∷ []) (skip_two_closes_or (after_extern t p.1) us))
 
 abbrev pub import_by : Types → List ℕ × List ℕ → Option IndexSpace → List Terminal → List Terminal → Read (List Field)
 import_by types names None all ts = Err (Unexpected expected.ItemKind, all)
@@ -515,7 +602,7 @@ import_at types ts = and_then (import_names ts) (λ names us. import_open types 
 
 -- 6.6.2: the parameters and results of a type definition, and its two `)`.
 abbrev pub type_lists : Label → List Terminal → Read Definition
-type_lists l ts = and_then (params ts) (λ ps us. and_then (results us) (λ rs vs. closing (definition l (function_type ps rs)) (skip_two_closes vs)))
+type_lists l ts = and_then (params ts) (λ ps us. and_then (results us) (λ rs vs. closing (definition l (function_type ps rs)) (skip_two_closes_or (after_results us) vs)))
 
 abbrev pub type_by : Label → Option (List Terminal) → List Terminal → Read Definition
 type_by l None all = Err (Unexpected expected.FunctionType, all)

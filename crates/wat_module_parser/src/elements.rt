@@ -1,5 +1,5 @@
 //! Parses element segments, and tables, with or without an inline element segment.
-ghost use Rattle.std.specs.Prelude.{[], ◌∷◌, Ok, Err, Some, codes, map, MatchOption, MatchResult};
+ghost use Rattle.std.specs.Prelude.{◌≡◌, [], ◌∷◌, Ok, Err, Some, codes, map, MatchOption, MatchResult};
 ghost use Rattle.wat_module_ast.specs.Fields as grammar;
 ghost use Rattle.wat_module_parser.specs.Reading as reading;
 ghost use Rattle.wat_module_ast.specs.Views.{expression_of, field_of, expressions_of, mode_of};
@@ -7,13 +7,13 @@ ghost use Rattle.wat_module_ast.specs.Views.{text_of};
 ghost use Rattle.wat_module_parser.specs.Views.{IsItem, ItemFaults, NoItem, context_of};
 ghost use Rattle.wat_module_ast.specs.Grammar.{label_of, reference_type};
 ghost use Rattle.wat_module_tokens.specs.TokenCursor.{terminals_of};
-ghost use Rattle.wat_module_instructions.specs.Parts.{ReadsAs, ReadsExactly};
+ghost use Rattle.wat_module_instructions.specs.Parts.{ReadsAs, ReadsExactly, SkipsExactly};
 ghost use Rattle.wat_module_tokens.specs.Terminals.{label};
 
 use crate::header::closed;
 use crate::names::Names;
 use crate::segments::{expression, used};
-use crate::types::{skip_two_closes, table_type};
+use crate::types::table_type;
 use std::alloc::Global;
 use wat_module_ast::error::{Expected, Fault, FaultKind, ParseFailure, Range, Space};
 use wat_module_ast::fields::{Elem, ElemMode, Elements, Field, Limits, Table, TableType, Target};
@@ -174,7 +174,7 @@ pub(crate) fn table_at<'p, 'a>(
         Some((DecodedToken::Word(word), rest)) => match reading::reference_type(word) {
             Some(of) => table_open(alloc, names, name, exports, of, rest),
             None => {
-                let kind = FaultKind::UnknownWord(Expected::ReferenceType);
+                let kind = FaultKind::UnknownWord(Expected::TableDefinition);
                 Err(ParseFailure::Text(fault(kind, cursor)))
             }
         },
@@ -206,7 +206,7 @@ fn table_limits<'p, 'a>(
         (terminals_of cursor.entry))
         result }
 {
-    let (of, rest) = table_type(cursor)?;
+    let (of, rest) = table_type(Expected::TableDefinition, cursor)?;
     let rest = closed(rest)?;
     Ok((
         Field::Table(Table {
@@ -256,8 +256,36 @@ fn table_elements<'p, 'a>(
         result }
 {
     let (elements, rest) = either(alloc, names, cursor)?;
-    let rest = skip_two_closes(rest)?;
+    let rest = either_closed(cursor, rest)?;
     Ok(table_with(name, exports, of, cursor, elements, rest)?)
+}
+
+/// Skips the closing parentheses of an inline element segment and of its table. The elements begin
+/// at `start` and end at `cursor`.
+fn either_closed<'p, 'a>(
+    start: TokenCursor<'p, 'a>,
+    cursor: TokenCursor<'p, 'a>,
+) -> Result<TokenCursor<'p, 'a>, Fault<'p, 'a>>
+    ensures { SkipsExactly
+        (reading.skip_two_closes_or (reading.after_either (terminals_of start.entry))
+        (terminals_of cursor.entry))
+        result }
+{
+    match cursor.first() {
+        Some((DecodedToken::Close, rest)) => closed(rest),
+        _ => Err(unexpected(after_either(start), cursor)),
+    }
+}
+
+/// Returns what the grammar accepts after the inline elements of a table, which begin at `start`.
+fn after_either(start: TokenCursor<'_, '_>) -> Expected
+    ensures { result ≡ reading.after_either (terminals_of start.entry) }
+{
+    match start.first() {
+        Some((DecodedToken::Open, _)) => Expected::ExpressionOrClose,
+        Some((DecodedToken::Integer(_, _) | DecodedToken::Id(_), _)) => Expected::FunctionOrClose,
+        _ => Expected::ElementOrClose,
+    }
 }
 
 /// Returns a table whose minimum and maximum size is the number of its inline elements, which must
@@ -297,31 +325,37 @@ fn table_with<'p, 'a>(
 }
 
 /// Parses an element list: a reference type and expressions, or `func` and function indices.
+/// Without its keyword the error says that `expected` is accepted there.
 #[tactic(auto, unfolding(crate::specs::Reading::elements_at))]
 fn elements<'p, 'a>(
     alloc: Global,
     names: &Names<'a>,
+    expected: Expected,
     cursor: TokenCursor<'p, 'a>,
 ) -> Result<((ReferenceType, Elements), TokenCursor<'p, 'a>), ParseFailure<'p, 'a>>
     ensures { ReadsAs (λ v. (v.0, expressions_of v.1))
-        (reading.elements_at (context_of names.now) (terminals_of cursor.entry)) result }
+        (reading.elements_at expected (context_of names.now) (terminals_of cursor.entry)) result }
 {
     match cursor.first() {
-        Some((DecodedToken::Word(word), rest)) => elements_after(alloc, names, word, cursor, rest),
-        _ => Err(ParseFailure::Text(unexpected(Expected::ElementList, cursor))),
+        Some((DecodedToken::Word(word), rest)) => elements_after(
+            alloc, names, expected, word, cursor, rest,
+        ),
+        _ => Err(ParseFailure::Text(unexpected(expected, cursor))),
     }
 }
 
-/// Parses an element list after its keyword. `all` starts at the keyword, for errors.
+/// Parses an element list after its keyword. `all` starts at the keyword, for errors. With another
+/// keyword the error says that `expected` is accepted there.
 fn elements_after<'p, 'a>(
     alloc: Global,
     names: &Names<'a>,
+    expected: Expected,
     word: &str,
     all: TokenCursor<'p, 'a>,
     cursor: TokenCursor<'p, 'a>,
 ) -> Result<((ReferenceType, Elements), TokenCursor<'p, 'a>), ParseFailure<'p, 'a>>
     ensures { ReadsAs (λ v. (v.0, expressions_of v.1))
-        (reading.elements_by (context_of names.now) word.now (reference_type word.now)
+        (reading.elements_by expected (context_of names.now) word.now (reference_type word.now)
         (terminals_of all.entry) (terminals_of cursor.entry))
         result }
 {
@@ -335,27 +369,29 @@ fn elements_after<'p, 'a>(
                 let (functions, rest) = functions(alloc, names, cursor)?;
                 Ok(((ReferenceType::Func, Elements::Functions(functions)), rest))
             } else {
-                Err(ParseFailure::Text(unexpected(Expected::ElementList, all)))
+                Err(ParseFailure::Text(unexpected(expected, all)))
             }
         }
     }
 }
 
-/// Parses an element list and the closing parenthesis of its segment.
+/// Parses an element list and the closing parenthesis of its segment. Without an element list the
+/// error says that `expected` is accepted there.
 fn elem_list<'p, 'a>(
     alloc: Global,
     names: &Names<'a>,
+    expected: Expected,
     name: Name<'a>,
     mode: ElemMode,
     cursor: TokenCursor<'p, 'a>,
 ) -> Result<(Field<'a>, TokenCursor<'p, 'a>), ParseFailure<'p, 'a>>
     ensures { ReadsAs (λ v. field_of v ∷ [])
-        (reading.elem_list (context_of names.now) (label name.entry) (mode_of mode)
+        (reading.elem_list expected (context_of names.now) (label name.entry) (mode_of mode)
         (terminals_of cursor.entry))
         result }
 {
-    let ((of, elements), rest) = elements(alloc, names, cursor)?;
-    let rest = closed(rest)?;
+    let ((of, elements), rest) = elements(alloc, names, expected, cursor)?;
+    let rest = elements_closed(cursor, rest)?;
     Ok((
         Field::Elem(Elem {
             name,
@@ -365,6 +401,33 @@ fn elem_list<'p, 'a>(
         }),
         rest,
     ))
+}
+
+/// Skips the closing parenthesis of an element segment whose element list begins at `start` and
+/// ends at `cursor`.
+fn elements_closed<'p, 'a>(
+    start: TokenCursor<'p, 'a>,
+    cursor: TokenCursor<'p, 'a>,
+) -> Result<TokenCursor<'p, 'a>, Fault<'p, 'a>>
+    ensures { SkipsExactly
+        (reading.closed_or (reading.after_elements (terminals_of start.entry))
+        (terminals_of cursor.entry))
+        result }
+{
+    match cursor.first() {
+        Some((DecodedToken::Close, rest)) => Ok(rest),
+        _ => Err(unexpected(after_elements(start), cursor)),
+    }
+}
+
+/// Returns what the grammar accepts after an element list, which begins at `start`.
+fn after_elements(start: TokenCursor<'_, '_>) -> Expected
+    ensures { result ≡ reading.after_elements (terminals_of start.entry) }
+{
+    match start.first() {
+        Some((DecodedToken::Word(word), _)) if word == "func" => Expected::FunctionOrClose,
+        _ => Expected::ExpressionOrClose,
+    }
 }
 
 /// Parses function indices and the closing parenthesis of their segment.
@@ -381,7 +444,7 @@ fn functions_list<'p, 'a>(
         result }
 {
     let (functions, rest) = functions(alloc, names, cursor)?;
-    let rest = closed(rest)?;
+    let rest = functions_closed(cursor, rest)?;
     Ok((
         Field::Elem(Elem {
             name,
@@ -391,6 +454,33 @@ fn functions_list<'p, 'a>(
         }),
         rest,
     ))
+}
+
+/// Skips the closing parenthesis of an element segment whose function indices begin at `start` and
+/// end at `cursor`.
+fn functions_closed<'p, 'a>(
+    start: TokenCursor<'p, 'a>,
+    cursor: TokenCursor<'p, 'a>,
+) -> Result<TokenCursor<'p, 'a>, Fault<'p, 'a>>
+    ensures { SkipsExactly
+        (reading.closed_or (reading.after_functions (terminals_of start.entry))
+        (terminals_of cursor.entry))
+        result }
+{
+    match cursor.first() {
+        Some((DecodedToken::Close, rest)) => Ok(rest),
+        _ => Err(unexpected(after_functions(start), cursor)),
+    }
+}
+
+/// Returns what the grammar accepts after function indices without `func`, which begin at `start`.
+fn after_functions(start: TokenCursor<'_, '_>) -> Expected
+    ensures { result ≡ reading.after_functions (terminals_of start.entry) }
+{
+    match start.first() {
+        Some((DecodedToken::Integer(_, _) | DecodedToken::Id(_), _)) => Expected::FunctionOrClose,
+        _ => Expected::ElementListOrFunction,
+    }
 }
 
 /// Parses the elements of an active segment without a table use, after its offset: an element list
@@ -409,7 +499,10 @@ fn implicit_table<'p, 'a>(
         result }
 {
     match cursor.first() {
-        Some((DecodedToken::Word(_), _)) => elem_list(alloc, names, name, mode, cursor),
+        Some((DecodedToken::Word(_), _)) => {
+            let expected = Expected::ElementListOrFunction;
+            elem_list(alloc, names, expected, name, mode, cursor)
+        }
         _ => functions_list(alloc, names, name, mode, cursor),
     }
 }
@@ -428,7 +521,7 @@ fn given_table<'p, 'a>(
     let (index, rest) = used("table", Space::Table, &names.tables, cursor)?;
     let (offset, rest) = expression(alloc, names, "offset", rest)?;
     let mode = ElemMode::Active(Target { index, offset });
-    elem_list(alloc, names, name, mode, rest)
+    elem_list(alloc, names, Expected::ElementList, name, mode, rest)
 }
 
 /// Parses an active element segment after its identifier. Without a table use, its table is table
@@ -488,7 +581,7 @@ fn elem_after<'p, 'a>(
     match cursor.first() {
         Some((DecodedToken::Open, _)) => active_elem(alloc, names, name, cursor),
         Some((DecodedToken::Word(word), rest)) => elem_word(alloc, names, name, word, cursor, rest),
-        _ => Err(ParseFailure::Text(unexpected(Expected::ElementList, cursor))),
+        _ => Err(ParseFailure::Text(unexpected(Expected::ElementSegment, cursor))),
     }
 }
 
@@ -508,7 +601,15 @@ fn elem_word<'p, 'a>(
         result }
 {
     if word == "declare" {
-        return elem_list(alloc, names, name, ElemMode::Declarative, cursor);
+        let mode = ElemMode::Declarative;
+        return elem_list(alloc, names, Expected::ElementList, name, mode, cursor);
     }
-    elem_list(alloc, names, name, ElemMode::Passive, all)
+    elem_list(
+        alloc,
+        names,
+        Expected::ElementSegment,
+        name,
+        ElemMode::Passive,
+        all,
+    )
 }

@@ -89,15 +89,27 @@ fn values<'p, 'a>(
     }
 }
 
-/// Skips a closing parenthesis, which must come next.
+/// Skips a closing parenthesis, which must come next, and which alone the grammar accepts there.
 pub(crate) fn closed<'p, 'a>(
     cursor: TokenCursor<'p, 'a>,
 ) -> Result<TokenCursor<'p, 'a>, Fault<'p, 'a>>
     ensures { SkipsExactly (reading.closed (terminals_of cursor.entry)) result }
 {
+    closed_or(Expected::Close, cursor)
+}
+
+/// Skips a closing parenthesis, which must come next. Otherwise the error says that `expected` is
+/// accepted there.
+#[inline(always)]
+pub(crate) fn closed_or<'p, 'a>(
+    expected: Expected,
+    cursor: TokenCursor<'p, 'a>,
+) -> Result<TokenCursor<'p, 'a>, Fault<'p, 'a>>
+    ensures { SkipsExactly (reading.closed_or expected (terminals_of cursor.entry)) result }
+{
     match cursor.first() {
         Some((DecodedToken::Close, rest)) => Ok(rest),
-        _ => Err(unexpected(Expected::Close, cursor)),
+        _ => Err(unexpected(expected, cursor)),
     }
 }
 
@@ -215,7 +227,7 @@ fn next_value<'p, 'a>(
                 Ok(Some(cursor))
             }
             None => {
-                let kind = FaultKind::UnknownWord(Expected::ValueType);
+                let kind = FaultKind::UnknownWord(Expected::ValueTypeOrClose);
                 Err(ParseFailure::Text(fault(kind, left)))
             }
         },
@@ -244,7 +256,7 @@ fn group<'p, 'a>(
                 Err(ParseFailure::Text(unexpected(Expected::ValueTypeOrClose, cursor)))
             }
         }
-        _ => listed(found, cursor),
+        _ => listed(may_have_name, found, cursor),
     }
 }
 
@@ -296,18 +308,51 @@ fn named_type<'p, 'a>(
 }
 
 /// Parses a group of variables without identifiers, and appends them to `found`: types and the
-/// closing parenthesis.
+/// closing parenthesis. `may_have_name` says whether an identifier is accepted before the first
+/// type, for errors.
 #[tactic(auto, using(crate::proofs::Listing::listed_is), unfolding(crate::specs::Reading::listed))]
 fn listed<'p, 'a>(
+    may_have_name: bool,
     found: &mut Variables<'a>,
     cursor: TokenCursor<'p, 'a>,
 ) -> Result<TokenCursor<'p, 'a>, ParseFailure<'p, 'a>>
     ensures { MatchResult result
-        (λ l. IsItem (Some (reading.listed (terminals_of cursor.entry)))
+        (λ l. IsItem (Some (reading.listed may_have_name (terminals_of cursor.entry)))
         found.old found.new (terminals_of l))
-        (λ e. Faults (reading.listed (terminals_of cursor.entry)) e) }
+        (λ e. Faults (reading.listed may_have_name (terminals_of cursor.entry)) e) }
 {
     let rest = values(found, cursor)?;
-    let rest = closed(rest)?;
+    let rest = values_closed(may_have_name, cursor, rest)?;
     Ok(rest)
+}
+
+/// Skips the closing parenthesis of a group whose value types begin at `start` and end at `cursor`.
+fn values_closed<'p, 'a>(
+    may_have_name: bool,
+    start: TokenCursor<'p, 'a>,
+    cursor: TokenCursor<'p, 'a>,
+) -> Result<TokenCursor<'p, 'a>, Fault<'p, 'a>>
+    ensures { SkipsExactly
+        (reading.closed_or (reading.after_values may_have_name (terminals_of start.entry))
+        (terminals_of cursor.entry))
+        result }
+{
+    match cursor.first() {
+        Some((DecodedToken::Close, rest)) => Ok(rest),
+        _ => Err(unexpected(after_values(may_have_name, start), cursor)),
+    }
+}
+
+/// Returns what the grammar accepts after the value types of a group, which begin at `start`. An
+/// identifier is accepted before the first one if `may_have_name` is `true`.
+fn after_values(may_have_name: bool, start: TokenCursor<'_, '_>) -> Expected
+    ensures { result ≡ reading.after_values may_have_name (terminals_of start.entry) }
+{
+    if !may_have_name {
+        return Expected::ValueTypeOrClose;
+    }
+    match start.first() {
+        Some((DecodedToken::Word(_), _)) => Expected::ValueTypeOrClose,
+        _ => Expected::VariableOrClose,
+    }
 }

@@ -1,20 +1,20 @@
 //! Parses imports, both import fields and inline imports.
-ghost use Rattle.std.specs.Prelude.{[], ◌∷◌, map};
+ghost use Rattle.std.specs.Prelude.{◌≡◌, [], ◌∷◌, map, IfOk};
 ghost use Rattle.wat_module_parser.specs.Reading as reading;
 ghost use Rattle.wat_module_ast.specs.Views.{extern_of, field_of, text_of};
 ghost use Rattle.wat_module_parser.specs.Views.{types_of, use_of};
 ghost use Rattle.wat_module_ast.specs.Grammar.{label_of};
 ghost use Rattle.wat_module_tokens.specs.TokenCursor.{terminals_of};
-ghost use Rattle.wat_module_instructions.specs.Parts.{ReadsAs, ReadsExactly};
+ghost use Rattle.wat_module_instructions.specs.Parts.{ReadsAs, ReadsExactly, SkipsAs};
 ghost use Rattle.wat_module_tokens.specs.Terminals.{label};
 
 use crate::header::{closed, utf8_text};
 use crate::names::Names;
 use crate::places::duplicate_variable;
-use crate::types::{global_type, limits, skip_two_closes, space_of, table_type};
-use crate::uses::type_use;
+use crate::types::{after_memory_limits, global_type, limits, space_of, table_type};
+use crate::uses::{after_use, type_use};
 use crate::variables::{NamedUse, are_parameters_distinct, without_names};
-use std::alloc::Global;
+use std::alloc::{AllocError, Global};
 use wat_module_ast::error::{Expected, Fault, ParseFailure};
 use wat_module_ast::fields::{ExternType, Field, Import, IndexSpace};
 use wat_module_instructions::faults::unexpected;
@@ -52,15 +52,15 @@ fn extern_type<'p, 'a>(
             func_type(alloc, uses, cursor, rest)
         }
         IndexSpace::Table => {
-            let (of, rest) = table_type(cursor)?;
+            let (of, rest) = table_type(Expected::Limits, cursor)?;
             Ok((ExternType::Table(of), rest))
         }
         IndexSpace::Mem => {
-            let (limits, rest) = limits(cursor)?;
+            let (limits, rest) = limits(Expected::Limits, cursor)?;
             Ok((ExternType::Memory(limits), rest))
         }
         IndexSpace::Global => {
-            let (of, rest) = global_type(cursor)?;
+            let (of, rest) = global_type(Expected::GlobalType, cursor)?;
             Ok((ExternType::Global(of), rest))
         }
     }
@@ -100,9 +100,9 @@ pub(crate) fn inline_import<'p, 'a>(
         result }
 {
     let ((from, item), rest) = import_names(cursor)?;
-    let rest = closed(rest)?;
-    let (what, rest) = extern_type(alloc, names, space, rest)?;
-    let rest = closed(rest)?;
+    let start = closed(rest)?;
+    let (what, rest) = extern_type(alloc, names, space, start)?;
+    let rest = extern_closed(alloc, &what, start, rest)?;
     Ok((
         Field::Import(Import {
             from,
@@ -184,9 +184,10 @@ fn import_item<'p, 'a>(
         (label_of (terminals_of cursor.entry)))
         result }
 {
-    let (name, rest) = reading::label(cursor);
-    let (what, rest) = extern_type(alloc, names, space, rest)?;
-    let rest = skip_two_closes(rest)?;
+    let (name, start) = reading::label(cursor);
+    let (what, rest) = extern_type(alloc, names, space, start)?;
+    let rest = extern_closed(alloc, &what, start, rest)?;
+    let rest = closed(rest)?;
     let exports = Vec::new(alloc);
     Ok((
         Field::Import(Import {
@@ -198,4 +199,43 @@ fn import_item<'p, 'a>(
         }),
         rest,
     ))
+}
+
+/// Skips the closing parenthesis after an import description, which begins at `start` after its
+/// identifier and ends at `cursor`.
+fn extern_closed<'p, 'a>(
+    alloc: Global,
+    what: &ExternType,
+    start: TokenCursor<'p, 'a>,
+    cursor: TokenCursor<'p, 'a>,
+) -> Result<TokenCursor<'p, 'a>, ParseFailure<'p, 'a>>
+    ensures { SkipsAs
+        (reading.closed_or (reading.after_extern (extern_of what.now) (terminals_of start.entry))
+        (terminals_of cursor.entry))
+        result }
+{
+    match cursor.first() {
+        Some((DecodedToken::Close, rest)) => Ok(rest),
+        _ => {
+            let expected = after_extern(alloc, what, start)?;
+            Err(ParseFailure::Text(unexpected(expected, cursor)))
+        }
+    }
+}
+
+/// Returns what the grammar accepts after an import description, which begins at `start` after its
+/// identifier.
+fn after_extern<'p, 'a>(
+    alloc: Global,
+    what: &ExternType,
+    start: TokenCursor<'p, 'a>,
+) -> Result<Expected, AllocError>
+    ensures { IfOk result
+        (λ e. e ≡ reading.after_extern (extern_of what.now) (terminals_of start.entry)) }
+{
+    match what {
+        ExternType::Func(_) => after_use(alloc, start),
+        ExternType::Memory(limits) => Ok(after_memory_limits(limits.max)),
+        ExternType::Table(_) | ExternType::Global(_) => Ok(Expected::Close),
+    }
 }

@@ -498,7 +498,7 @@ fn global<'p, 'a>(
         (map text_of exports.entry.items) (terminals_of cursor.entry))
         result }
 {
-    let (of, rest) = global_type(cursor)?;
+    let (of, rest) = global_type(Expected::GlobalDefinition, cursor)?;
     let locals = IndexedNames::none(alloc);
     let scope = scope(names, &locals);
     let (first, rest) = machine::instructions(alloc, &scope, rest)?;

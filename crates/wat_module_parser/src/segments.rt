@@ -7,14 +7,14 @@ ghost use Rattle.wat_module_ast.specs.Views.{field_of, target_of, text_of, toget
 ghost use Rattle.wat_module_parser.specs.Views.{IsItem, ItemFaults, NoItem, context_of};
 ghost use Rattle.wat_module_ast.specs.Grammar.{label_of};
 ghost use Rattle.wat_module_tokens.specs.TokenCursor.{terminals_of};
-ghost use Rattle.wat_module_instructions.specs.Parts.{ReadsAs, ReadsExactly};
+ghost use Rattle.wat_module_instructions.specs.Parts.{ReadsAs, ReadsExactly, SkipsExactly};
 ghost use Rattle.wat_module_tokens.specs.Terminals.{label};
 
 use crate::elements::elem_at;
-use crate::header::closed;
+use crate::header::{closed, closed_or};
 use crate::module::scope;
 use crate::names::Names;
-use crate::types::{limits, skip_two_closes};
+use crate::types::{after_memory_limits, limits, skip_two_closes_or};
 use std::alloc::{AllocError, Global};
 use wat_module_ast::error::{Expected, Fault, FaultKind, ParseFailure, Range, Space};
 use wat_module_ast::fields::{Data, Field, Limits, Memory, Target, len_of};
@@ -105,8 +105,8 @@ fn memory_type<'p, 'a>(
         (terminals_of cursor.entry))
         result }
 {
-    let (limits, rest) = limits(cursor)?;
-    let rest = closed(rest)?;
+    let (limits, rest) = limits(Expected::MemoryDefinition, cursor)?;
+    let rest = closed_or(after_memory_limits(limits.max), rest)?;
     Ok((
         Field::Memory(Memory {
             name,
@@ -131,7 +131,7 @@ fn memory_data<'p, 'a>(
         result }
 {
     let (strings, rest) = strings(alloc, cursor)?;
-    let rest = skip_two_closes(rest)?;
+    let rest = skip_two_closes_or(Expected::TextOrClose, rest)?;
     memory_of(name, exports, cursor, strings, rest)
 }
 
@@ -321,7 +321,7 @@ fn data_strings<'p, 'a>(
         result }
 {
     let (strings, rest) = strings(alloc, cursor)?;
-    let rest = closed(rest)?;
+    let rest = strings_closed(&target, cursor, rest)?;
     Ok((
         Field::Data(Data {
             name,
@@ -330,4 +330,35 @@ fn data_strings<'p, 'a>(
         }),
         rest,
     ))
+}
+
+/// Skips the closing parenthesis of a data segment whose strings begin at `start` and end at
+/// `cursor`.
+fn strings_closed<'p, 'a>(
+    target: &Option<Target>,
+    start: TokenCursor<'p, 'a>,
+    cursor: TokenCursor<'p, 'a>,
+) -> Result<TokenCursor<'p, 'a>, Fault<'p, 'a>>
+    ensures { SkipsExactly
+        (reading.closed_or (reading.after_strings (target_of target.now) (terminals_of start.entry))
+        (terminals_of cursor.entry))
+        result }
+{
+    match cursor.first() {
+        Some((DecodedToken::Close, rest)) => Ok(rest),
+        _ => Err(unexpected(after_strings(target, start), cursor)),
+    }
+}
+
+/// Returns what the grammar accepts after the strings of a data segment, which begin at `start`.
+fn after_strings(target: &Option<Target>, start: TokenCursor<'_, '_>) -> Expected
+    ensures { result ≡ reading.after_strings (target_of target.now) (terminals_of start.entry) }
+{
+    match target {
+        Some(_) => Expected::TextOrClose,
+        None => match start.first() {
+            Some((DecodedToken::Text(_), _)) => Expected::TextOrClose,
+            _ => Expected::DataSegment,
+        },
+    }
 }

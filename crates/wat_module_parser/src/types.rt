@@ -6,7 +6,7 @@ ghost use Rattle.wat_module_ast.specs.Grammar.{small};
 ghost use Rattle.wat_module_tokens.specs.TokenCursor.{terminals_of};
 ghost use Rattle.wat_module_instructions.specs.Parts.{ReadsExactly, SkipsExactly};
 
-use crate::header::closed;
+use crate::header::{closed, closed_or};
 use wat_module_ast::error::{Expected, Fault, FaultKind, Range, Space};
 use wat_module_ast::fields::{GlobalType, IndexSpace, Limits, TableType};
 use wat_module_ast::instruction::{ReferenceType, ValueType};
@@ -55,19 +55,22 @@ fn small<'p, 'a>(
     }
 }
 
-/// Parses limits: a minimum, and a maximum if an integer comes next.
+/// Parses limits: a minimum, and a maximum if an integer comes next. Without a minimum the error
+/// says that `expected` is accepted there.
 #[tactic(auto, unfolding(crate::specs::Reading::limits_at))]
 pub(crate) fn limits<'p, 'a>(
+    expected: Expected,
     cursor: TokenCursor<'p, 'a>,
 ) -> Result<(Limits, TokenCursor<'p, 'a>), Fault<'p, 'a>>
-    ensures { ReadsExactly (λ v. v) (reading.limits_at (terminals_of cursor.entry)) result }
+    ensures { ReadsExactly (λ v. v) (reading.limits_at expected (terminals_of cursor.entry))
+        result }
 {
     match cursor.first() {
         Some((DecodedToken::Integer(sign, n), rest)) => {
             let (min, rest) = small(sign, n, cursor, rest)?;
             maximum(min, rest)
         }
-        _ => Err(unexpected(Expected::Limits, cursor)),
+        _ => Err(unexpected(expected, cursor)),
     }
 }
 
@@ -88,40 +91,69 @@ fn maximum<'p, 'a>(
     }
 }
 
-/// Parses the type of a table: its limits and the reference type of its elements.
+/// Returns what the grammar accepts after the limits of a memory with this maximum.
+pub(crate) fn after_memory_limits(max: Option<u32>) -> Expected
+    ensures { result ≡ reading.after_memory_limits max }
+{
+    match max {
+        None => Expected::MaximumOrClose,
+        Some(_) => Expected::Close,
+    }
+}
+
+/// Returns what the grammar accepts after the limits of a table with this maximum.
+fn after_table_limits(max: Option<u32>) -> Expected
+    ensures { result ≡ reading.after_table_limits max }
+{
+    match max {
+        None => Expected::MaximumOrReferenceType,
+        Some(_) => Expected::ReferenceType,
+    }
+}
+
+/// Parses the type of a table: its limits and the reference type of its elements. Without limits
+/// the error says that `expected` is accepted there.
 #[tactic(auto, unfolding(crate::specs::Reading::table_type_at))]
 pub(crate) fn table_type<'p, 'a>(
+    expected: Expected,
     cursor: TokenCursor<'p, 'a>,
 ) -> Result<(TableType, TokenCursor<'p, 'a>), Fault<'p, 'a>>
-    ensures { ReadsExactly (λ v. v) (reading.table_type_at (terminals_of cursor.entry)) result }
+    ensures { ReadsExactly (λ v. v) (reading.table_type_at expected (terminals_of cursor.entry))
+        result }
 {
-    let (limits, rest) = limits(cursor)?;
-    let (element, rest) = reference_type(rest)?;
+    let (limits, rest) = limits(expected, cursor)?;
+    let (element, rest) = reference_type(limits.max, rest)?;
     Ok((TableType { limits, element }, rest))
 }
 
-/// Parses a reference type.
+/// Parses a reference type after the limits of a table with this maximum.
 #[tactic(auto, unfolding(crate::specs::Reading::reference_at))]
 fn reference_type<'p, 'a>(
+    max: Option<u32>,
     cursor: TokenCursor<'p, 'a>,
 ) -> Result<(ReferenceType, TokenCursor<'p, 'a>), Fault<'p, 'a>>
-    ensures { ReadsExactly (λ v. v) (reading.reference_at (terminals_of cursor.entry)) result }
+    ensures { ReadsExactly (λ v. v)
+        (reading.reference_at (reading.after_table_limits max) (terminals_of cursor.entry))
+        result }
 {
     match cursor.first() {
         Some((DecodedToken::Word(word), rest)) => match reading::reference_type(word) {
             Some(of) => Ok((of, rest)),
-            None => Err(fault(FaultKind::UnknownWord(Expected::ReferenceType), cursor)),
+            None => Err(fault(FaultKind::UnknownWord(after_table_limits(max)), cursor)),
         },
-        _ => Err(unexpected(Expected::ReferenceType, cursor)),
+        _ => Err(unexpected(after_table_limits(max), cursor)),
     }
 }
 
 /// Parses the type of a global: a value type, which `(mut )` encloses if the global is mutable.
+/// Without one the error says that `expected` is accepted there.
 #[tactic(auto, unfolding(crate::specs::Reading::global_type_at))]
 pub(crate) fn global_type<'p, 'a>(
+    expected: Expected,
     cursor: TokenCursor<'p, 'a>,
 ) -> Result<(GlobalType, TokenCursor<'p, 'a>), Fault<'p, 'a>>
-    ensures { ReadsExactly (λ v. v) (reading.global_type_at (terminals_of cursor.entry)) result }
+    ensures { ReadsExactly (λ v. v) (reading.global_type_at expected (terminals_of cursor.entry))
+        result }
 {
     match cursor.first() {
         Some((DecodedToken::Word(word), rest)) => match value_type(word) {
@@ -129,10 +161,10 @@ pub(crate) fn global_type<'p, 'a>(
                 let is_mutable = false;
                 Ok((GlobalType { is_mutable, value }, rest))
             }
-            None => Err(fault(FaultKind::UnknownWord(Expected::ValueType), cursor)),
+            None => Err(fault(FaultKind::UnknownWord(expected), cursor)),
         },
         Some((DecodedToken::Open, rest)) => mutable(rest),
-        _ => Err(unexpected(Expected::GlobalType, cursor)),
+        _ => Err(unexpected(expected, cursor)),
     }
 }
 
@@ -189,14 +221,25 @@ fn closing_mutable<'p, 'a>(
     ))
 }
 
-/// Skips two closing parentheses, which must come next.
+/// Skips two closing parentheses, which must come next, and which alone the grammar accepts there.
 pub(crate) fn skip_two_closes<'p, 'a>(
     cursor: TokenCursor<'p, 'a>,
 ) -> Result<TokenCursor<'p, 'a>, Fault<'p, 'a>>
     ensures { SkipsExactly (reading.skip_two_closes (terminals_of cursor.entry)) result }
 {
-    match cursor.first() {
-        Some((DecodedToken::Close, rest)) => closed(rest),
-        _ => Err(unexpected(Expected::Close, cursor)),
-    }
+    skip_two_closes_or(Expected::Close, cursor)
+}
+
+/// Skips two closing parentheses, which must come next. Without the first the error says that
+/// `expected` is accepted there.
+#[inline(always)]
+pub(crate) fn skip_two_closes_or<'p, 'a>(
+    expected: Expected,
+    cursor: TokenCursor<'p, 'a>,
+) -> Result<TokenCursor<'p, 'a>, Fault<'p, 'a>>
+    ensures { SkipsExactly (reading.skip_two_closes_or expected (terminals_of cursor.entry))
+        result }
+{
+    let rest = closed_or(expected, cursor)?;
+    closed(rest)
 }

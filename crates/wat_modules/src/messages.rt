@@ -428,30 +428,47 @@ fn phrase(expected: Expected) -> &'static str
         Expected::Instruction => "an instruction",
         Expected::InstructionOrClose => "an instruction or `)`",
         Expected::InstructionOrEnd => "an instruction or `end`",
+        Expected::InstructionElseOrEnd => "an instruction, `else` or `end`",
         Expected::Then => "a folded instruction or `(then`",
         Expected::Else => "`else`",
         Expected::ElseOrClose => "`(else` or `)`",
         Expected::Expression => "an expression",
+        Expected::ExpressionOrClose => "an expression or `)`",
         Expected::ValueType => "a value type",
         Expected::ValueTypeOrClose => "a value type or `)`",
+        Expected::VariableOrClose => "an identifier, a value type or `)`",
         Expected::ReferenceType => "a reference type",
         Expected::HeapType => "a heap type",
         Expected::GlobalType => "a global type",
+        Expected::GlobalDefinition => "a global type, `(export` or `(import`",
         Expected::Mut => "`mut`",
         Expected::FunctionType => "`(func`",
+        Expected::TypeUseOrClose => "`(type`, `(param`, `(result` or `)`",
+        Expected::ParamOrResultOrClose => "`(param`, `(result` or `)`",
+        Expected::ResultOrClose => "`(result` or `)`",
         Expected::Limits => "limits",
+        Expected::MemoryDefinition => "limits, `(data`, `(export` or `(import`",
+        Expected::TableDefinition => "limits, a reference type, `(export` or `(import`",
+        Expected::MaximumOrClose => "a maximum or `)`",
+        Expected::MaximumOrReferenceType => "a maximum or a reference type",
         Expected::Index(space) => index_phrase(space),
+        Expected::FunctionOrClose => "a function index or `)`",
         Expected::Unsigned => "an unsigned integer",
         Expected::Integer => "an integer of at most 64 bits",
         Expected::Number => "a number",
         Expected::LaneIndex => "a lane index",
         Expected::Shape => "a vector shape",
         Expected::Text => "a string",
+        Expected::TextOrClose => "a string or `)`",
+        Expected::DataSegment => "`(memory`, an offset, a string or `)`",
         Expected::ItemKind => "`func`, `table`, `memory` or `global`",
         Expected::ExportDescription => "an export description",
         Expected::ImportDescription => "an import description",
         Expected::Elem => "`(elem`",
         Expected::ElementList => "a reference type or `func`",
+        Expected::ElementListOrFunction => "a reference type, `func`, a function index or `)`",
+        Expected::ElementOrClose => "a function index, an expression or `)`",
+        Expected::ElementSegment => "`(table`, an offset, `declare`, a reference type or `func`",
     }
 }
 
@@ -461,9 +478,17 @@ fn word_noun(expected: Expected) -> &'static str
 {
     match expected {
         Expected::Field => "module field",
-        Expected::Instruction => "instruction",
-        Expected::ValueType => "value type",
-        Expected::ReferenceType => "reference type",
+        Expected::Instruction
+        | Expected::InstructionOrClose
+        | Expected::InstructionOrEnd
+        | Expected::InstructionElseOrEnd => "instruction",
+        Expected::ValueType
+        | Expected::ValueTypeOrClose
+        | Expected::VariableOrClose
+        | Expected::GlobalType
+        | Expected::GlobalDefinition => "value type",
+        Expected::ReferenceType | Expected::TableDefinition | Expected::MaximumOrReferenceType =>
+            "reference type",
         Expected::HeapType => "heap type",
         Expected::Shape => "vector shape",
         _ => "keyword",

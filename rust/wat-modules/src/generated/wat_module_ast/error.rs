@@ -49,6 +49,8 @@ pub enum Expected {
     InstructionOrClose,
     /// An instruction, or the `end` of its block.
     InstructionOrEnd,
+    /// An instruction, or the `else` or `end` of an `if`.
+    InstructionElseOrEnd,
     /// `(then`.
     Then,
     /// `else`, after `(`.
@@ -57,24 +59,46 @@ pub enum Expected {
     ElseOrClose,
     /// An instruction in parentheses, or an expression with its keyword in parentheses.
     Expression,
+    /// Another expression of a list, or the `)` of the list.
+    ExpressionOrClose,
     /// A value type.
     ValueType,
     /// A value type, or the `)` of its group.
     ValueTypeOrClose,
+    /// The identifier of a parameter or local, a value type, or the `)` of the group.
+    VariableOrClose,
     /// A reference type.
     ReferenceType,
     /// A heap type.
     HeapType,
     /// A value type, or `(mut`.
     GlobalType,
+    /// A value type, `(mut`, or an inline export or import of a global.
+    GlobalDefinition,
     /// `mut`, after `(`.
     Mut,
     /// `(func`.
     FunctionType,
+    /// A type index, parameters, results, or the `)` of an imported function.
+    TypeUseOrClose,
+    /// Parameters, results, or the `)` of a function type.
+    ParamOrResultOrClose,
+    /// Results, or the `)` of a function type.
+    ResultOrClose,
     /// The minimum of limits.
     Limits,
+    /// Limits, inline data, or an inline export or import of a memory.
+    MemoryDefinition,
+    /// Limits, a reference type, or an inline export or import of a table.
+    TableDefinition,
+    /// The maximum of limits, or the `)` of a memory.
+    MaximumOrClose,
+    /// The maximum of limits, or the reference type of a table.
+    MaximumOrReferenceType,
     /// An index, or an identifier, of an item of an index space.
     Index(Space),
+    /// A function index, or the `)` of a list of function indices.
+    FunctionOrClose,
     /// An integer without a sign.
     Unsigned,
     /// An integer.
@@ -87,6 +111,10 @@ pub enum Expected {
     Shape,
     /// A string.
     Text,
+    /// A string, or the `)` of a list of strings.
+    TextOrClose,
+    /// The memory use or offset of a data segment, a string, or the `)` of the segment.
+    DataSegment,
     /// The keyword of an index space whose items can be imported and exported.
     ItemKind,
     /// The description of an export.
@@ -97,6 +125,12 @@ pub enum Expected {
     Elem,
     /// A reference type, or `func`.
     ElementList,
+    /// A reference type, `func`, a function index, or the `)` of an element segment.
+    ElementListOrFunction,
+    /// A function index, an expression, or the `)` of a list of elements.
+    ElementOrClose,
+    /// The table use or offset of an element segment, `declare`, a reference type, or `func`.
+    ElementSegment,
 }
 
 /// The values that a number may have.

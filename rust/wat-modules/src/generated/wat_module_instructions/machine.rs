@@ -2,12 +2,12 @@
 //! Parses the instructions of a body. A stack of frames holds its open parts.
 
 use wat_lex::shim::prelude::*;
-use crate::instructions::faults::unexpected;
+use crate::instructions::faults::{fault, unexpected};
 use crate::instructions::frame::{Frame, Frames};
 use crate::instructions::reading::{self, Scope};
 use crate::instructions::uses;
 use wat_lex::shim::alloc::Global;
-use crate::ast::error::{Expected, ParseFailure};
+use crate::ast::error::{Expected, FaultKind, ParseFailure};
 use crate::ast::instruction::{Argument, Instruction, Opcode};
 use crate::tokens::stream::TokenCursor;
 use crate::tokens::token::{DecodedToken, Name};
@@ -165,22 +165,46 @@ fn step<'p, 'a>(
             at_word(alloc, scope, frames, out, word, cursor, rest)
         }
         _ => match frames.last() {
-            Some(Frame::Block(_, _)) => Err(ParseFailure::Text(unexpected(
-                Expected::InstructionOrEnd,
+            Some(frame) => Err(ParseFailure::Text(unexpected(expected_in(frame), cursor))),
+            None => Err(ParseFailure::Text(unexpected(
+                Expected::InstructionOrClose,
                 cursor,
             ))),
-            Some(Frame::Operands(_)) => Err(ParseFailure::Text(unexpected(
-                Expected::OpenOrClose,
-                cursor,
-            ))),
-            Some(Frame::Condition(_, _)) => {
-                Err(ParseFailure::Text(unexpected(Expected::Then, cursor)))
-            }
-            Some(Frame::Body | Frame::Group(_) | Frame::Then(_) | Frame::Else(_)) | None => {
-                let expected = Expected::InstructionOrClose;
-                Err(ParseFailure::Text(unexpected(expected, cursor)))
-            }
         },
+    }
+}
+
+/// Returns what the grammar accepts next in a part, unless it is in the middle of an instruction.
+///
+/// # Proved
+///
+/// ```text
+/// ensures { result ≡ spec.expected_in (part frame.now) }
+/// ```
+fn expected_in(frame: &Frame<'_>) -> Expected {
+    match *frame {
+        Frame::Body | Frame::Group(_) | Frame::Then(_) | Frame::Else(_) => {
+            Expected::InstructionOrClose
+        }
+        Frame::Block(may_have_else, _) => expected_in_block(may_have_else),
+        Frame::Operands(_) => Expected::OpenOrClose,
+        Frame::Condition(_, _) => Expected::Then,
+    }
+}
+
+/// Returns what the grammar accepts next in a `block .. end`, which may have an `else` if
+/// `may_have_else` is `true`.
+///
+/// # Proved
+///
+/// ```text
+/// ensures { result ≡ spec.expected_in_block may_have_else }
+/// ```
+fn expected_in_block(may_have_else: bool) -> Expected {
+    if may_have_else {
+        Expected::InstructionElseOrEnd
+    } else {
+        Expected::InstructionOrEnd
     }
 }
 
@@ -239,10 +263,10 @@ fn closed<'p, 'a>(
         }
         Frame::Then(label) => after_then(label, frames, out, rest),
         Frame::Else(_) => after_else(frames, out, rest),
-        Frame::Block(_, _) => Err(ParseFailure::Text(unexpected(
-            Expected::InstructionOrEnd,
-            cursor,
-        ))),
+        Frame::Block(may_have_else, _) => {
+            let expected = expected_in_block(may_have_else);
+            Err(ParseFailure::Text(unexpected(expected, cursor)))
+        }
         Frame::Condition(_, _) => Err(ParseFailure::Text(unexpected(Expected::Then, cursor))),
     }
 }
@@ -633,10 +657,47 @@ fn instruction<'p, 'a>(
             })?;
             Ok(rest)
         }
-        None => {
-            let (instruction, rest) = reading::plain(alloc, scope, frames, cursor)?;
-            out.push(instruction)?;
-            Ok(rest)
+        None => match reading::plain(alloc, scope, frames, cursor) {
+            Ok((instruction, rest)) => {
+                out.push(instruction)?;
+                Ok(rest)
+            }
+            Err(failure) => Err(failure_in(frames, failure)),
+        },
+    }
+}
+
+/// Returns the failure of a plain instruction in the innermost part.
+///
+/// # Proved
+///
+/// ```text
+/// ensures { FailsIn frames.now failure.entry result }
+/// ```
+fn failure_in<'p, 'a>(frames: &Frames<'_>, failure: ParseFailure<'p, 'a>) -> ParseFailure<'p, 'a> {
+    match failure {
+        ParseFailure::Text(error) => {
+            let kind = kind_in(error.kind, frames);
+            ParseFailure::Text(fault(kind, error.left))
         }
+        ParseFailure::Memory(_) => failure,
+    }
+}
+
+/// Returns the kind of an error of a plain instruction in the innermost part. At a keyword that is
+/// not an instruction, the grammar accepts what it accepts next in the part.
+///
+/// # Proved
+///
+/// ```text
+/// ensures { result ≡ spec.kind_in kind frames.now }
+/// ```
+fn kind_in(kind: FaultKind, frames: &Frames<'_>) -> FaultKind {
+    match kind {
+        FaultKind::UnknownWord(Expected::Instruction) => match frames.last() {
+            Some(frame) => FaultKind::UnknownWord(expected_in(frame)),
+            None => kind,
+        },
+        _ => kind,
     }
 }

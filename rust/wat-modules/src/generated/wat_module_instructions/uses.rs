@@ -133,7 +133,7 @@ fn in_group<'p, 'a>(
                 })
             }
             None => {
-                let kind = FaultKind::UnknownWord(Expected::ValueType);
+                let kind = FaultKind::UnknownWord(Expected::ValueTypeOrClose);
                 Err(ParseFailure::Text(fault(kind, cursor)))
             }
         },

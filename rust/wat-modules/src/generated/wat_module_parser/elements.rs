@@ -5,7 +5,7 @@ use wat_lex::shim::prelude::*;
 use crate::parser::header::closed;
 use crate::parser::names::Names;
 use crate::parser::segments::{expression, used};
-use crate::parser::types::{skip_two_closes, table_type};
+use crate::parser::types::table_type;
 use wat_lex::shim::alloc::Global;
 use crate::ast::error::{Expected, Fault, FaultKind, ParseFailure, Range, Space};
 use crate::ast::fields::{Elem, ElemMode, Elements, Field, Limits, Table, TableType, Target};
@@ -186,7 +186,7 @@ pub(crate) fn table_at<'p, 'a>(
         Some((DecodedToken::Word(word), rest)) => match reading::reference_type(word) {
             Some(of) => table_open(alloc, names, name, exports, of, rest),
             None => {
-                let kind = FaultKind::UnknownWord(Expected::ReferenceType);
+                let kind = FaultKind::UnknownWord(Expected::TableDefinition);
                 Err(ParseFailure::Text(fault(kind, cursor)))
             }
         },
@@ -220,7 +220,7 @@ fn table_limits<'p, 'a>(
     exports: Vec<&'a [u8]>,
     cursor: TokenCursor<'p, 'a>,
 ) -> Result<(Field<'a>, TokenCursor<'p, 'a>), Fault<'p, 'a>> {
-    let (of, rest) = table_type(cursor)?;
+    let (of, rest) = table_type(Expected::TableDefinition, cursor)?;
     let rest = closed(rest)?;
     Ok((
         Field::Table(Table {
@@ -278,8 +278,44 @@ fn table_elements<'p, 'a>(
     cursor: TokenCursor<'p, 'a>,
 ) -> Result<(Field<'a>, TokenCursor<'p, 'a>), ParseFailure<'p, 'a>> {
     let (elements, rest) = either(alloc, names, cursor)?;
-    let rest = skip_two_closes(rest)?;
+    let rest = either_closed(cursor, rest)?;
     Ok(table_with(name, exports, of, cursor, elements, rest)?)
+}
+
+/// Skips the closing parentheses of an inline element segment and of its table. The elements begin
+/// at `start` and end at `cursor`.
+///
+/// # Proved
+///
+/// ```text
+/// ensures { SkipsExactly
+/// (reading.skip_two_closes_or (reading.after_either (terminals_of start.entry))
+/// (terminals_of cursor.entry))
+/// result }
+/// ```
+fn either_closed<'p, 'a>(
+    start: TokenCursor<'p, 'a>,
+    cursor: TokenCursor<'p, 'a>,
+) -> Result<TokenCursor<'p, 'a>, Fault<'p, 'a>> {
+    match cursor.first() {
+        Some((DecodedToken::Close, rest)) => closed(rest),
+        _ => Err(unexpected(after_either(start), cursor)),
+    }
+}
+
+/// Returns what the grammar accepts after the inline elements of a table, which begin at `start`.
+///
+/// # Proved
+///
+/// ```text
+/// ensures { result ≡ reading.after_either (terminals_of start.entry) }
+/// ```
+fn after_either(start: TokenCursor<'_, '_>) -> Expected {
+    match start.first() {
+        Some((DecodedToken::Open, _)) => Expected::ExpressionOrClose,
+        Some((DecodedToken::Integer(_, _) | DecodedToken::Id(_), _)) => Expected::FunctionOrClose,
+        _ => Expected::ElementOrClose,
+    }
 }
 
 /// Returns a table whose minimum and maximum size is the number of its inline elements, which must
@@ -326,40 +362,43 @@ fn table_with<'p, 'a>(
 }
 
 /// Parses an element list: a reference type and expressions, or `func` and function indices.
+/// Without its keyword the error says that `expected` is accepted there.
 ///
 /// # Proved
 ///
 /// ```text
 /// ensures { ReadsAs (λ v. (v.0, expressions_of v.1))
-/// (reading.elements_at (context_of names.now) (terminals_of cursor.entry)) result }
+/// (reading.elements_at expected (context_of names.now) (terminals_of cursor.entry)) result }
 /// ```
 fn elements<'p, 'a>(
     alloc: Global,
     names: &Names<'a>,
+    expected: Expected,
     cursor: TokenCursor<'p, 'a>,
 ) -> Result<((ReferenceType, Elements), TokenCursor<'p, 'a>), ParseFailure<'p, 'a>> {
     match cursor.first() {
-        Some((DecodedToken::Word(word), rest)) => elements_after(alloc, names, word, cursor, rest),
-        _ => Err(ParseFailure::Text(unexpected(
-            Expected::ElementList,
-            cursor,
-        ))),
+        Some((DecodedToken::Word(word), rest)) => {
+            elements_after(alloc, names, expected, word, cursor, rest)
+        }
+        _ => Err(ParseFailure::Text(unexpected(expected, cursor))),
     }
 }
 
-/// Parses an element list after its keyword. `all` starts at the keyword, for errors.
+/// Parses an element list after its keyword. `all` starts at the keyword, for errors. With another
+/// keyword the error says that `expected` is accepted there.
 ///
 /// # Proved
 ///
 /// ```text
 /// ensures { ReadsAs (λ v. (v.0, expressions_of v.1))
-/// (reading.elements_by (context_of names.now) word.now (reference_type word.now)
+/// (reading.elements_by expected (context_of names.now) word.now (reference_type word.now)
 /// (terminals_of all.entry) (terminals_of cursor.entry))
 /// result }
 /// ```
 fn elements_after<'p, 'a>(
     alloc: Global,
     names: &Names<'a>,
+    expected: Expected,
     word: &str,
     all: TokenCursor<'p, 'a>,
     cursor: TokenCursor<'p, 'a>,
@@ -374,31 +413,33 @@ fn elements_after<'p, 'a>(
                 let (functions, rest) = functions(alloc, names, cursor)?;
                 Ok(((ReferenceType::Func, Elements::Functions(functions)), rest))
             } else {
-                Err(ParseFailure::Text(unexpected(Expected::ElementList, all)))
+                Err(ParseFailure::Text(unexpected(expected, all)))
             }
         }
     }
 }
 
-/// Parses an element list and the closing parenthesis of its segment.
+/// Parses an element list and the closing parenthesis of its segment. Without an element list the
+/// error says that `expected` is accepted there.
 ///
 /// # Proved
 ///
 /// ```text
 /// ensures { ReadsAs (λ v. field_of v ∷ [])
-/// (reading.elem_list (context_of names.now) (label name.entry) (mode_of mode)
+/// (reading.elem_list expected (context_of names.now) (label name.entry) (mode_of mode)
 /// (terminals_of cursor.entry))
 /// result }
 /// ```
 fn elem_list<'p, 'a>(
     alloc: Global,
     names: &Names<'a>,
+    expected: Expected,
     name: Name<'a>,
     mode: ElemMode,
     cursor: TokenCursor<'p, 'a>,
 ) -> Result<(Field<'a>, TokenCursor<'p, 'a>), ParseFailure<'p, 'a>> {
-    let ((of, elements), rest) = elements(alloc, names, cursor)?;
-    let rest = closed(rest)?;
+    let ((of, elements), rest) = elements(alloc, names, expected, cursor)?;
+    let rest = elements_closed(cursor, rest)?;
     Ok((
         Field::Elem(Elem {
             name,
@@ -408,6 +449,41 @@ fn elem_list<'p, 'a>(
         }),
         rest,
     ))
+}
+
+/// Skips the closing parenthesis of an element segment whose element list begins at `start` and
+/// ends at `cursor`.
+///
+/// # Proved
+///
+/// ```text
+/// ensures { SkipsExactly
+/// (reading.closed_or (reading.after_elements (terminals_of start.entry))
+/// (terminals_of cursor.entry))
+/// result }
+/// ```
+fn elements_closed<'p, 'a>(
+    start: TokenCursor<'p, 'a>,
+    cursor: TokenCursor<'p, 'a>,
+) -> Result<TokenCursor<'p, 'a>, Fault<'p, 'a>> {
+    match cursor.first() {
+        Some((DecodedToken::Close, rest)) => Ok(rest),
+        _ => Err(unexpected(after_elements(start), cursor)),
+    }
+}
+
+/// Returns what the grammar accepts after an element list, which begins at `start`.
+///
+/// # Proved
+///
+/// ```text
+/// ensures { result ≡ reading.after_elements (terminals_of start.entry) }
+/// ```
+fn after_elements(start: TokenCursor<'_, '_>) -> Expected {
+    match start.first() {
+        Some((DecodedToken::Word(word), _)) if word == "func" => Expected::FunctionOrClose,
+        _ => Expected::ExpressionOrClose,
+    }
 }
 
 /// Parses function indices and the closing parenthesis of their segment.
@@ -428,7 +504,7 @@ fn functions_list<'p, 'a>(
     cursor: TokenCursor<'p, 'a>,
 ) -> Result<(Field<'a>, TokenCursor<'p, 'a>), ParseFailure<'p, 'a>> {
     let (functions, rest) = functions(alloc, names, cursor)?;
-    let rest = closed(rest)?;
+    let rest = functions_closed(cursor, rest)?;
     Ok((
         Field::Elem(Elem {
             name,
@@ -438,6 +514,41 @@ fn functions_list<'p, 'a>(
         }),
         rest,
     ))
+}
+
+/// Skips the closing parenthesis of an element segment whose function indices begin at `start` and
+/// end at `cursor`.
+///
+/// # Proved
+///
+/// ```text
+/// ensures { SkipsExactly
+/// (reading.closed_or (reading.after_functions (terminals_of start.entry))
+/// (terminals_of cursor.entry))
+/// result }
+/// ```
+fn functions_closed<'p, 'a>(
+    start: TokenCursor<'p, 'a>,
+    cursor: TokenCursor<'p, 'a>,
+) -> Result<TokenCursor<'p, 'a>, Fault<'p, 'a>> {
+    match cursor.first() {
+        Some((DecodedToken::Close, rest)) => Ok(rest),
+        _ => Err(unexpected(after_functions(start), cursor)),
+    }
+}
+
+/// Returns what the grammar accepts after function indices without `func`, which begin at `start`.
+///
+/// # Proved
+///
+/// ```text
+/// ensures { result ≡ reading.after_functions (terminals_of start.entry) }
+/// ```
+fn after_functions(start: TokenCursor<'_, '_>) -> Expected {
+    match start.first() {
+        Some((DecodedToken::Integer(_, _) | DecodedToken::Id(_), _)) => Expected::FunctionOrClose,
+        _ => Expected::ElementListOrFunction,
+    }
 }
 
 /// Parses the elements of an active segment without a table use, after its offset: an element list
@@ -459,7 +570,10 @@ fn implicit_table<'p, 'a>(
     cursor: TokenCursor<'p, 'a>,
 ) -> Result<(Field<'a>, TokenCursor<'p, 'a>), ParseFailure<'p, 'a>> {
     match cursor.first() {
-        Some((DecodedToken::Word(_), _)) => elem_list(alloc, names, name, mode, cursor),
+        Some((DecodedToken::Word(_), _)) => {
+            let expected = Expected::ElementListOrFunction;
+            elem_list(alloc, names, expected, name, mode, cursor)
+        }
         _ => functions_list(alloc, names, name, mode, cursor),
     }
 }
@@ -482,7 +596,7 @@ fn given_table<'p, 'a>(
     let (index, rest) = used("table", Space::Table, &names.tables, cursor)?;
     let (offset, rest) = expression(alloc, names, "offset", rest)?;
     let mode = ElemMode::Active(Target { index, offset });
-    elem_list(alloc, names, name, mode, rest)
+    elem_list(alloc, names, Expected::ElementList, name, mode, rest)
 }
 
 /// Parses an active element segment after its identifier. Without a table use, its table is table
@@ -554,7 +668,7 @@ fn elem_after<'p, 'a>(
         Some((DecodedToken::Open, _)) => active_elem(alloc, names, name, cursor),
         Some((DecodedToken::Word(word), rest)) => elem_word(alloc, names, name, word, cursor, rest),
         _ => Err(ParseFailure::Text(unexpected(
-            Expected::ElementList,
+            Expected::ElementSegment,
             cursor,
         ))),
     }
@@ -580,7 +694,15 @@ fn elem_word<'p, 'a>(
     cursor: TokenCursor<'p, 'a>,
 ) -> Result<(Field<'a>, TokenCursor<'p, 'a>), ParseFailure<'p, 'a>> {
     if word == "declare" {
-        return elem_list(alloc, names, name, ElemMode::Declarative, cursor);
+        let mode = ElemMode::Declarative;
+        return elem_list(alloc, names, Expected::ElementList, name, mode, cursor);
     }
-    elem_list(alloc, names, name, ElemMode::Passive, all)
+    elem_list(
+        alloc,
+        names,
+        Expected::ElementSegment,
+        name,
+        ElemMode::Passive,
+        all,
+    )
 }

@@ -94,7 +94,7 @@ fn values<'p, 'a>(
     }
 }
 
-/// Skips a closing parenthesis, which must come next.
+/// Skips a closing parenthesis, which must come next, and which alone the grammar accepts there.
 ///
 /// # Proved
 ///
@@ -104,9 +104,25 @@ fn values<'p, 'a>(
 pub(crate) fn closed<'p, 'a>(
     cursor: TokenCursor<'p, 'a>,
 ) -> Result<TokenCursor<'p, 'a>, Fault<'p, 'a>> {
+    closed_or(Expected::Close, cursor)
+}
+
+/// Skips a closing parenthesis, which must come next. Otherwise the error says that `expected` is
+/// accepted there.
+///
+/// # Proved
+///
+/// ```text
+/// ensures { SkipsExactly (reading.closed_or expected (terminals_of cursor.entry)) result }
+/// ```
+#[inline(always)]
+pub(crate) fn closed_or<'p, 'a>(
+    expected: Expected,
+    cursor: TokenCursor<'p, 'a>,
+) -> Result<TokenCursor<'p, 'a>, Fault<'p, 'a>> {
     match cursor.first() {
         Some((DecodedToken::Close, rest)) => Ok(rest),
-        _ => Err(unexpected(Expected::Close, cursor)),
+        _ => Err(unexpected(expected, cursor)),
     }
 }
 
@@ -244,7 +260,7 @@ fn next_value<'p, 'a>(
                 Ok(Some(cursor))
             }
             None => {
-                let kind = FaultKind::UnknownWord(Expected::ValueType);
+                let kind = FaultKind::UnknownWord(Expected::ValueTypeOrClose);
                 Err(ParseFailure::Text(fault(kind, left)))
             }
         },
@@ -279,7 +295,7 @@ fn group<'p, 'a>(
                 )))
             }
         }
-        _ => listed(found, cursor),
+        _ => listed(may_have_name, found, cursor),
     }
 }
 
@@ -339,21 +355,62 @@ fn named_type<'p, 'a>(
 }
 
 /// Parses a group of variables without identifiers, and appends them to `found`: types and the
-/// closing parenthesis.
+/// closing parenthesis. `may_have_name` says whether an identifier is accepted before the first
+/// type, for errors.
 ///
 /// # Proved
 ///
 /// ```text
 /// ensures { MatchResult result
-/// (λ l. IsItem (Some (reading.listed (terminals_of cursor.entry)))
+/// (λ l. IsItem (Some (reading.listed may_have_name (terminals_of cursor.entry)))
 /// found.old found.new (terminals_of l))
-/// (λ e. Faults (reading.listed (terminals_of cursor.entry)) e) }
+/// (λ e. Faults (reading.listed may_have_name (terminals_of cursor.entry)) e) }
 /// ```
 fn listed<'p, 'a>(
+    may_have_name: bool,
     found: &mut Variables<'a>,
     cursor: TokenCursor<'p, 'a>,
 ) -> Result<TokenCursor<'p, 'a>, ParseFailure<'p, 'a>> {
     let rest = values(found, cursor)?;
-    let rest = closed(rest)?;
+    let rest = values_closed(may_have_name, cursor, rest)?;
     Ok(rest)
+}
+
+/// Skips the closing parenthesis of a group whose value types begin at `start` and end at `cursor`.
+///
+/// # Proved
+///
+/// ```text
+/// ensures { SkipsExactly
+/// (reading.closed_or (reading.after_values may_have_name (terminals_of start.entry))
+/// (terminals_of cursor.entry))
+/// result }
+/// ```
+fn values_closed<'p, 'a>(
+    may_have_name: bool,
+    start: TokenCursor<'p, 'a>,
+    cursor: TokenCursor<'p, 'a>,
+) -> Result<TokenCursor<'p, 'a>, Fault<'p, 'a>> {
+    match cursor.first() {
+        Some((DecodedToken::Close, rest)) => Ok(rest),
+        _ => Err(unexpected(after_values(may_have_name, start), cursor)),
+    }
+}
+
+/// Returns what the grammar accepts after the value types of a group, which begin at `start`. An
+/// identifier is accepted before the first one if `may_have_name` is `true`.
+///
+/// # Proved
+///
+/// ```text
+/// ensures { result ≡ reading.after_values may_have_name (terminals_of start.entry) }
+/// ```
+fn after_values(may_have_name: bool, start: TokenCursor<'_, '_>) -> Expected {
+    if !may_have_name {
+        return Expected::ValueTypeOrClose;
+    }
+    match start.first() {
+        Some((DecodedToken::Word(_), _)) => Expected::ValueTypeOrClose,
+        _ => Expected::VariableOrClose,
+    }
 }

@@ -5,10 +5,10 @@ use wat_lex::shim::prelude::*;
 use crate::parser::header::{closed, utf8_text};
 use crate::parser::names::Names;
 use crate::parser::places::duplicate_variable;
-use crate::parser::types::{global_type, limits, skip_two_closes, space_of, table_type};
-use crate::parser::uses::type_use;
+use crate::parser::types::{after_memory_limits, global_type, limits, space_of, table_type};
+use crate::parser::uses::{after_use, type_use};
 use crate::parser::variables::{NamedUse, are_parameters_distinct, without_names};
-use wat_lex::shim::alloc::Global;
+use wat_lex::shim::alloc::{AllocError, Global};
 use crate::ast::error::{Expected, Fault, ParseFailure};
 use crate::ast::fields::{ExternType, Field, Import, IndexSpace};
 use crate::instructions::faults::unexpected;
@@ -52,15 +52,15 @@ fn extern_type<'p, 'a>(
             func_type(alloc, uses, cursor, rest)
         }
         IndexSpace::Table => {
-            let (of, rest) = table_type(cursor)?;
+            let (of, rest) = table_type(Expected::Limits, cursor)?;
             Ok((ExternType::Table(of), rest))
         }
         IndexSpace::Mem => {
-            let (limits, rest) = limits(cursor)?;
+            let (limits, rest) = limits(Expected::Limits, cursor)?;
             Ok((ExternType::Memory(limits), rest))
         }
         IndexSpace::Global => {
-            let (of, rest) = global_type(cursor)?;
+            let (of, rest) = global_type(Expected::GlobalType, cursor)?;
             Ok((ExternType::Global(of), rest))
         }
     }
@@ -108,9 +108,9 @@ pub(crate) fn inline_import<'p, 'a>(
     cursor: TokenCursor<'p, 'a>,
 ) -> Result<(Field<'a>, TokenCursor<'p, 'a>), ParseFailure<'p, 'a>> {
     let ((from, item), rest) = import_names(cursor)?;
-    let rest = closed(rest)?;
-    let (what, rest) = extern_type(alloc, names, space, rest)?;
-    let rest = closed(rest)?;
+    let start = closed(rest)?;
+    let (what, rest) = extern_type(alloc, names, space, start)?;
+    let rest = extern_closed(alloc, &what, start, rest)?;
     Ok((
         Field::Import(Import {
             from,
@@ -210,9 +210,10 @@ fn import_item<'p, 'a>(
     space: IndexSpace,
     cursor: TokenCursor<'p, 'a>,
 ) -> Result<(Field<'a>, TokenCursor<'p, 'a>), ParseFailure<'p, 'a>> {
-    let (name, rest) = reading::label(cursor);
-    let (what, rest) = extern_type(alloc, names, space, rest)?;
-    let rest = skip_two_closes(rest)?;
+    let (name, start) = reading::label(cursor);
+    let (what, rest) = extern_type(alloc, names, space, start)?;
+    let rest = extern_closed(alloc, &what, start, rest)?;
+    let rest = closed(rest)?;
     let exports = Vec::new(alloc);
     Ok((
         Field::Import(Import {
@@ -224,4 +225,51 @@ fn import_item<'p, 'a>(
         }),
         rest,
     ))
+}
+
+/// Skips the closing parenthesis after an import description, which begins at `start` after its
+/// identifier and ends at `cursor`.
+///
+/// # Proved
+///
+/// ```text
+/// ensures { SkipsAs
+/// (reading.closed_or (reading.after_extern (extern_of what.now) (terminals_of start.entry))
+/// (terminals_of cursor.entry))
+/// result }
+/// ```
+fn extern_closed<'p, 'a>(
+    alloc: Global,
+    what: &ExternType,
+    start: TokenCursor<'p, 'a>,
+    cursor: TokenCursor<'p, 'a>,
+) -> Result<TokenCursor<'p, 'a>, ParseFailure<'p, 'a>> {
+    match cursor.first() {
+        Some((DecodedToken::Close, rest)) => Ok(rest),
+        _ => {
+            let expected = after_extern(alloc, what, start)?;
+            Err(ParseFailure::Text(unexpected(expected, cursor)))
+        }
+    }
+}
+
+/// Returns what the grammar accepts after an import description, which begins at `start` after its
+/// identifier.
+///
+/// # Proved
+///
+/// ```text
+/// ensures { IfOk result
+/// (λ e. e ≡ reading.after_extern (extern_of what.now) (terminals_of start.entry)) }
+/// ```
+fn after_extern<'p, 'a>(
+    alloc: Global,
+    what: &ExternType,
+    start: TokenCursor<'p, 'a>,
+) -> Result<Expected, AllocError> {
+    match what {
+        ExternType::Func(_) => after_use(alloc, start),
+        ExternType::Memory(limits) => Ok(after_memory_limits(limits.max)),
+        ExternType::Table(_) | ExternType::Global(_) => Ok(Expected::Close),
+    }
 }

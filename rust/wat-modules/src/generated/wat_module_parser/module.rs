@@ -569,7 +569,7 @@ fn global<'p, 'a>(
     exports: Vec<&'a [u8]>,
     cursor: TokenCursor<'p, 'a>,
 ) -> Result<(Field<'a>, TokenCursor<'p, 'a>), ParseFailure<'p, 'a>> {
-    let (of, rest) = global_type(cursor)?;
+    let (of, rest) = global_type(Expected::GlobalDefinition, cursor)?;
     let locals = IndexedNames::none(alloc);
     let scope = scope(names, &locals);
     let (first, rest) = machine::instructions(alloc, &scope, rest)?;

@@ -4,10 +4,10 @@
 
 use wat_lex::shim::prelude::*;
 use crate::parser::elements::elem_at;
-use crate::parser::header::closed;
+use crate::parser::header::{closed, closed_or};
 use crate::parser::module::scope;
 use crate::parser::names::Names;
-use crate::parser::types::{limits, skip_two_closes};
+use crate::parser::types::{after_memory_limits, limits, skip_two_closes_or};
 use wat_lex::shim::alloc::{AllocError, Global};
 use crate::ast::error::{Expected, Fault, FaultKind, ParseFailure, Range, Space};
 use crate::ast::fields::{Data, Field, Limits, Memory, Target, len_of};
@@ -113,8 +113,8 @@ fn memory_type<'p, 'a>(
     exports: Vec<&'a [u8]>,
     cursor: TokenCursor<'p, 'a>,
 ) -> Result<(Field<'a>, TokenCursor<'p, 'a>), Fault<'p, 'a>> {
-    let (limits, rest) = limits(cursor)?;
-    let rest = closed(rest)?;
+    let (limits, rest) = limits(Expected::MemoryDefinition, cursor)?;
+    let rest = closed_or(after_memory_limits(limits.max), rest)?;
     Ok((
         Field::Memory(Memory {
             name,
@@ -143,7 +143,7 @@ fn memory_data<'p, 'a>(
     cursor: TokenCursor<'p, 'a>,
 ) -> Result<(Field<'a>, TokenCursor<'p, 'a>), ParseFailure<'p, 'a>> {
     let (strings, rest) = strings(alloc, cursor)?;
-    let rest = skip_two_closes(rest)?;
+    let rest = skip_two_closes_or(Expected::TextOrClose, rest)?;
     memory_of(name, exports, cursor, strings, rest)
 }
 
@@ -373,7 +373,7 @@ fn data_strings<'p, 'a>(
     cursor: TokenCursor<'p, 'a>,
 ) -> Result<(Field<'a>, TokenCursor<'p, 'a>), ParseFailure<'p, 'a>> {
     let (strings, rest) = strings(alloc, cursor)?;
-    let rest = closed(rest)?;
+    let rest = strings_closed(&target, cursor, rest)?;
     Ok((
         Field::Data(Data {
             name,
@@ -382,4 +382,43 @@ fn data_strings<'p, 'a>(
         }),
         rest,
     ))
+}
+
+/// Skips the closing parenthesis of a data segment whose strings begin at `start` and end at
+/// `cursor`.
+///
+/// # Proved
+///
+/// ```text
+/// ensures { SkipsExactly
+/// (reading.closed_or (reading.after_strings (target_of target.now) (terminals_of start.entry))
+/// (terminals_of cursor.entry))
+/// result }
+/// ```
+fn strings_closed<'p, 'a>(
+    target: &Option<Target>,
+    start: TokenCursor<'p, 'a>,
+    cursor: TokenCursor<'p, 'a>,
+) -> Result<TokenCursor<'p, 'a>, Fault<'p, 'a>> {
+    match cursor.first() {
+        Some((DecodedToken::Close, rest)) => Ok(rest),
+        _ => Err(unexpected(after_strings(target, start), cursor)),
+    }
+}
+
+/// Returns what the grammar accepts after the strings of a data segment, which begin at `start`.
+///
+/// # Proved
+///
+/// ```text
+/// ensures { result ≡ reading.after_strings (target_of target.now) (terminals_of start.entry) }
+/// ```
+fn after_strings(target: &Option<Target>, start: TokenCursor<'_, '_>) -> Expected {
+    match target {
+        Some(_) => Expected::TextOrClose,
+        None => match start.first() {
+            Some((DecodedToken::Text(_), _)) => Expected::TextOrClose,
+            _ => Expected::DataSegment,
+        },
+    }
 }

@@ -2,7 +2,7 @@
 //! Parses limits, the types of tables and globals, and the keywords of index spaces.
 
 use wat_lex::shim::prelude::*;
-use crate::parser::header::closed;
+use crate::parser::header::{closed, closed_or};
 use crate::ast::error::{Expected, Fault, FaultKind, Range, Space};
 use crate::ast::fields::{GlobalType, IndexSpace, Limits, TableType};
 use crate::ast::instruction::{ReferenceType, ValueType};
@@ -62,14 +62,17 @@ fn small<'p, 'a>(
     }
 }
 
-/// Parses limits: a minimum, and a maximum if an integer comes next.
+/// Parses limits: a minimum, and a maximum if an integer comes next. Without a minimum the error
+/// says that `expected` is accepted there.
 ///
 /// # Proved
 ///
 /// ```text
-/// ensures { ReadsExactly (λ v. v) (reading.limits_at (terminals_of cursor.entry)) result }
+/// ensures { ReadsExactly (λ v. v) (reading.limits_at expected (terminals_of cursor.entry))
+/// result }
 /// ```
 pub(crate) fn limits<'p, 'a>(
+    expected: Expected,
     cursor: TokenCursor<'p, 'a>,
 ) -> Result<(Limits, TokenCursor<'p, 'a>), Fault<'p, 'a>> {
     match cursor.first() {
@@ -77,7 +80,7 @@ pub(crate) fn limits<'p, 'a>(
             let (min, rest) = small(sign, n, cursor, rest)?;
             maximum(min, rest)
         }
-        _ => Err(unexpected(Expected::Limits, cursor)),
+        _ => Err(unexpected(expected, cursor)),
     }
 }
 
@@ -102,51 +105,88 @@ fn maximum<'p, 'a>(
     }
 }
 
-/// Parses the type of a table: its limits and the reference type of its elements.
+/// Returns what the grammar accepts after the limits of a memory with this maximum.
 ///
 /// # Proved
 ///
 /// ```text
-/// ensures { ReadsExactly (λ v. v) (reading.table_type_at (terminals_of cursor.entry)) result }
+/// ensures { result ≡ reading.after_memory_limits max }
+/// ```
+pub(crate) fn after_memory_limits(max: Option<u32>) -> Expected {
+    match max {
+        None => Expected::MaximumOrClose,
+        Some(_) => Expected::Close,
+    }
+}
+
+/// Returns what the grammar accepts after the limits of a table with this maximum.
+///
+/// # Proved
+///
+/// ```text
+/// ensures { result ≡ reading.after_table_limits max }
+/// ```
+fn after_table_limits(max: Option<u32>) -> Expected {
+    match max {
+        None => Expected::MaximumOrReferenceType,
+        Some(_) => Expected::ReferenceType,
+    }
+}
+
+/// Parses the type of a table: its limits and the reference type of its elements. Without limits
+/// the error says that `expected` is accepted there.
+///
+/// # Proved
+///
+/// ```text
+/// ensures { ReadsExactly (λ v. v) (reading.table_type_at expected (terminals_of cursor.entry))
+/// result }
 /// ```
 pub(crate) fn table_type<'p, 'a>(
+    expected: Expected,
     cursor: TokenCursor<'p, 'a>,
 ) -> Result<(TableType, TokenCursor<'p, 'a>), Fault<'p, 'a>> {
-    let (limits, rest) = limits(cursor)?;
-    let (element, rest) = reference_type(rest)?;
+    let (limits, rest) = limits(expected, cursor)?;
+    let (element, rest) = reference_type(limits.max, rest)?;
     Ok((TableType { limits, element }, rest))
 }
 
-/// Parses a reference type.
+/// Parses a reference type after the limits of a table with this maximum.
 ///
 /// # Proved
 ///
 /// ```text
-/// ensures { ReadsExactly (λ v. v) (reading.reference_at (terminals_of cursor.entry)) result }
+/// ensures { ReadsExactly (λ v. v)
+/// (reading.reference_at (reading.after_table_limits max) (terminals_of cursor.entry))
+/// result }
 /// ```
 fn reference_type<'p, 'a>(
+    max: Option<u32>,
     cursor: TokenCursor<'p, 'a>,
 ) -> Result<(ReferenceType, TokenCursor<'p, 'a>), Fault<'p, 'a>> {
     match cursor.first() {
         Some((DecodedToken::Word(word), rest)) => match reading::reference_type(word) {
             Some(of) => Ok((of, rest)),
             None => Err(fault(
-                FaultKind::UnknownWord(Expected::ReferenceType),
+                FaultKind::UnknownWord(after_table_limits(max)),
                 cursor,
             )),
         },
-        _ => Err(unexpected(Expected::ReferenceType, cursor)),
+        _ => Err(unexpected(after_table_limits(max), cursor)),
     }
 }
 
 /// Parses the type of a global: a value type, which `(mut )` encloses if the global is mutable.
+/// Without one the error says that `expected` is accepted there.
 ///
 /// # Proved
 ///
 /// ```text
-/// ensures { ReadsExactly (λ v. v) (reading.global_type_at (terminals_of cursor.entry)) result }
+/// ensures { ReadsExactly (λ v. v) (reading.global_type_at expected (terminals_of cursor.entry))
+/// result }
 /// ```
 pub(crate) fn global_type<'p, 'a>(
+    expected: Expected,
     cursor: TokenCursor<'p, 'a>,
 ) -> Result<(GlobalType, TokenCursor<'p, 'a>), Fault<'p, 'a>> {
     match cursor.first() {
@@ -155,10 +195,10 @@ pub(crate) fn global_type<'p, 'a>(
                 let is_mutable = false;
                 Ok((GlobalType { is_mutable, value }, rest))
             }
-            None => Err(fault(FaultKind::UnknownWord(Expected::ValueType), cursor)),
+            None => Err(fault(FaultKind::UnknownWord(expected), cursor)),
         },
         Some((DecodedToken::Open, rest)) => mutable(rest),
-        _ => Err(unexpected(Expected::GlobalType, cursor)),
+        _ => Err(unexpected(expected, cursor)),
     }
 }
 
@@ -227,7 +267,7 @@ fn closing_mutable<'p, 'a>(
     ))
 }
 
-/// Skips two closing parentheses, which must come next.
+/// Skips two closing parentheses, which must come next, and which alone the grammar accepts there.
 ///
 /// # Proved
 ///
@@ -237,8 +277,23 @@ fn closing_mutable<'p, 'a>(
 pub(crate) fn skip_two_closes<'p, 'a>(
     cursor: TokenCursor<'p, 'a>,
 ) -> Result<TokenCursor<'p, 'a>, Fault<'p, 'a>> {
-    match cursor.first() {
-        Some((DecodedToken::Close, rest)) => closed(rest),
-        _ => Err(unexpected(Expected::Close, cursor)),
-    }
+    skip_two_closes_or(Expected::Close, cursor)
+}
+
+/// Skips two closing parentheses, which must come next. Without the first the error says that
+/// `expected` is accepted there.
+///
+/// # Proved
+///
+/// ```text
+/// ensures { SkipsExactly (reading.skip_two_closes_or expected (terminals_of cursor.entry))
+/// result }
+/// ```
+#[inline(always)]
+pub(crate) fn skip_two_closes_or<'p, 'a>(
+    expected: Expected,
+    cursor: TokenCursor<'p, 'a>,
+) -> Result<TokenCursor<'p, 'a>, Fault<'p, 'a>> {
+    let rest = closed_or(expected, cursor)?;
+    closed(rest)
 }

@@ -4,16 +4,15 @@
 use wat_lex::shim::prelude::*;
 use crate::parser::header::{closed, variables};
 use crate::parser::names::Names;
-use crate::parser::types::skip_two_closes;
 use crate::parser::variables::{ListedUse, NamedUse, Variables, function_type, into_function_type};
-use wat_lex::shim::alloc::Global;
-use crate::ast::error::{Expected, FaultKind, ParseFailure, Space};
+use wat_lex::shim::alloc::{AllocError, Global};
+use crate::ast::error::{Expected, Fault, FaultKind, ParseFailure, Space};
 use crate::ast::fields::Definition;
 use crate::ast::types::{FunctionType, same_type, type_at_index};
 use crate::instructions::faults::{fault, unexpected};
 use crate::instructions::reading::{self, after};
 use crate::tokens::stream::TokenCursor;
-use crate::tokens::token::Name;
+use crate::tokens::token::{DecodedToken, Name};
 
 /// Parses a type use: `(type index)`, if it comes next, and then parameters and results.
 ///
@@ -215,9 +214,97 @@ fn type_lists<'p, 'a>(
     name: Name<'a>,
     cursor: TokenCursor<'p, 'a>,
 ) -> Result<(Definition<'a>, TokenCursor<'p, 'a>), ParseFailure<'p, 'a>> {
-    let (params, rest) = variables(alloc, "param", true, cursor)?;
-    let (results, rest) = variables(alloc, "result", false, rest)?;
-    let rest = skip_two_closes(rest)?;
+    let (params, start) = variables(alloc, "param", true, cursor)?;
+    let (results, rest) = variables(alloc, "result", false, start)?;
+    let rest = results_closed(start, rest)?;
     let of = into_function_type(params, results);
     Ok((Definition { name, of }, rest))
+}
+
+/// Skips the closing parentheses of a function type and of its field. The results begin at `start`
+/// and end at `cursor`.
+///
+/// # Proved
+///
+/// ```text
+/// ensures { SkipsExactly
+/// (reading.skip_two_closes_or (reading.after_results (terminals_of start.entry))
+/// (terminals_of cursor.entry))
+/// result }
+/// ```
+fn results_closed<'p, 'a>(
+    start: TokenCursor<'p, 'a>,
+    cursor: TokenCursor<'p, 'a>,
+) -> Result<TokenCursor<'p, 'a>, Fault<'p, 'a>> {
+    match cursor.first() {
+        Some((DecodedToken::Close, rest)) => closed(rest),
+        _ => Err(unexpected(after_results(start), cursor)),
+    }
+}
+
+/// Returns what the grammar accepts after the results of a function type, which begin at `start`.
+///
+/// # Proved
+///
+/// ```text
+/// ensures { result ≡ reading.after_results (terminals_of start.entry) }
+/// ```
+fn after_results(start: TokenCursor<'_, '_>) -> Expected {
+    match after("result", start) {
+        Some(_) => Expected::ResultOrClose,
+        None => Expected::ParamOrResultOrClose,
+    }
+}
+
+/// Returns what the grammar accepts after a type use, which begins at `start`.
+///
+/// # Proved
+///
+/// ```text
+/// ensures { IfOk result (λ e. e ≡ reading.after_use (terminals_of start.entry)) }
+/// ```
+pub(crate) fn after_use<'p, 'a>(
+    alloc: Global,
+    start: TokenCursor<'p, 'a>,
+) -> Result<Expected, AllocError> {
+    if let Some(rest) = after("type", start) {
+        return after_lists(alloc, after_index(rest));
+    }
+    if after("param", start).is_none() && after("result", start).is_none() {
+        return Ok(Expected::TypeUseOrClose);
+    }
+    after_lists(alloc, start)
+}
+
+/// Returns the tokens after an index and the closing parenthesis of its group.
+///
+/// # Proved
+///
+/// ```text
+/// ensures { terminals_of result ≡ reading.after_index (terminals_of cursor.entry) }
+/// ```
+fn after_index<'p, 'a>(cursor: TokenCursor<'p, 'a>) -> TokenCursor<'p, 'a> {
+    match cursor.first() {
+        Some((_, close)) => match close.first() {
+            Some((DecodedToken::Close, rest)) => rest,
+            _ => cursor,
+        },
+        None => cursor,
+    }
+}
+
+/// Returns what the grammar accepts after parameters and results, which begin at `start`.
+///
+/// # Proved
+///
+/// ```text
+/// ensures { IfOk result
+/// (λ e. e ≡ reading.after_params (reading.params (terminals_of start.entry))) }
+/// ```
+fn after_lists<'p, 'a>(alloc: Global, start: TokenCursor<'p, 'a>) -> Result<Expected, AllocError> {
+    match variables(alloc, "param", true, start) {
+        Ok((_, rest)) => Ok(after_results(rest)),
+        Err(ParseFailure::Text(_)) => Ok(Expected::ParamOrResultOrClose),
+        Err(ParseFailure::Memory(error)) => Err(error),
+    }
 }
