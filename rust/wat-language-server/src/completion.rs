@@ -95,7 +95,9 @@ fn candidates(mut analysis: Analysis, at: usize) -> Vec<(String, u8)> {
         name.is_some_and(|name| seen.insert(name))
     });
     let identifier = |space, selection| (syntax.source(selection).to_owned(), kind_of(space));
-    let mut found: Vec<_> = visible.map(|it| identifier(it.space, it.selection)).collect();
+    let mut found: Vec<_> = visible
+        .map(|it| identifier(it.space, it.selection))
+        .collect();
     if is_required {
         return found;
     }

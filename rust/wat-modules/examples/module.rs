@@ -24,7 +24,9 @@ fn run() -> Result<(), Box<dyn Error>> {
     let no_names = arguments.next_if(|argument| argument == "--no-names");
     let validate = arguments.next_if(|argument| argument == "--validate");
     let mut parser = Parser::new();
-    parser.names(no_names.is_none()).validate(validate.is_some());
+    parser
+        .names(no_names.is_none())
+        .validate(validate.is_some());
     let module = module_of(&parser, arguments.next().as_deref())?;
     io::stdout().write_all(&module)?;
     Ok(())
