@@ -100,6 +100,13 @@ REQUESTS = [
         "a byte for each function of the module",
     ),
     (
+        "wat_valid/src/messages.rt",
+        "listed",
+        'words.join(alloc, " ")',
+        "let all =",
+        "at most 9 words, the names of types",
+    ),
+    (
         "wat_module_parser/src/variables.rt",
         "value_types",
         "Vec::with_capacity(alloc, types.len())",
