@@ -1,5 +1,5 @@
 -- Steps of the loops that find a label, and the frames before an error.
-use Rattle.std.proofs.Common.{◌≡◌, ◌∙◌, ◌<◌, ◌+◌, ℕ, suc, Bool, true, false, List, [], ◌∷◌, Option, Some, None, length, take, drop, drop-cons, get_or, refl, sym, ap}
+use Rattle.std.proofs.Common.{◌≡◌, ◌∙◌, ◌<◌, ℕ, suc, Bool, true, false, List, [], ◌∷◌, Option, Some, None, length, take, drop, drop-cons, get_or, refl, sym, ap}
 use Rattle.std.specs.Prelude.{if◌then◌else◌, is_some}
 use Rattle.wat_module_ast.specs.declared.error.Space.TheVariants as space
 use Rattle.wat_module_ast.specs.declared.instruction.Instruction.{Instruction}

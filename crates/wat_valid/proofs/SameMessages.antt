@@ -1,8 +1,7 @@
 -- Messages in a context of the code are those in the context of the module that it represents.
-use Rattle.std.proofs.Common.{◌≡◌, ◌∙◌, ℕ, Bool, List, [], ◌∷◌, Option, Some, None, take, drop, refl, ap, sym, subst}
+use Rattle.std.proofs.Common.{◌≡◌, ◌∙◌, ℕ, Bool, List, [], ◌∷◌, Option, Some, None, take, drop, refl, ap}
 use Rattle.std.specs.Option.{option_map}
 use Rattle.std.specs.Prelude.{◌&&◌, if◌then◌else◌, slice_get}
-use Rattle.wat_module_ast.specs.Branches.{Branches}
 use Rattle.wat_module_ast.specs.declared.error.Space.{Space}
 use Rattle.wat_module_ast.specs.declared.error.Space.TheVariants as space
 use Rattle.wat_module_ast.specs.declared.instruction.Argument.{Argument}
@@ -16,12 +15,12 @@ use Rattle.wat_module_ast.specs.Types.{FunctionType, TypeUse, Indexed, Inline}
 use Rattle.wat_valid.specs.declared.untyped.Untyped.{Untyped}
 use Rattle.wat_valid.specs.declared.untyped.Untyped.TheVariants as untyped
 use Rattle.wat_valid.specs.Algorithm.{Effect, Else, End, Enter, Frame, None_of_them, Structure, body_frame, is_if, labels_of, run, structure_of}
-use Rattle.wat_valid.specs.BodyMessages.{body_message, field_message, frames_message, function_message, in_context, instruction_message, is_end, of_type, reason_text, untyped_message, without_else}
+use Rattle.wat_valid.specs.BodyMessages.{body_message, field_message, frames_message, in_context, instruction_message, is_end, of_type, reason_text, without_else}
 use Rattle.wat_valid.specs.ContextViews.{Represents}
 use Rattle.wat_valid.specs.Contexts.{Context, Labels, use_type}
 use Rattle.wat_valid.specs.Modules.{context_of, function_context}
-use Rattle.wat_valid.specs.Untyped.{exists, index_reason, index_space, known_reason, labels_reason, pair_reason, prefixed_pair_reason, reason, unless_unknown, use_reason}
-use Rattle.wat_valid.specs.Wants.{Wants, wants, wants_by, wants_of}
+use Rattle.wat_valid.specs.Untyped.{exists, index_reason, index_space, known_reason, labels_reason, prefixed_pair_reason, reason, unless_unknown, use_reason}
+use Rattle.wat_valid.specs.Wants.{Wants, wants_by, wants_of}
 use Rattle.wat_valid.proofs.Represented.{SameRefs, effect_as, refer, run_as}
 
 -- reasons

@@ -10,7 +10,7 @@ use Rattle.wat_module_ast.specs.declared.instruction.Argument.{Argument}
 use Rattle.wat_module_ast.specs.declared.instruction.Argument.TheVariants as argument
 use Rattle.wat_module_ast.specs.declared.instruction.Instruction.{Instruction}
 use Rattle.wat_module_ast.specs.declared.instruction.Opcode.{Opcode}
-use Rattle.wat_module_ast.specs.declared.instruction.Opcode.TheVariants.{Byte, Prefixed}
+use Rattle.wat_module_ast.specs.declared.instruction.Opcode.TheVariants.{Byte}
 use Rattle.wat_module_ast.specs.declared.instruction.ReferenceType.{ReferenceType}
 use Rattle.wat_module_ast.specs.declared.instruction.ReferenceType.TheVariants as reference
 use Rattle.wat_module_ast.specs.declared.instruction.ValueType.{ValueType}
@@ -79,7 +79,7 @@ wants_text TwoNumbers = codes "[t t i32] with a number or vector type t"
 wants_text AReference = codes "a reference"
 wants_text LabelTypes = codes "the types of its labels"
 
--- The number of operands that are listed beside it.
+-- The number of operands that are listed with it.
 abbrev pub at_most : ℕ → ℕ → ℕ
 at_most m n = if nat_lt n m then n else m
 

@@ -1,7 +1,7 @@
 -- WebAssembly 2.0, 3.3: why an instruction has no type in its context, whatever the operands are. The standard does not define
 -- such reasons. The first is an index that does not exist. If all exist, the reason is one that is left: `reason` assumes
 -- that there is one.
-use Rattle.std.specs.Prelude.{ℕ, Bool, List, [], ◌∷◌, Option, Some, None, if◌then◌else◌, is_some, length, nat_lt, slice_get, ◌==◌, ◌||◌}
+use Rattle.std.specs.Prelude.{ℕ, Bool, List, [], ◌∷◌, Option, Some, None, if◌then◌else◌, is_some, length, nat_lt, slice_get, ◌==◌}
 use Rattle.wat_module_ast.specs.declared.error.Space.{Space}
 use Rattle.wat_module_ast.specs.declared.error.Space.TheVariants as space
 use Rattle.wat_module_ast.specs.declared.instruction.Argument.{Argument}
@@ -50,7 +50,7 @@ byte_space b =
     if b == 0x26 then Some space.Table else
     if b == 0xD2 then Some space.Func else None
 
--- The same after the prefix 0xFC.
+-- The index space for an instruction after the prefix 0xFC.
 abbrev pub bulk_space : ℕ → Option Space
 bulk_space n =
     if n == 9 then Some space.Data else

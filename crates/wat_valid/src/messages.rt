@@ -215,7 +215,7 @@ fn at_most(count: usize) -> usize
     }
 }
 
-/// Returns the number of operands that are listed beside what an instruction takes.
+/// Returns the number of operands that are listed with what an instruction takes.
 fn wanted_count(wanted: Wanted<'_>) -> usize
     ensures { result ≡ messages.wants_count (wants_view wanted.entry) }
 {
@@ -229,7 +229,7 @@ fn wanted_count(wanted: Wanted<'_>) -> usize
     }
 }
 
-/// Returns what an instruction takes beside the last `most` operands that are there.
+/// Returns what an instruction takes, and the last `most` operands that are there.
 fn comparison(
     alloc: Global,
     wanted: Wanted<'_>,

@@ -86,7 +86,8 @@ pub fn reason(
 
 /// Returns `true` if an index space has an item with this index.
 fn exists(context: &BodyContext<'_>, labels: &[&[ValueType]], space: Space, index: usize) -> bool
-    ensures { result ≡ reasons.exists (body_context context.now) (labels_in labels.now) space index }
+    ensures { result ≡ reasons.exists (body_context context.now) (labels_in labels.now)
+        space index }
 {
     let module = &context.module;
     match space {

@@ -1,4 +1,4 @@
-use Rattle.std.proofs.Common.{◌≡◌, IfOk, List, string_bytes, subst}
+use Rattle.std.proofs.Common.{◌≡◌, IfOk, string_bytes, subst}
 use Rattle.std.specs.Option.{option_map}
 use Rattle.wat_module_ast.specs.Views.{field_of, fields_of}
 use Rattle.wat_valid.specs.ContextViews.{context_of, full_context}

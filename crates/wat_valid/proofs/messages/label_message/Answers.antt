@@ -1,6 +1,5 @@
-use Rattle.std.proofs.Common.{◌≡◌, IfOk, List, string_bytes, subst, sym}
+use Rattle.std.proofs.Common.{◌≡◌, IfOk, string_bytes, subst, sym}
 use Rattle.wat_module_ast.specs.declared.instruction.Argument.{Argument}
-use Rattle.wat_module_ast.specs.declared.instruction.ValueType.{ValueType}
 use Rattle.wat_valid.specs.BodyMessages as messages
 use Rattle.wat_valid.specs.Views.{labels_in, operands_of}
 use Rattle.wat_valid.proofs.messages.label_message.Goals as goal

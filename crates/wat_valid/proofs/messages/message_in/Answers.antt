@@ -1,4 +1,4 @@
-use Rattle.std.proofs.Common.{◌≡◌, IfOk, List, string_bytes, subst}
+use Rattle.std.proofs.Common.{◌≡◌, IfOk, string_bytes, subst}
 use Rattle.wat_valid.specs.ContextViews.{body_context}
 use Rattle.wat_valid.proofs.LabelSteps.{stopped_message}
 use Rattle.wat_valid.proofs.Situations.{missing}

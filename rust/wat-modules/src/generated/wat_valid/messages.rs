@@ -265,7 +265,7 @@ fn at_most(count: usize) -> usize {
     }
 }
 
-/// Returns the number of operands that are listed beside what an instruction takes.
+/// Returns the number of operands that are listed with what an instruction takes.
 ///
 /// # Proved
 ///
@@ -283,7 +283,7 @@ fn wanted_count(wanted: Wanted<'_>) -> usize {
     }
 }
 
-/// Returns what an instruction takes beside the last `most` operands that are there.
+/// Returns what an instruction takes, and the last `most` operands that are there.
 ///
 /// # Proved
 ///

@@ -88,7 +88,8 @@ pub fn reason(
 /// # Proved
 ///
 /// ```text
-/// ensures { result ≡ reasons.exists (body_context context.now) (labels_in labels.now) space index }
+/// ensures { result ≡ reasons.exists (body_context context.now) (labels_in labels.now)
+/// space index }
 /// ```
 fn exists(context: &BodyContext<'_>, labels: &[&[ValueType]], space: Space, index: usize) -> bool {
     let module = &context.module;
