@@ -405,7 +405,7 @@ async function modules() {
   const invalid = '(func (; \u{1f600} ;) drop)', { stdout } = compiledBy(invalid);
   assert.equal((await type(invalid)).bytes?.replaceAll(' ', ''), stdout.toString('hex'));
   const { said, go, mark } = await ask(COMPILED);
-  assert.deepEqual([said, go, mark], [`The text is a module that is not valid, whose binary form has ${stdout.length} bytes.`, 'Line 1, column 16: instruction 0 of function 0 is not valid', [17, 'drop', '']]);
+  assert.deepEqual([said, go, mark], [`The text is a module that is not valid, whose binary form has ${stdout.length} bytes.`, 'Line 1, column 16: type mismatch: expected an operand, found []', [17, 'drop', '']]);
   await type(`(module\n${'\n'.repeat(100)} frob)`);
   await press('#module-go');
   assert.deepEqual(await ask("[document.activeElement.id, document.querySelector('#text').selectionStart, document.querySelector('#text').scrollTop > 0]"), ['text', 109, true]);

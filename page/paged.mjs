@@ -551,9 +551,9 @@ function rejectedTexts() {
 // Modules that are not valid: their marks and reports, as for errors of the compiler, and their bytes.
 function invalidTexts() {
   for (const [text, mark, line, column, message, size] of [
-    ['(func\n  drop)', 'Keyword rejected 8 drop', 2, 3, 'instruction 0 of function 0 is not valid', 25],
-    ['(func (block (result i32))\n(drop))', 'RParen rejected 25 )', 1, 26, 'instruction 1 of function 0 is not valid', 28],
-    ['(func)\n(func (result i64))', 'Keyword rejected 8 func', 2, 2, 'type mismatch at the end of function 1', 32],
+    ['(func\n  drop)', 'Keyword rejected 8 drop', 2, 3, 'type mismatch: expected an operand, found []', 25],
+    ['(func (block (result i32))\n(drop))', 'RParen rejected 25 )', 1, 26, 'type mismatch: expected [i32], found []', 28],
+    ['(func)\n(func (result i64))', 'Keyword rejected 8 func', 2, 2, 'type mismatch at the end of function 1: expected [i64], found []', 32],
     ['(memory 1) (memory 1)', 'Keyword rejected 12 memory', 1, 13, 'more than one memory', 15],
   ]) {
     type(text, 1);

@@ -562,8 +562,8 @@ function compiledTexts() {
 // Texts of modules, and the error of those that are not valid: its offset and its message.
 const VALIDATED = [
   ['(func nop)', null],
-  ['(func)\n(func (result i32) (i32.add (i32.const 1) (local.get 0)))', [50, 'instruction 1 of function 1 is not valid']],
-  ['(func (result f32))', [1, 'type mismatch at the end of function 0']],
+  ['(func)\n(func (result i32) (i32.add (i32.const 1) (local.get 0)))', [50, 'unknown local `0`']],
+  ['(func (result f32))', [1, 'type mismatch at the end of function 0: expected [f32], found []']],
   ['(memory 1) (export "a" (memory 0)) (export "a" (memory 0))', [36, 'duplicate export name']],
 ];
 
@@ -629,7 +629,7 @@ function compiledDocuments() {
   assert.deepEqual([it.compile(), it.compile({}), wat.compile(it.text), wat.compile('(func)', { validate: true })], [it.text, it.text, it.text, '(func)'].map(bytesBy));
   for (const call of [() => it.compile({ validate: true }), () => wat.compile(it.text, { validate: true })]) {
     const invalid = thrownBy(call);
-    assert.deepEqual([invalid instanceof CompileError, invalid.message, invalid.offset, invalid.line, invalid.column], [true, 'instruction 0 of function 0 is not valid', 15, 1, 6]);
+    assert.deepEqual([invalid instanceof CompileError, invalid.message, invalid.offset, invalid.line, invalid.column], [true, 'type mismatch: expected an operand, found []', 15, 1, 6]);
   }
   const { compile } = Whole.prototype;
   Whole.prototype.compile = () => null;

@@ -107,6 +107,13 @@ REQUESTS = [
         "an index for each run of locals that is given",
     ),
     (
+        "wat_valid/src/messages.rt",
+        "listed",
+        'words.join(alloc, " ")',
+        "let all =",
+        "at most 33 words, the names of types",
+    ),
+    (
         "wat_module_parser/src/variables.rt",
         "value_types",
         "Vec::with_capacity(alloc, types.len())",

@@ -1,6 +1,6 @@
 -- The number of functions that fields define.
 use Rattle.std.proofs.Common.{◌≡◌, ◌<◌, ◌++◌, ◌+◌, ◌∙◌, ℕ, Bool, true, false, List, [], ◌∷◌, length, get_or, refl, sym, ap, arith, map, take, zero-add}
-use Rattle.std.specs.Prelude.{if◌then◌else◌, nat_lt, slice_get}
+use Rattle.std.specs.Prelude.{if◌then◌else◌}
 use Rattle.std.proofs.lemmas.List.{map-append, take-map, take_more}
 use Rattle.std.proofs.lemmas.Grind.{flat_map-append}
 use Rattle.wat_module_ast.specs.Views.{field_of}
@@ -8,8 +8,6 @@ use Rattle.wat_module_ast.specs.Fields.{Binding, Field, binding_of, bindings_of,
 use Rattle.wat_module_ast.specs.declared.fields.Field as declared
 use Rattle.wat_module_ast.specs.declared.fields.IndexSpace.{IndexSpace}
 use Rattle.wat_module_ast.specs.declared.fields.IndexSpace.TheVariants as space
-use Rattle.wat_modules.specs.ValidityMessages as messages
-use Rattle.wat_valid.specs.declared.code.Cause.TheVariants as cause
 use Rattle.wat_valid.specs.Modules.{function_count}
 
 names_more : (s : IndexSpace) (hs ks : List Binding) → length (names_in s (hs ++ ks)) ≡ length (names_in s hs) + length (names_in s ks)
@@ -35,7 +33,3 @@ function_counted fields f d i n m l e h k =
 -- The count of the functions before a field.
 pub counted_before : (fields before : List declared.Field) (k n : ℕ) → n ≡ function_count (map field_of before) → before ≡ take k fields → n ≡ function_count (take k (map field_of fields))
 counted_before fields before k n h e = h ∙ ap (λ fs. function_count (map field_of fs)) e ∙ ap (λ fs. function_count fs) (sym (take-map field_of k fields))
-
--- The message of the body of a function.
-pub body_told : (fs : List Field) (k at n len : ℕ) (w : List ℕ) → len ≡ messages.body_length (slice_get fs k) → n ≡ function_count (take k fs) → w ≡ messages.body_message (nat_lt at len) n at → w ≡ messages.message fs k (cause.Body at)
-body_told fs k at n len w l c h = h ∙ ap (λ m. messages.body_message (nat_lt at m) n at) l ∙ ap (λ m. messages.body_message (nat_lt at (messages.body_length (slice_get fs k))) m at) c

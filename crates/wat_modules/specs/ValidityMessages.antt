@@ -1,19 +1,20 @@
 -- The messages of modules that are not valid, in bytes, and their offsets. The standard does not define them. Each is a
 -- function of the fields of the module, the index of the first field that is not valid, and the reason.
-use Rattle.std.specs.Prelude.{ℕ, Bool, true, false, ◌++◌, nat_lt, List, [], ◌∷◌, length, take, codes, slice_get, Option, Some, None, if◌then◌else◌}
+use Rattle.std.specs.Prelude.{ℕ, Bool, true, false, ◌++◌, List, [], ◌∷◌, length, take, codes, slice_get, Option, Some, None, if◌then◌else◌}
 use Rattle.std.specs.Fmt.{decimal}
 use Rattle.wat_lex.specs.declared.lexer.kinds.Token.{Token}
 use Rattle.wat_lex.specs.errors.Errors.{Report, Custom, report_in}
 use Rattle.wat_module_ast.specs.declared.fields.IndexSpace.{IndexSpace}
 use Rattle.wat_module_ast.specs.declared.fields.IndexSpace.TheVariants as space
 use Rattle.wat_module_ast.specs.declared.instruction.Instruction.{Instruction}
-use Rattle.wat_module_ast.specs.Fields.{ElemMode, Active, ExternType, FuncType, Field, Func, Start, Target}
+use Rattle.wat_module_ast.specs.Fields.{ElemMode, Active, ExternType, FuncType, Field, Func, Global, Start, Table, Target}
 use Rattle.wat_module_ast.specs.Fields as field
 use Rattle.wat_module_ast.specs.Modules.{Module}
 use Rattle.wat_module_ast.specs.Types.{index_or_zero}
 use Rattle.wat_module_places.specs.Places.{keyword_in, place_in}
 use Rattle.wat_module_tokens.specs.Terminals.{Terminal}
 use Rattle.wat_modules.specs.Messages.{place}
+use Rattle.wat_valid.specs.BodyMessages.{body_message, reference_name, value_name}
 use Rattle.wat_valid.specs.declared.code.Cause.{Cause}
 use Rattle.wat_valid.specs.declared.code.Cause.TheVariants as cause
 use Rattle.wat_valid.specs.declared.module.Reason.{Reason}
@@ -89,34 +90,33 @@ abbrev pub index_at : Option Field → ℕ
 index_at None = 0
 index_at (Some f) = index_in f
 
--- The number of instructions of a field, if it is a function.
-abbrev pub body_length : Option Field → ℕ
-body_length (Some (Func f)) = length f.body
-body_length f = 0
-
 -- A field that violates a condition other than those on its instructions, by the index to which it refers.
 abbrev pub reason_message : Reason → ℕ → List ℕ
 reason_message reason.Limits n = codes "size out of range, or minimum above maximum"
-reason_message reason.UnknownType n = codes "unknown type " ++ decimal n
-reason_message (reason.UnknownItem s) n = codes "unknown " ++ (item s ++ (codes " " ++ decimal n))
+reason_message reason.UnknownType n = codes "unknown type `" ++ (decimal n ++ codes "`")
+reason_message (reason.UnknownItem s) n = codes "unknown " ++ (item s ++ (codes " `" ++ (decimal n ++ codes "`")))
 reason_message reason.StartType n = codes "start function with parameters or results"
-reason_message reason.ElementType n = codes "type of elements differs from that of table " ++ decimal n
+reason_message reason.ElementType n = codes "type of elements differs from that of table `" ++ (decimal n ++ codes "`")
 reason_message reason.SecondMemory n = codes "more than one memory"
 reason_message reason.DuplicateExport n = codes "duplicate export name"
 
--- The body of the function with the index `n`, which is not valid at the instruction with the index `i`, or at its end. The
--- index counts the instructions in the order of the binary, `else` and `end` among them, from 0.
-abbrev pub body_message : Bool → ℕ → ℕ → List ℕ
-body_message true n i = codes "instruction " ++ (decimal i ++ (codes " of function " ++ (decimal n ++ codes " is not valid")))
-body_message false n i = codes "type mismatch at the end of function " ++ decimal n
+-- The type of an initial value or of elements. An offset, which other fields have, has the type `i32`.
+abbrev pub constant_type : Option Field → List ℕ
+constant_type (Some (Global l names t is)) = value_name t.value
+constant_type (Some (field.Elem l m t es)) = reference_name t
+constant_type (Some (Table l names t es)) = reference_name t.element
+constant_type f = codes "i32"
+
+abbrev pub element_message : ℕ → List ℕ → List ℕ
+element_message i of = codes "element " ++ (decimal i ++ (codes " is not a constant expression of type `" ++ (of ++ codes "`")))
 
 -- The message of the field with the index `k`.
 abbrev pub message : List Field → ℕ → Cause → List ℕ
 message fs k (cause.Header r) = reason_message r (index_at (slice_get fs k))
-message fs k (cause.Body i) = body_message (nat_lt i (body_length (slice_get fs k))) (function_count (take k fs)) i
-message fs k cause.InitialValue = codes "initial value is not a constant expression of the type of the global"
-message fs k cause.Offset = codes "offset is not a constant expression of type i32"
-message fs k (cause.Element i) = codes "element " ++ (decimal i ++ codes " is not a constant expression of the type of the segment")
+message fs k (cause.Body i) = body_message fs k (function_count (take k fs)) i
+message fs k cause.InitialValue = codes "initial value is not a constant expression of type `" ++ (constant_type (slice_get fs k) ++ codes "`")
+message fs k cause.Offset = codes "offset is not a constant expression of type `i32`"
+message fs k (cause.Element i) = element_message i (constant_type (slice_get fs k))
 
 -- The error of a text with these visible tokens, which is a module that is not valid.
 abbrev pub report : {ts : List Terminal} {fs : List Field} → List ℕ → List Token → Module ts fs → ℕ → Cause → Report

@@ -1,6 +1,6 @@
 //! Validation of the modules that a text denotes, and its errors.
 ghost use Rattle.std.specs.Prelude.{◌≡◌, ◌<◌, ◌^◌, ◌∷◌, [], length, map, IfErr, IfOk, List, None, OnOk};
-ghost use Rattle.std.specs.Prelude.{if◌then◌else◌, slice_get, take, true};
+ghost use Rattle.std.specs.Prelude.{if◌then◌else◌, slice_get, string_bytes, take, true};
 ghost use Rattle.std.specs.Option.{option_map};
 ghost use Rattle.std.specs.List.{All};
 ghost use Rattle.wat_lex.specs.declared.lexer.kinds.Token.{Token};
@@ -18,7 +18,6 @@ ghost use Rattle.wat_module_tokens.specs.TokenCursor.{terminals_of};
 ghost use Rattle.wat_modules.specs.Messages as places;
 ghost use Rattle.wat_modules.specs.Validity.{RefusesFields};
 ghost use Rattle.wat_modules.specs.ValidityMessages as messages;
-ghost use Rattle.wat_modules.specs.ValidityViews.{problem_message};
 ghost use Rattle.wat_valid.specs.Modules.{ModuleIsValid, function_count};
 
 use crate::place;
@@ -33,25 +32,23 @@ use wat_module_lexer::shown_tokens;
 use wat_module_places::places::{place_in_module, place_of_field};
 use wat_module_tokens::stream::TokenCursor;
 use wat_valid::code::{Cause, Invalid};
+use wat_valid::messages::{body_message, reference_name, value_name};
 use wat_valid::module::Reason;
 use wat_valid::validity::validate;
 
-/// The reason for which a module is not valid, as its message has it.
+/// The reason for which a module is not valid, if it is not in the body of a function.
 #[derive(Clone, Copy)]
 pub(crate) enum Problem {
     /// A field violates a condition other than those on its instructions. It refers to this index.
     Header(Reason, usize),
-    /// An instruction in the body of a function is not valid: the index of the function, and that
-    /// of the instruction.
-    Instruction(usize, usize),
-    /// The body of the function with this index is not valid at its end.
-    End(usize),
-    /// The initial value of a global is not a constant expression of its type.
-    InitialValue,
+    /// The initial value of a global is not a constant expression of its type, which has this
+    /// keyword.
+    InitialValue(&'static str),
     /// The offset of a segment is not a constant expression of type `i32`.
     Offset,
-    /// The element with this index is not a constant expression of the type of its segment.
-    Element(usize),
+    /// The element with this index is not a constant expression of the type of its segment, which
+    /// has this keyword.
+    Element(usize, &'static str),
 }
 
 /// Validates a module by its fields, if `is_checked` is true. `tokens` has all tokens of the text.
@@ -104,29 +101,24 @@ fn invalid_error(
         Ok(left) => left,
         Err(refused) => return Error::from(refused),
     };
+    let message = match message_of(alloc, fields, invalid) {
+        Ok(message) => message,
+        Err(refused) => return Error::from(refused),
+    };
     match shown_tokens(alloc, text) {
-        Ok(shown) => error_at(
-            alloc,
-            text,
-            &shown.tokens,
-            left,
-            problem_of(fields, invalid),
-        ),
+        Ok(shown) => error_at(alloc, text, &shown.tokens, left, message),
         Err(error) => error,
     }
 }
 
 /// Returns the error at the first of the last `left` tokens.
-fn error_at(alloc: Global, text: &str, tokens: &[Token], left: usize, problem: Problem) -> Error
+fn error_at(alloc: Global, text: &str, tokens: &[Token], left: usize, message: String) -> Error
     requires { All (IsTokenOf text.now) tokens.now }
     ensures { IsUnlessMemory result (report_in text.now (places.place text.now tokens.now left)
-        (Custom (problem_message problem))) }
+        (Custom (string_bytes message))) }
 {
     let offset = place(text, tokens, left);
-    match format!(in alloc; "{problem}") {
-        Ok(message) => Error::parse(alloc, Span::from_offset(offset), text, message),
-        Err(refused) => Error::from(refused),
-    }
+    Error::parse(alloc, Span::from_offset(offset), text, message)
 }
 
 /// Returns the number of tokens from the position of an error on.
@@ -193,32 +185,34 @@ fn count_of(place: Option<TokenCursor<'_, '_>>) -> usize
     }
 }
 
-/// Returns the reason for which a module is not valid, as its message has it.
-fn problem_of(fields: &[fields::Field<'_>], invalid: Invalid) -> Problem
-    ensures { problem_message result ≡
-        messages.message (fields_of fields.now) invalid.field invalid.cause }
+/// Returns the message of the reason for which a module is not valid.
+fn message_of(
+    alloc: Global,
+    fields: &[fields::Field<'_>],
+    invalid: Invalid,
+) -> Result<String, AllocError>
+    ensures { IfOk result (λ text. string_bytes text ≡
+        messages.message (fields_of fields.now) invalid.field invalid.cause) }
 {
+    let field = invalid.field;
     match invalid.cause {
-        Cause::Header(reason) => Problem::Header(reason, index_at(fields, invalid.field)),
-        Cause::Body(at) => {
-            let is_inside = at < body_len(fields, invalid.field);
-            body_problem(function_index(fields, invalid.field), at, is_inside)
+        Cause::Body(at) => body_message(alloc, fields, field, function_index(fields, field), at),
+        Cause::Header(reason) => {
+            let problem = Problem::Header(reason, index_at(fields, field));
+            format!(in alloc; "{problem}")
         }
-        Cause::InitialValue => Problem::InitialValue,
-        Cause::Offset => Problem::Offset,
-        Cause::Element(at) => Problem::Element(at),
-    }
-}
-
-/// Returns the reason for which the body of the function with this index is not valid: at the
-/// instruction with the index `at`, or at its end unless `is_inside` is true.
-fn body_problem(function: usize, at: usize, is_inside: bool) -> Problem
-    ensures { problem_message result ≡ messages.body_message is_inside function at }
-{
-    if is_inside {
-        Problem::Instruction(function, at)
-    } else {
-        Problem::End(function)
+        Cause::InitialValue => {
+            let problem = Problem::InitialValue(constant_type(fields, field));
+            format!(in alloc; "{problem}")
+        }
+        Cause::Offset => {
+            let problem = Problem::Offset;
+            format!(in alloc; "{problem}")
+        }
+        Cause::Element(at) => {
+            let problem = Problem::Element(at, constant_type(fields, field));
+            format!(in alloc; "{problem}")
+        }
     }
 }
 
@@ -260,13 +254,16 @@ fn is_function(field: &fields::Field<'_>) -> bool
     }
 }
 
-/// Returns the number of instructions of a field, if it is a function, and otherwise 0.
-fn body_len(fields: &[fields::Field<'_>], field: usize) -> usize
-    ensures { result ≡ messages.body_length (slice_get (fields_of fields.now) field) }
+/// Returns the keyword of the type of the initial value or the elements of a field. That of an
+/// offset, which other fields have, is `i32`.
+fn constant_type(fields: &[fields::Field<'_>], field: usize) -> &'static str
+    ensures { result.now ≡ messages.constant_type (slice_get (fields_of fields.now) field) }
 {
     match fields.get(field) {
-        Some(fields::Field::Func(function)) => function.body.len(),
-        _ => 0,
+        Some(fields::Field::Global(global)) => value_name(global.of.value),
+        Some(fields::Field::Elem(elem)) => reference_name(elem.of),
+        Some(fields::Field::Table(table)) => reference_name(table.of.element),
+        _ => "i32",
     }
 }
 
@@ -359,20 +356,38 @@ impl fmt::Display for Problem {
                 let violation = Violated(*reason, *index);
                 write!(f, "{violation}")
             }
-            Problem::Instruction(function, at) => {
-                write!(f, "instruction {at} of function {function} is not valid")
+            Problem::InitialValue(of) => {
+                write!(
+                    f,
+                    "initial value is not a constant expression of type `{of}`"
+                )
             }
-            Problem::End(function) => write!(f, "type mismatch at the end of function {function}"),
-            Problem::InitialValue => write!(
-                f,
-                "initial value is not a constant expression of the type of the global"
-            ),
-            Problem::Offset => write!(f, "offset is not a constant expression of type i32"),
-            Problem::Element(at) => write!(
-                f,
-                "element {at} is not a constant expression of the type of the segment"
-            ),
+            Problem::Offset => write!(f, "offset is not a constant expression of type `i32`"),
+            Problem::Element(at, of) => {
+                let element = OtherElement(*at, *of);
+                write!(f, "{element}")
+            }
         }
+    }
+}
+
+/// An element that is not a constant expression, by its index and the keyword of the type of its
+/// segment.
+#[derive(Clone, Copy)]
+struct OtherElement(usize, &'static str);
+
+impl fmt::Display for OtherElement {
+    ghost use Rattle.std.specs.Prelude.{Some};
+    ghost use Rattle.wat_modules.specs.ValidityMessages.{element_message};
+
+    ghost output = { λ e. Some (element_message e.0 e.1.now) };
+
+    fn fmt<W: fmt::Write>(&self, f: &mut fmt::Formatter<W>) -> fmt::Result {
+        let OtherElement(at, of) = self;
+        write!(
+            f,
+            "element {at} is not a constant expression of type `{of}`"
+        )
     }
 }
 
@@ -390,11 +405,11 @@ impl fmt::Display for Violated {
         let Violated(reason, index) = self;
         match *reason {
             Reason::Limits => write!(f, "size out of range, or minimum above maximum"),
-            Reason::UnknownType => write!(f, "unknown type {index}"),
-            Reason::UnknownItem(space) => write!(f, "unknown {} {index}", item(space)),
+            Reason::UnknownType => write!(f, "unknown type `{index}`"),
+            Reason::UnknownItem(space) => write!(f, "unknown {} `{index}`", item(space)),
             Reason::StartType => write!(f, "start function with parameters or results"),
             Reason::ElementType => {
-                write!(f, "type of elements differs from that of table {index}")
+                write!(f, "type of elements differs from that of table `{index}`")
             }
             Reason::SecondMemory => write!(f, "more than one memory"),
             Reason::DuplicateExport => write!(f, "duplicate export name"),

@@ -30,3 +30,6 @@ pub mod FunctionConstants
 pub mod BodyChecks
 pub mod Wanting
 pub mod Situations
+pub mod LabelSteps
+pub mod Texts
+pub mod SameMessages

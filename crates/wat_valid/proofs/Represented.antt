@@ -58,7 +58,7 @@ rules_as C rs h labels o a =
     past o a (take 19 (own_rules C labels)) (drop 19 (own_rules (refer rs C) labels)) (drop 19 (own_rules C labels))
     (first_as (same_opcode o (Byte 0xD2)) (by_index (func_effect (length C.funcs) rs) a) (by_index (func_effect (length C.funcs) C.refs) a) (effect_by o a (drop 20 (own_rules C labels))) (func_as C rs h a))
 
-effect_as : (C : Context) (rs : List ℕ) → SameRefs C rs → (labels : Labels) (o : Opcode) (a : Argument) → effect_of (refer rs C) labels o a ≡ effect_of C labels o a
+pub effect_as : (C : Context) (rs : List ℕ) → SameRefs C rs → (labels : Labels) (o : Opcode) (a : Argument) → effect_of (refer rs C) labels o a ≡ effect_of C labels o a
 unfolding effect_of
 effect_as C rs h labels o a = ap (effect_of_typing C a (typing_of o)) (rules_as C rs h labels o a)
 
@@ -80,7 +80,7 @@ and_step_as : (C : Context) (rs : List ℕ) → SameRefs C rs → (fs : Option (
 and_step_as C rs h None i = refl
 and_step_as C rs h (Some fs) i = step_as C rs h fs i
 
-run_as : (C : Context) (rs : List ℕ) → SameRefs C rs → (fs : Option (List Frame)) (is : List Instruction) → run (refer rs C) fs is ≡ run C fs is
+pub run_as : (C : Context) (rs : List ℕ) → SameRefs C rs → (fs : Option (List Frame)) (is : List Instruction) → run (refer rs C) fs is ≡ run C fs is
 run_as C rs h fs [] = refl
 run_as C rs h fs (i ∷ is) = run_as C rs h (and_step (refer rs C) fs i) is ∙ ap (λ (m : Option (List Frame)). run C m is) (and_step_as C rs h fs i)
 

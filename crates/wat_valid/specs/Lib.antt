@@ -10,6 +10,8 @@ pub mod Algorithm
 pub mod Constants
 pub mod Views
 pub mod Wants
+pub mod Untyped
+pub mod BodyMessages
 pub mod FrameViews
 pub mod Law
 pub mod FirstErrors

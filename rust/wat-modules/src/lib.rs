@@ -126,7 +126,7 @@ pub fn parse_str(text: impl AsRef<str>) -> Result<Vec<u8>> {
 ///
 /// ```
 /// let error = wat_modules::parse_valid_str("(module (func (result i32)\n  i64.const 1))").unwrap_err();
-/// assert_eq!(error.message(), "type mismatch at the end of function 0");
+/// assert_eq!(error.message(), "type mismatch at the end of function 0: expected [i32], found [i64]");
 /// # wat_modules::parse_str("(module (func (result i32)\n  i64.const 1))")?;
 /// # Ok::<(), wat_modules::Error>(())
 /// ```

@@ -37,106 +37,218 @@ const INVALID: &[(&str, &str)] = &[
     // At the keyword of a segment whose offset has no instruction.
     (
         "(table 1 funcref) (func) (^elem (offset) funcref (ref.func 0))",
-        "offset is not a constant expression of type i32",
+        "offset is not a constant expression of type `i32`",
     ),
     // At an instruction.
     (
         "(^func i32.const 1)",
-        "type mismatch at the end of function 0",
+        "type mismatch at the end of function 0: expected [], found [i32]",
     ),
     (
         "(^func (result i32))",
-        "type mismatch at the end of function 0",
+        "type mismatch at the end of function 0: expected [i32], found []",
     ),
     (
         "(^func (result i32) i64.const 1)",
-        "type mismatch at the end of function 0",
+        "type mismatch at the end of function 0: expected [i32], found [i64]",
     ),
-    ("(func ^drop)", "instruction 0 of function 0 is not valid"),
+    (
+        "(func ^drop)",
+        "type mismatch: expected an operand, found []",
+    ),
     (
         "(func (drop (^i32.add (i32.const 0) (i64.const 0))))",
-        "instruction 2 of function 0 is not valid",
+        "type mismatch: expected [i32 i32], found [i32 i64]",
     ),
     (
         "(import \"m\" \"f\" (func)) (func) (func nop ^drop)",
-        "instruction 1 of function 2 is not valid",
+        "type mismatch: expected an operand, found []",
     ),
     (
         "(func (block (result i32) (nop)^) drop)",
-        "instruction 2 of function 0 is not valid",
+        "type mismatch: expected [i32], found []",
     ),
     (
         "(func (result i32) (^br 0))",
-        "instruction 0 of function 0 is not valid",
+        "type mismatch: expected [i32], found []",
     ),
-    (
-        "(func (^br 1) (br 2))",
-        "instruction 0 of function 0 is not valid",
-    ),
+    ("(func (^br 1) (br 2))", "unknown label `1`"),
     (
         "(func (if (result i32) (i32.const 0) (then (i32.const 0))^) drop)",
-        "instruction 3 of function 0 is not valid",
+        "`if` without `else` must have equal parameters and results, found [] and [i32]",
     ),
-    (
-        "(func (^local.get 0) drop)",
-        "instruction 0 of function 0 is not valid",
-    ),
+    ("(func (^local.get 0) drop)", "unknown local `0`"),
     (
         "(func (param i32) (result i32) unreachable (i64.const 0) ^i32.add)",
-        "instruction 2 of function 0 is not valid",
+        "type mismatch: expected [i32 i32], found [... i64]",
     ),
     (
         "(global i32 (i32.const 0)) (func (^global.set 0 (i32.const 1)))",
-        "instruction 1 of function 0 is not valid",
+        "global `0` is immutable",
     ),
     (
         "(func (drop (^i32.load (i32.const 0))))",
-        "instruction 1 of function 0 is not valid",
+        "unknown memory `0`",
     ),
     (
         "(memory 1) (func (drop (^i32.load align=8 (i32.const 0))))",
-        "instruction 1 of function 0 is not valid",
+        "alignment must not be larger than natural",
     ),
     (
         "(table 1 externref) (func (^call_indirect (i32.const 0)))",
-        "instruction 1 of function 0 is not valid",
+        "elements of table `0` are not functions",
     ),
     (
         "(func $f) (func (drop (^ref.func $f)))",
-        "instruction 0 of function 1 is not valid",
+        "undeclared function reference `0`",
     ),
     (
         "(func (drop (^i8x16.extract_lane_s 16 (v128.const i32x4 0 0 0 0))))",
-        "instruction 1 of function 0 is not valid",
+        "lane index out of range",
     ),
     (
         "(func (^select (ref.null func) (ref.null func) (i32.const 0)) drop)",
-        "instruction 3 of function 0 is not valid",
+        "type mismatch: expected [t t i32] with a number or vector type t, found [funcref funcref i32]",
+    ),
+    // Operands that do not match.
+    (
+        "(func (drop (i64.const 0)) ^i32.eqz drop)",
+        "type mismatch: expected [i32], found []",
+    ),
+    (
+        "(func (i64.const 0) (f32.const 0) ^i64.eqz drop)",
+        "type mismatch: expected [i64], found [... f32]",
+    ),
+    (
+        "(func (i64.const 0) (block ^drop))",
+        "type mismatch: expected an operand, found []",
+    ),
+    (
+        "(func (block (result i32) (i32.const 0) (i64.const 0)^) drop)",
+        "type mismatch: expected [i32], found [i32 i64]",
+    ),
+    (
+        "(func (param i32) local.get 0 if (result i32) ^else i32.const 0 end drop)",
+        "type mismatch: expected [i32], found []",
+    ),
+    (
+        "(func (i64.const 0) ^if end)",
+        "type mismatch: expected [i32], found [i64]",
+    ),
+    (
+        "(func (i32.const 0) ^ref.is_null drop)",
+        "type mismatch: expected a reference, found [i32]",
+    ),
+    (
+        "(func unreachable (i32.const 0) select (f32.const 0) ^i32.add drop)",
+        "type mismatch: expected [i32 i32], found [... any f32]",
+    ),
+    (
+        "(^func (param externref) (result f64) unreachable local.get 0)",
+        "type mismatch at the end of function 0: expected [f64], found [... externref]",
+    ),
+    // At most 8 types of a list, the last.
+    (
+        "(func (param i32 i64 i64 i64 i64 i64 i64 i64 v128)) (func (f32.const 0) ^call 0)",
+        "type mismatch: expected [... i64 i64 i64 i64 i64 i64 i64 v128], found [f32]",
+    ),
+    (
+        "(^func i32.const 0 i64.const 1 i64.const 2 i64.const 3 i64.const 4 i64.const 5 i64.const 6 i64.const 7 f64.const 8)",
+        "type mismatch at the end of function 0: expected [], found [... i64 i64 i64 i64 i64 i64 i64 f64]",
+    ),
+    // `br_table`.
+    (
+        "(func (block (result i32) (^br_table 0 1 (i32.const 0) (i32.const 0))) drop)",
+        "labels of `br_table` have different numbers of types",
+    ),
+    (
+        "(func (result i64) (block (result i32) (^br_table 0 1 0 (i32.const 0) (i32.const 0))) drop i64.const 0)",
+        "type mismatch: expected [i64 i32], found [i32 i32] for label 1",
+    ),
+    (
+        "(func (block (^br_table 0 1 0 (i64.const 0))))",
+        "type mismatch: expected [i32], found [i64] for label 0",
+    ),
+    (
+        "(func (result i64) (block (result i32) (^br_table 0 0 1 (i32.const 0) (i32.const 0))) drop i64.const 0)",
+        "type mismatch: expected [i64 i32], found [i32 i32] for label 1",
+    ),
+    ("(func (^br_table 0 3 4 (i32.const 0)))", "unknown label `3`"),
+    ("(func (^br_table 0 0 4 (i32.const 0)))", "unknown label `4`"),
+    // An instruction that has no type, whatever the operands are.
+    ("(func (^br_if 1 (i32.const 0)))", "unknown label `1`"),
+    ("(func ^call 9)", "unknown function `9`"),
+    ("(func ^ref.func 9 drop)", "unknown function `9`"),
+    ("(func ^local.set 7)", "unknown local `7`"),
+    (
+        "(func (param i32 i32) (local i32 f32) ^local.tee 4)",
+        "unknown local `4`",
+    ),
+    ("(func ^global.get 3)", "unknown global `3`"),
+    ("(func ^global.set 3)", "unknown global `3`"),
+    ("(func ^table.get 0)", "unknown table `0`"),
+    ("(func ^table.size 2)", "unknown table `2`"),
+    ("(func ^call_indirect)", "unknown table `0`"),
+    (
+        "(table 1 funcref) (func ^table.init 0 1)",
+        "unknown element segment `1`",
+    ),
+    ("(elem func) (func ^table.init 1 0)", "unknown table `1`"),
+    ("(func ^elem.drop 1)", "unknown element segment `1`"),
+    (
+        "(table 1 funcref) (elem externref) (func ^table.init 0 0)",
+        "types of elements differ",
+    ),
+    (
+        "(table 1 funcref) (table 1 externref) (func ^table.copy 0 1)",
+        "types of elements differ",
+    ),
+    (
+        "(table 1 funcref) (func ^table.copy 0 1)",
+        "unknown table `1`",
+    ),
+    ("(func ^table.copy 1 2)", "unknown table `1`"),
+    ("(func ^memory.size drop)", "unknown memory `0`"),
+    ("(func ^memory.copy)", "unknown memory `0`"),
+    ("(func ^memory.init 1)", "unknown memory `0`"),
+    ("(memory 1) (func ^memory.init 1)", "unknown data segment `1`"),
+    ("(func ^data.drop 1)", "unknown data segment `1`"),
+    (
+        "(func ^select (result i32 i32))",
+        "`select` must list one type",
+    ),
+    (
+        "(memory 1) (func ^v128.load8_lane 16)",
+        "alignment larger than natural, or lane index out of range",
+    ),
+    (
+        "(func (drop (^i8x16.shuffle 0 1 2 3 4 5 6 7 8 9 10 11 12 13 14 32)))",
+        "lane index out of range",
     ),
     // At a constant expression.
     (
         "(global i32 ^i64.const 0)",
-        "initial value is not a constant expression of the type of the global",
+        "initial value is not a constant expression of type `i32`",
     ),
     (
         "(^global i32)",
-        "initial value is not a constant expression of the type of the global",
+        "initial value is not a constant expression of type `i32`",
     ),
     (
         "(global i32 (i32.const 0)) (global i32 (^global.get 0))",
-        "initial value is not a constant expression of the type of the global",
+        "initial value is not a constant expression of type `i32`",
     ),
     (
         "(memory 1) (data (^i64.const 0) \"\")",
-        "offset is not a constant expression of type i32",
+        "offset is not a constant expression of type `i32`",
     ),
     (
         "(table 1 funcref) (elem (^i64.const 0) func)",
-        "offset is not a constant expression of type i32",
+        "offset is not a constant expression of type `i32`",
     ),
     (
         "(^elem funcref (ref.null func) (ref.null extern))",
-        "element 1 is not a constant expression of the type of the segment",
+        "element 1 is not a constant expression of type `funcref`",
     ),
     // At the keyword of a field.
     (
@@ -164,24 +276,24 @@ const INVALID: &[(&str, &str)] = &[
         "(^func (export \"a\") (export \"a\"))",
         "duplicate export name",
     ),
-    ("(^start 1) (func)", "unknown function 1"),
+    ("(^start 1) (func)", "unknown function `1`"),
     (
         "(func (result i32) (i32.const 0)) (^start 0)",
         "start function with parameters or results",
     ),
-    ("(^export \"a\" (table 0))", "unknown table 0"),
-    ("(^export \"a\" (memory 0))", "unknown memory 0"),
-    ("(^export \"a\" (global 3))", "unknown global 3"),
-    ("(^data (i32.const 0) \"\")", "unknown memory 0"),
-    ("(^elem (i32.const 0) func)", "unknown table 0"),
+    ("(^export \"a\" (table 0))", "unknown table `0`"),
+    ("(^export \"a\" (memory 0))", "unknown memory `0`"),
+    ("(^export \"a\" (global 3))", "unknown global `3`"),
+    ("(^data (i32.const 0) \"\")", "unknown memory `0`"),
+    ("(^elem (i32.const 0) func)", "unknown table `0`"),
     (
         "(table 1 externref) (^elem (i32.const 0) func)",
-        "type of elements differs from that of table 0",
+        "type of elements differs from that of table `0`",
     ),
     // The first field that is not valid is reported.
     (
         "(func ^drop) (memory 2 1)",
-        "instruction 0 of function 0 is not valid",
+        "type mismatch: expected an operand, found []",
     ),
     (
         "(^memory 2 1) (func drop)",
@@ -263,7 +375,7 @@ fn an_error_of_validation_precedes_those_of_annotations() {
     );
     assert_eq!(
         parse_valid_str(text).unwrap_err().message(),
-        "instruction 0 of function 0 is not valid"
+        "type mismatch: expected an operand, found []"
     );
     assert!(validate("(func) (@custom)").is_ok());
 }
@@ -281,7 +393,7 @@ fn deep_modules_are_validated() {
     let error = validate(&text).unwrap_err();
     assert_eq!(
         error.message(),
-        format!("instruction {depth} of function 0 is not valid")
+        "type mismatch: expected an operand, found []"
     );
     assert_eq!(error.span().offset(), 6 + 5 * depth + 1);
 }

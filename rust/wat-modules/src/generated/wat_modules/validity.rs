@@ -14,25 +14,23 @@ use crate::lexer::shown_tokens;
 use crate::places::places::{place_in_module, place_of_field};
 use crate::tokens::stream::TokenCursor;
 use crate::validation::code::{Cause, Invalid};
+use crate::validation::messages::{body_message, reference_name, value_name};
 use crate::validation::module::Reason;
 use crate::validation::validity::validate;
 
-/// The reason for which a module is not valid, as its message has it.
+/// The reason for which a module is not valid, if it is not in the body of a function.
 #[derive(Clone, Copy)]
 pub(crate) enum Problem {
     /// A field violates a condition other than those on its instructions. It refers to this index.
     Header(Reason, usize),
-    /// An instruction in the body of a function is not valid: the index of the function, and that
-    /// of the instruction.
-    Instruction(usize, usize),
-    /// The body of the function with this index is not valid at its end.
-    End(usize),
-    /// The initial value of a global is not a constant expression of its type.
-    InitialValue,
+    /// The initial value of a global is not a constant expression of its type, which has this
+    /// keyword.
+    InitialValue(&'static str),
     /// The offset of a segment is not a constant expression of type `i32`.
     Offset,
-    /// The element with this index is not a constant expression of the type of its segment.
-    Element(usize),
+    /// The element with this index is not a constant expression of the type of its segment, which
+    /// has this keyword.
+    Element(usize, &'static str),
 }
 
 /// Validates a module by its fields, if `is_checked` is true. `tokens` has all tokens of the text.
@@ -93,14 +91,12 @@ fn invalid_error(
         Ok(left) => left,
         Err(refused) => return Error::from(refused),
     };
+    let message = match message_of(alloc, fields, invalid) {
+        Ok(message) => message,
+        Err(refused) => return Error::from(refused),
+    };
     match shown_tokens(alloc, text) {
-        Ok(shown) => error_at(
-            alloc,
-            text,
-            &shown.tokens,
-            left,
-            problem_of(fields, invalid),
-        ),
+        Ok(shown) => error_at(alloc, text, &shown.tokens, left, message),
         Err(error) => error,
     }
 }
@@ -112,14 +108,11 @@ fn invalid_error(
 /// ```text
 /// requires { All (IsTokenOf text.now) tokens.now }
 /// ensures { IsUnlessMemory result (report_in text.now (places.place text.now tokens.now left)
-///     (Custom (problem_message problem))) }
+///     (Custom (string_bytes message))) }
 /// ```
-fn error_at(alloc: Global, text: &str, tokens: &[Token], left: usize, problem: Problem) -> Error {
+fn error_at(alloc: Global, text: &str, tokens: &[Token], left: usize, message: String) -> Error {
     let offset = place(text, tokens, left);
-    match try_format!(alloc; "{problem}") {
-        Ok(message) => Error::parse(alloc, Span::from_offset(offset), text, message),
-        Err(refused) => Error::from(refused),
-    }
+    Error::parse(alloc, Span::from_offset(offset), text, message)
 }
 
 /// Returns the number of tokens from the position of an error on.
@@ -206,40 +199,38 @@ fn count_of(place: Option<TokenCursor<'_, '_>>) -> usize {
     }
 }
 
-/// Returns the reason for which a module is not valid, as its message has it.
+/// Returns the message of the reason for which a module is not valid.
 ///
 /// # Proved
 ///
 /// ```text
-/// ensures { problem_message result ≡
-/// messages.message (fields_of fields.now) invalid.field invalid.cause }
+/// ensures { IfOk result (λ text. string_bytes text ≡
+/// messages.message (fields_of fields.now) invalid.field invalid.cause) }
 /// ```
-fn problem_of(fields: &[fields::Field<'_>], invalid: Invalid) -> Problem {
+fn message_of(
+    alloc: Global,
+    fields: &[fields::Field<'_>],
+    invalid: Invalid,
+) -> Result<String, AllocError> {
+    let field = invalid.field;
     match invalid.cause {
-        Cause::Header(reason) => Problem::Header(reason, index_at(fields, invalid.field)),
-        Cause::Body(at) => {
-            let is_inside = at < body_len(fields, invalid.field);
-            body_problem(function_index(fields, invalid.field), at, is_inside)
+        Cause::Body(at) => body_message(alloc, fields, field, function_index(fields, field), at),
+        Cause::Header(reason) => {
+            let problem = Problem::Header(reason, index_at(fields, field));
+            try_format!(alloc; "{problem}")
         }
-        Cause::InitialValue => Problem::InitialValue,
-        Cause::Offset => Problem::Offset,
-        Cause::Element(at) => Problem::Element(at),
-    }
-}
-
-/// Returns the reason for which the body of the function with this index is not valid: at the
-/// instruction with the index `at`, or at its end unless `is_inside` is true.
-///
-/// # Proved
-///
-/// ```text
-/// ensures { problem_message result ≡ messages.body_message is_inside function at }
-/// ```
-fn body_problem(function: usize, at: usize, is_inside: bool) -> Problem {
-    if is_inside {
-        Problem::Instruction(function, at)
-    } else {
-        Problem::End(function)
+        Cause::InitialValue => {
+            let problem = Problem::InitialValue(constant_type(fields, field));
+            try_format!(alloc; "{problem}")
+        }
+        Cause::Offset => {
+            let problem = Problem::Offset;
+            try_format!(alloc; "{problem}")
+        }
+        Cause::Element(at) => {
+            let problem = Problem::Element(at, constant_type(fields, field));
+            try_format!(alloc; "{problem}")
+        }
     }
 }
 
@@ -297,17 +288,20 @@ fn is_function(field: &fields::Field<'_>) -> bool {
     }
 }
 
-/// Returns the number of instructions of a field, if it is a function, and otherwise 0.
+/// Returns the keyword of the type of the initial value or the elements of a field. That of an
+/// offset, which other fields have, is `i32`.
 ///
 /// # Proved
 ///
 /// ```text
-/// ensures { result ≡ messages.body_length (slice_get (fields_of fields.now) field) }
+/// ensures { result.now ≡ messages.constant_type (slice_get (fields_of fields.now) field) }
 /// ```
-fn body_len(fields: &[fields::Field<'_>], field: usize) -> usize {
+fn constant_type(fields: &[fields::Field<'_>], field: usize) -> &'static str {
     match fields.get(field) {
-        Some(fields::Field::Func(function)) => function.body.len(),
-        _ => 0,
+        Some(fields::Field::Global(global)) => value_name(global.of.value),
+        Some(fields::Field::Elem(elem)) => reference_name(elem.of),
+        Some(fields::Field::Table(table)) => reference_name(table.of.element),
+        _ => "i32",
     }
 }
 
@@ -423,20 +417,33 @@ impl fmt::Display for Problem {
                 let violation = Violated(*reason, *index);
                 write!(f, "{violation}")
             }
-            Problem::Instruction(function, at) => {
-                write!(f, "instruction {at} of function {function} is not valid")
+            Problem::InitialValue(of) => {
+                write!(
+                    f,
+                    "initial value is not a constant expression of type `{of}`"
+                )
             }
-            Problem::End(function) => write!(f, "type mismatch at the end of function {function}"),
-            Problem::InitialValue => write!(
-                f,
-                "initial value is not a constant expression of the type of the global"
-            ),
-            Problem::Offset => write!(f, "offset is not a constant expression of type i32"),
-            Problem::Element(at) => write!(
-                f,
-                "element {at} is not a constant expression of the type of the segment"
-            ),
+            Problem::Offset => write!(f, "offset is not a constant expression of type `i32`"),
+            Problem::Element(at, of) => {
+                let element = OtherElement(*at, *of);
+                write!(f, "{element}")
+            }
         }
+    }
+}
+
+/// An element that is not a constant expression, by its index and the keyword of the type of its
+/// segment.
+#[derive(Clone, Copy)]
+struct OtherElement(usize, &'static str);
+
+impl fmt::Display for OtherElement {
+    fn fmt(&self, f: &mut fmt::Formatter<'_>) -> fmt::Result {
+        let OtherElement(at, of) = self;
+        write!(
+            f,
+            "element {at} is not a constant expression of type `{of}`"
+        )
     }
 }
 
@@ -449,11 +456,11 @@ impl fmt::Display for Violated {
         let Violated(reason, index) = self;
         match *reason {
             Reason::Limits => write!(f, "size out of range, or minimum above maximum"),
-            Reason::UnknownType => write!(f, "unknown type {index}"),
-            Reason::UnknownItem(space) => write!(f, "unknown {} {index}", item(space)),
+            Reason::UnknownType => write!(f, "unknown type `{index}`"),
+            Reason::UnknownItem(space) => write!(f, "unknown {} `{index}`", item(space)),
             Reason::StartType => write!(f, "start function with parameters or results"),
             Reason::ElementType => {
-                write!(f, "type of elements differs from that of table {index}")
+                write!(f, "type of elements differs from that of table `{index}`")
             }
             Reason::SecondMemory => write!(f, "more than one memory"),
             Reason::DuplicateExport => write!(f, "duplicate export name"),
