@@ -147,15 +147,6 @@ const INVALID: &[(&str, &str)] = &[
         "(^func (param externref) (result f64) unreachable local.get 0)",
         "type mismatch at the end of function 0: expected [f64], found [... externref]",
     ),
-    // At most 8 types of a list, the last.
-    (
-        "(func (param i32 i64 i64 i64 i64 i64 i64 i64 v128)) (func (f32.const 0) ^call 0)",
-        "type mismatch: expected [... i64 i64 i64 i64 i64 i64 i64 v128], found [f32]",
-    ),
-    (
-        "(^func i32.const 0 i64.const 1 i64.const 2 i64.const 3 i64.const 4 i64.const 5 i64.const 6 i64.const 7 f64.const 8)",
-        "type mismatch at the end of function 0: expected [], found [... i64 i64 i64 i64 i64 i64 i64 f64]",
-    ),
     // `br_table`.
     (
         "(func (block (result i32) (^br_table 0 1 (i32.const 0) (i32.const 0))) drop)",
@@ -173,8 +164,14 @@ const INVALID: &[(&str, &str)] = &[
         "(func (result i64) (block (result i32) (^br_table 0 0 1 (i32.const 0) (i32.const 0))) drop i64.const 0)",
         "type mismatch: expected [i64 i32], found [i32 i32] for label 1",
     ),
-    ("(func (^br_table 0 3 4 (i32.const 0)))", "unknown label `3`"),
-    ("(func (^br_table 0 0 4 (i32.const 0)))", "unknown label `4`"),
+    (
+        "(func (^br_table 0 3 4 (i32.const 0)))",
+        "unknown label `3`",
+    ),
+    (
+        "(func (^br_table 0 0 4 (i32.const 0)))",
+        "unknown label `4`",
+    ),
     // An instruction that has no type, whatever the operands are.
     ("(func (^br_if 1 (i32.const 0)))", "unknown label `1`"),
     ("(func ^call 9)", "unknown function `9`"),
@@ -211,7 +208,10 @@ const INVALID: &[(&str, &str)] = &[
     ("(func ^memory.size drop)", "unknown memory `0`"),
     ("(func ^memory.copy)", "unknown memory `0`"),
     ("(func ^memory.init 1)", "unknown memory `0`"),
-    ("(memory 1) (func ^memory.init 1)", "unknown data segment `1`"),
+    (
+        "(memory 1) (func ^memory.init 1)",
+        "unknown data segment `1`",
+    ),
     ("(func ^data.drop 1)", "unknown data segment `1`"),
     (
         "(func ^select (result i32 i32))",
@@ -419,5 +419,26 @@ fn options_are_independent_of_their_order() {
     assert_eq!(
         Parser::new().validate(true).compile("(module $m)").unwrap(),
         parse_str("(module $m)").unwrap()
+    );
+}
+
+#[test]
+fn lists_have_the_last_32_types() {
+    let (params, listed) = (" i64".repeat(31), "i64 ".repeat(31));
+    let call = format!("(func (param i32{params} v128)) (func (f32.const 0) call 0)");
+    assert_eq!(
+        validate(&call).unwrap_err().message(),
+        format!("type mismatch: expected [... {listed}v128], found [f32]")
+    );
+    let rest = "i64.const 1 ".repeat(31);
+    let end = format!("(func i32.const 0 {rest}f64.const 8)");
+    assert_eq!(
+        validate(&end).unwrap_err().message(),
+        format!("type mismatch at the end of function 0: expected [], found [... {listed}f64]")
+    );
+    let shorter = format!("(func {rest}f64.const 8)");
+    assert_eq!(
+        validate(&shorter).unwrap_err().message(),
+        format!("type mismatch at the end of function 0: expected [], found [{listed}f64]")
     );
 }
