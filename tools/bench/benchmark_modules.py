@@ -43,8 +43,8 @@ BOUND = 1.5
 PART = 10
 TIMES, MEMORY, INSTRUCTIONS = "modules", "memory, modules", "instructions, modules"
 VALIDATED_TIMES, VALIDATED_MEMORY, VALIDATED_INSTRUCTIONS = "validation", "memory, validation", "instructions, validation"
-# The line of the table with the commit at which instructions were counted, and that with the names of its columns.
-COUNTED = "# Instructions, in 10^6:"
+# The lines of the table with the commits at which memory was measured and instructions were counted, and that with the names of its columns.
+MEASURED, COUNTED = "# Memory, in 10^6 bytes:", "# Instructions, in 10^6:"
 COLUMNS = "# suite\ttext\tcall\tours\tother\tratio\treason if a ratio of times or instructions is below 1.5"
 WABT, ENCODER = "module, wat2wasm --no-check", "module, wast's encoder"
 # The texts that are not valid: their functions have random instructions.
@@ -234,16 +234,17 @@ def instructions_of(suite, text, jobs, less):
 def head(given, before):
     """Yields the lines with the date, the commit, the machine and the versions of the programs. Those of what is not measured are as in the table."""
     today, commit = datetime.date.today(), output("git", "rev-parse", "--short", "HEAD").strip()
+    kept = [line for line in before if line[0] == "#" and line != COLUMNS]
+    counted = [(MEASURED, given.instructions or given.times), (COUNTED, given.times)]
     if given.counts or given.instructions:
-        yield from (line for line in before if line[0] == "#" and not line.startswith((COUNTED, COLUMNS)))
+        yield from (line for line in kept if not line.startswith((MEASURED, COUNTED)))
     else:
         known = pathlib.Path("/proc/cpuinfo").read_text(encoding="utf-8").splitlines()
         model = next(line.split(": ")[1].strip() for line in known if line.startswith("model name"))
-        yield f"# Times and memory: {today}, commit {commit}, {model}, {os.cpu_count()} processors, load {os.getloadavg()[0]:.1f},"
-        yield f"# wabt {output('wat2wasm', '--version').strip()}, wast 222.0.0; {given.rounds} rounds in turn; medians; milliseconds, 10^6 bytes."
-    yield from (line for line in before if given.times and line.startswith(COUNTED))
-    if not given.times:
-        yield f"{COUNTED} {today}, commit {commit}."
+        yield f"# Times: {today}, commit {commit}, {model}, {os.cpu_count()} processors, load {os.getloadavg()[0]:.1f},"
+        yield f"# wabt {output('wat2wasm', '--version').strip()}, wast 222.0.0; {given.rounds} rounds in turn; medians; milliseconds."
+    for start, is_kept in counted:
+        yield from [line for line in kept if line.startswith(start)] if is_kept else [f"{start} {today}, commit {commit}."]
     yield COLUMNS
 
 
