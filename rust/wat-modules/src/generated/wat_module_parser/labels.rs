@@ -339,7 +339,10 @@ fn has_label(body: TokenCursor<'_, '_>) -> bool {
     let mut depth = 0;
     let mut previous = body;
     let mut left = body;
-    while let Some((token, rest)) = left.first() {
+    for step in 0..body.most() {
+        let Some((token, rest)) = left.first() else {
+            return false;
+        };
         let Some(inner) = depth_after(depth, token) else {
             return false;
         };
@@ -392,7 +395,10 @@ fn all_labels<'p, 'a>(
     let mut waiting = WaitingLabels::new(alloc);
     let mut depth = 0;
     let mut left = body;
-    while let Some((token, rest)) = left.first() {
+    for step in 0..body.most() {
+        let Some((token, rest)) = left.first() else {
+            return Ok(labels.names);
+        };
         let Some((inner, after)) = token_label(&mut labels, &mut waiting, depth, token, rest)?
         else {
             return Ok(labels.names);
