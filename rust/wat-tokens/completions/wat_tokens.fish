@@ -14,7 +14,7 @@ complete -c wat_tokens -n '__fish_seen_subcommand_from fmt' -l check -d 'List fi
 complete -c wat_tokens -n '__fish_seen_subcommand_from fmt' -l diff -d 'Write the lines that differ'
 complete -c wat_tokens -n '__fish_seen_subcommand_from fmt' -l write -d 'Rewrite the files'
 complete -c wat_tokens -n '__fish_seen_subcommand_from module types' -s o -l output -r -F -d 'Write the binary to this file'
-complete -c wat_tokens -n '__fish_seen_subcommand_from module' -l no-names -d 'Write no name section'
+complete -c wat_tokens -n '__fish_seen_subcommand_from module' -l no-names -d 'Write neither name section nor custom sections'
 complete -c wat_tokens -n '__fish_seen_subcommand_from module' -l no-validate -d 'Write modules that are not valid, too'
 complete -c wat_tokens -n '__fish_seen_subcommand_from play' -f -a 'look take comment reg= unreg= parens='
 
